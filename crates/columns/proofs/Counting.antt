@@ -1,0 +1,190 @@
+-- Laws of `many` and `first`: how many pass, and the least that passes.
+use Prim.Native.Nat.{ℕ, zero, suc, _+_, _≤_, _<_}
+use native.Mathlib.Omega.{arith}
+use native.Mathlib.Nat.{eq-or-lt-of-le}
+use native.Mathlib.Numerals.{add-one}
+use borrow.Author.Tests.{eq-eqb, ne-eqb}
+use mathlib.Core.Bool.{Bool, true, false, cond}
+use mathlib.Core.Path.{_≡_, refl, ap, sym, _∙_}
+use mathlib.Core.Logic.{⊎-elim}
+use lib.Dec.{eqb}
+use Rattle.columns.specs.Counting.{sum, many, first}
+use Rattle.columns.proofs.Bools.{cases, contra}
+use Rattle.columns.proofs.All.{top-or-below, same-or-not, lt-or-le, not-below}
+use Rattle.columns.proofs.Sums.{sum-mono, sum-cong, sum-tight, sum-add, sum-zero, sum-one}
+
+-- 1 for true
+unfoldable pub bit : Bool → ℕ
+bit t = cond t 1 0
+
+pub bit-true : (t : Bool) → t ≡ true → bit t ≡ 1
+unfolding bit
+bit-true t e = rw e
+
+pub bit-false : (t : Bool) → t ≡ false → bit t ≡ 0
+unfolding bit
+bit-false t e = rw e
+
+pub bit-imp : (s t : Bool) → (s ≡ true → t ≡ true) → bit s ≤ bit t
+bit-imp s t h = ⊎-elim (λ e. omega (arith, bit-true s e, bit-true t (h e))) (λ e. omega (arith, bit-false s e)) (cases s)
+
+pub bit-most : (s : Bool) → bit s ≤ 1
+bit-most s = ⊎-elim (λ e. omega (arith, bit-true s e)) (λ e. omega (arith, bit-false s e)) (cases s)
+
+-- ---- how many pass
+pub many-sum : (n : ℕ) (f : ℕ → Bool) → many n f ≡ sum (λ k. bit (f k)) n
+unfolding many sum bit
+many-sum zero f = refl
+many-sum (suc n) f = ap (λ (x : ℕ). x + cond (f n) 1 0) (many-sum n f)
+
+pub many-suc : (n : ℕ) (f : ℕ → Bool) → many (n + 1) f ≡ many n f + bit (f n)
+unfolding many bit
+many-suc n f = rw add-one
+
+pub many-none : (f : ℕ → Bool) → many 0 f ≡ 0
+unfolding many
+many-none f = refl
+
+pub many-mono : (n : ℕ) (f g : ℕ → Bool) → ((k : ℕ) → k < n → f k ≡ true → g k ≡ true) → many n f ≤ many n g
+many-mono n f g h =
+    omega (arith, many-sum n f, many-sum n g, sum-mono (λ k. bit (f k)) (λ k. bit (g k)) n (λ k w. bit-imp (f k) (g k) (h k w)))
+
+pub many-cong : (n : ℕ) (f g : ℕ → Bool) → ((k : ℕ) → k < n → f k ≡ g k) → many n f ≡ many n g
+many-cong n f g h = many-sum n f ∙ sum-cong (λ k. bit (f k)) (λ k. bit (g k)) n (λ k w. ap bit (h k w)) ∙ sym (many-sum n g)
+
+-- the members of one test pass the other, which counts no more: they are the same tests
+pub many-full :
+    (n : ℕ) (f g : ℕ → Bool) → ((k : ℕ) → k < n → f k ≡ true → g k ≡ true) → many n g ≤ many n f → (k : ℕ) → k < n → g k ≡ true → f k ≡ true
+many-full n f g h m k w e =
+    ⊎-elim (λ (q : f k ≡ true). q)
+    (λ (q : f k ≡ false).
+    let t = sum-tight (λ k. bit (f k)) (λ k. bit (g k)) n (λ k w. bit-imp (f k) (g k) (h k w))
+    (omega (arith, many-sum n f, many-sum n g, many-mono n f g h)) k w in
+    absurd (omega (arith, bit-false (f k) q, bit-true (g k) e)))
+    (cases (f k))
+
+-- one that passes only the second test makes the second count larger
+pub many-less : (n s : ℕ) (f g : ℕ → Bool) → ((k : ℕ) → k < n → f k ≡ true → g k ≡ true) → s < n → f s ≡ false → g s ≡ true → many n f < many n g
+many-less n s f g h w nf yg =
+    ⊎-elim (λ (l : many n f < many n g). l) (λ (m : many n g ≤ many n f). absurd (contra (many-full n f g h m s w yg) nf))
+    (lt-or-le (many n f) (many n g))
+
+pub many-add : (n : ℕ) (f g h : ℕ → Bool) → ((k : ℕ) → k < n → bit (f k) ≡ bit (g k) + bit (h k)) → many n f ≡ many n g + many n h
+many-add n f g h e =
+    omega (
+      arith,
+      many-sum n f,
+      many-sum n g,
+      many-sum n h,
+      sum-cong (λ k. bit (f k)) (λ k. bit (g k) + bit (h k)) n e,
+      sum-add (λ k. bit (g k)) (λ k. bit (h k)) n,
+    )
+
+pub record Found (n : ℕ) (f : ℕ → Bool) : Type 0 where
+  pub at : ℕ
+  pub below : at < n
+  pub passes : f at ≡ true
+
+pub many-some : (n : ℕ) (f : ℕ → Bool) → (many n f ≡ 0 → ⊥) → Found n f
+unfolding many
+many-some zero f h = absurd (h refl)
+many-some (suc n) f h = go (λ m. many-some n f m) (f n) refl
+  where
+    go : ((many n f ≡ 0 → ⊥) → Found n f) → (t : Bool) → f n ≡ t → Found (suc n) f
+    go ih true e = record { at = n; below = omega arith; passes = e }
+    go ih false e =
+        let r = ih (λ q. h (rw e (omega (arith, q)))) in
+        record { at = r .at; below = omega (arith, r .below); passes = r .passes }
+
+pub many-nothing : (n : ℕ) (f : ℕ → Bool) → ((k : ℕ) → k < n → f k ≡ false) → many n f ≡ 0
+many-nothing n f h = many-sum n f ∙ sum-cong (λ k. bit (f k)) (λ _. 0) n (λ k w. bit-false (f k) (h k w)) ∙ sum-zero n
+
+pub many-le : (n : ℕ) (f : ℕ → Bool) → many n f ≤ n
+many-le n f = omega (arith, many-sum n f, sum-one n, sum-mono (λ k. bit (f k)) (λ _. 1) n (λ k w. bit-most (f k)))
+
+-- ---- how many pass below a larger bound
+pub many-hit : (m : ℕ) (f : ℕ → Bool) → f m ≡ true → many (suc m) f ≡ suc (many m f)
+unfolding many
+many-hit m f h = rw h (omega arith)
+
+pub many-up : (m n : ℕ) (f : ℕ → Bool) → m ≤ n → many m f ≤ many n f
+unfolding many
+many-up m zero f h = rw (zero-of h) (omega arith)
+  where
+    zero-of : m ≤ 0 → m ≡ 0
+    zero-of h = omega arith
+many-up m (suc n) f h =
+    ⊎-elim (λ (e : m ≡ suc n). rw e (omega arith)) (λ (l : m < suc n). omega (arith, many-up m n f (omega arith))) (eq-or-lt-of-le h)
+
+pub many-strict : (m n : ℕ) (f : ℕ → Bool) → m < n → f m ≡ true → many m f < many n f
+many-strict m n f h e = omega (arith, many-up (suc m) n f h, many-hit m f e)
+
+-- every number below the count is the rank of one that passes
+pub record Ranked (n : ℕ) (f : ℕ → Bool) (b : ℕ) : Type 0 where
+  pub at : ℕ
+  pub below : at < n
+  pub passes : f at ≡ true
+  pub rank : many at f ≡ b
+
+pub many-onto : (n : ℕ) (f : ℕ → Bool) (b : ℕ) → b < many n f → Ranked n f b
+unfolding many
+many-onto zero f b h = absurd (omega arith)
+many-onto (suc n) f b h = go (many-onto n f b) (f n) refl h
+  where
+    up : Ranked n f b → Ranked (suc n) f b
+    up r = record { at = r .at; below = omega (arith, r .below); passes = r .passes; rank = r .rank }
+
+    go : (b < many n f → Ranked n f b) → (t : Bool) → f n ≡ t → b < many n f + cond t 1 0 → Ranked (suc n) f b
+    go ih true e h =
+        ⊎-elim (λ (q : b ≡ many n f). record { at = n; below = omega arith; passes = e; rank = sym q }) (λ (l : b < many n f). up (ih l))
+        (top-or-below (omega (arith, h)))
+    go ih false e h = up (ih (omega (arith, h)))
+
+-- ---- the least that passes
+pub record First (n : ℕ) (f : ℕ → Bool) (m : ℕ) : Type 0 where
+  pub bound : m ≤ n
+  pub before : (k : ℕ) → k < m → f k ≡ false
+  pub hit : m < n → f m ≡ true
+
+pub first-law : (n : ℕ) (f : ℕ → Bool) → First n f (first n f)
+unfolding first
+first-law zero f = record { bound = omega arith; before = λ k h. absurd (omega arith); hit = λ h. absurd (omega arith) }
+first-law (suc n) f = go (first n f) (first-law n f) (f (first n f)) refl
+  where
+    go : (m : ℕ) → First n f m → (t : Bool) → f m ≡ t → First (suc n) f (cond t m (suc m))
+    go m r true e = record { bound = omega (arith, r .bound); before = r .before; hit = λ h. e }
+    go m r false e =
+        record {
+          bound = omega (arith, r .bound);
+          before = λ k h. ⊎-elim (λ (q : k ≡ m). ap f q ∙ e) (λ (w : k < m). r .before k w) (top-or-below h);
+          hit = λ h. absurd (contra (r .hit (omega arith)) e);
+        }
+
+-- one that passes is not before the first
+pub first-min : (n : ℕ) (f : ℕ → Bool) (k : ℕ) → f k ≡ true → first n f ≤ k
+first-min n f k h = not-below (λ l. contra h (first-law n f .before k l))
+
+pub first-cong : (n : ℕ) (f g : ℕ → Bool) → ((k : ℕ) → k < n → f k ≡ g k) → first n f ≡ first n g
+unfolding first
+first-cong zero f g e = refl
+first-cong (suc n) f g e =
+    let ih : first n f ≡ first n g = first-cong n f g (λ k h. e k (omega arith)) in
+    let b : first n g ≤ n = first-law n g .bound in
+    rw (ih, e (first n g) (omega arith))
+
+-- ---- one of many picked out
+unpicked : (a n : ℕ) (f : ℕ → ℕ) → n ≤ a → sum (λ k. cond (eqb a k) (f k) 0) n ≡ 0
+unfolding sum
+unpicked a zero f h = refl
+unpicked a (suc n) f h = rw (unpicked a n f (omega arith), ne-eqb a n (λ e. omega arith))
+
+pub sum-pick : (a n : ℕ) (f : ℕ → ℕ) → a < n → sum (λ k. cond (eqb a k) (f k) 0) n ≡ f a
+unfolding sum
+sum-pick a zero f h = absurd (omega arith)
+sum-pick a (suc n) f h =
+    ⊎-elim (λ (e : a ≡ n). rw (unpicked a n f (omega arith), eq-eqb a n e, e) (omega arith))
+    (λ (w : a < n). rw (sum-pick a n f w, ne-eqb a n (λ e. omega arith)) (omega arith)) (top-or-below h)
+
+pub eqb-same : (a b c d : ℕ) → (a ≡ b → c ≡ d) → (c ≡ d → a ≡ b) → eqb a b ≡ eqb c d
+eqb-same a b c d h g =
+    ⊎-elim (λ (e : a ≡ b). eq-eqb a b e ∙ sym (eq-eqb c d (h e))) (λ (m : a ≡ b → ⊥). ne-eqb a b m ∙ sym (ne-eqb c d (λ e. m (g e)))) (same-or-not a b)

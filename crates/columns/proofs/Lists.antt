@@ -1,0 +1,143 @@
+-- Lists that a counting loop writes from the front. Assumes nothing.
+use mathlib.Core.Path.{_≡_, refl, sym, ap, _∙_}
+use mathlib.Core.Logic.{⊎-elim}
+use mathlib.Core.List.{List, [], _∷_, _++_, map, map-append, append-nil}
+use Prim.Native.Nat.{ℕ, zero, suc, _+_, _-_, _≤_, _<_}
+use native.Mathlib.Nat.{not-suc-le-zero, le-of-suc-le-suc}
+use native.Mathlib.Numerals.{add-one}
+use native.Mathlib.Omega.{arith}
+use lib.ListN.{length, length-set, getD, set, take, drop, replicate, length-replicate, length-append, length-drop, drop-of-length-le, replicate-append-replicate, List·getD-append}
+use lib.Seq.{drop-cons, take-suc, set-at, append-snoc, take-length, take-at, drop-at, length-take-le, getD-at, getD-append-add, getD-drop}
+use Rattle.columns.specs.Columns.{listed, over, written, zeros, wiped, cell}
+use Rattle.columns.proofs.All.{top-or-below}
+
+pub length-listed : {A : Type 0} (n : ℕ) (f : ℕ → A) → length (listed n f) ≡ n
+unfolding listed
+length-listed zero f = refl
+length-listed (suc n) f = length-append (listed n f) (f n ∷ []) ∙ omega (arith, length-listed n f)
+
+-- ---- n cells written: `listed n f ++ drop n l`
+pub paint-none : (f : ℕ → ℕ) (l : List ℕ) → l ≡ listed 0 f ++ drop 0 l
+unfolding listed
+paint-none f l = refl
+
+pub paint-more : (f : ℕ → ℕ) (n : ℕ) (l x : List ℕ) → n < length l → x ≡ listed n f ++ drop n l → set x n (f n) ≡ listed (n + 1) f ++ drop (n + 1) l
+unfolding listed
+paint-more f n l x h e =
+    rw (add-one, e, drop-cons l n 0 h, set-at (listed n f) (getD l n 0) (drop (suc n) l) (f n) n (length-listed n f)) (sym (append-snoc (listed n f) (f n) (drop (suc n) l)))
+
+-- the loop's invariant: i of n cells are written
+abbrev pub Painted : (ℕ → ℕ) → ℕ → List ℕ → ℕ → List ℕ → Type 0
+Painted f n l i x = (i ≤ n) × ((x ≡ listed i f ++ drop i l) × (length x ≡ length l))
+
+pub painted-none : (f : ℕ → ℕ) (n : ℕ) (l : List ℕ) → Painted f n l 0 l
+painted-none f n l = (omega arith, (paint-none f l, refl))
+
+pub painted-more : (f : ℕ → ℕ) (n : ℕ) (l : List ℕ) (i : ℕ) (x : List ℕ) (v : ℕ) → n ≤ length l → i < n → v ≡ f i → Painted f n l i x → Painted f n l (i + 1) (set x i v)
+painted-more f n l i x v h w e p =
+    (omega arith, (ap (set x i) e ∙ paint-more f i l x (omega arith) (p .1 .0), length-set x i v ∙ p .1 .1))
+
+pub painted-done : (f : ℕ → ℕ) (n : ℕ) (l : List ℕ) (i : ℕ) (x m : List ℕ) → Painted f n l i x → n ≤ i → listed n f ≡ m → x ≡ over m l
+unfolding over
+painted-done f n l i x m p q h =
+    let e : i ≡ n = omega arith in
+    p .1 .0 ∙ ap (λ (k : ℕ). listed k f ++ drop k l) e ∙ ap (λ (k : ℕ). listed n f ++ drop k l) (sym (length-listed n f)) ∙ ap (λ (t : List ℕ). t ++ drop (length t) l) h
+
+pub over-all : (m l : List ℕ) → length m ≡ length l → over m l ≡ m
+unfolding over
+over-all m l e = rw (drop-of-length-le l {i = length m} (omega arith)) (append-nil m)
+
+pub length-over : (m l : List ℕ) → length m ≤ length l → length (over m l) ≡ length l
+unfolding over
+length-over m l h = length-append m (drop (length m) l) ∙ omega (arith, length-drop (length m) l)
+
+pub take-over : (m l : List ℕ) → take (length m) (over m l) ≡ m
+unfolding over
+take-over m l = lib.Seq.take-append-seam m (drop (length m) l)
+
+pub drop-over : (m l : List ℕ) → drop (length m) (over m l) ≡ drop (length m) l
+unfolding over
+drop-over m l = lib.Seq.drop-append-seam m (drop (length m) l)
+
+-- the first h cells of one list over another
+module _ (h : ℕ) (m l x : List ℕ) (fits : h ≤ length m) (e : x ≡ over (take h m) l) where
+  pub front-taken : take h x ≡ take h m
+  unfolding over
+  front-taken = ap (take h) e ∙ take-at (take h m) (drop (length (take h m)) l) h (length-take-le h m fits)
+
+  pub back-kept : drop h x ≡ drop h l
+  unfolding over
+  back-kept = ap (drop h) e ∙ drop-at (take h m) (drop (length (take h m)) l) h (length-take-le h m fits) ∙ ap (λ (n : ℕ). drop n l) (length-take-le h m fits)
+
+-- the first h cells of x cleared, where the others are those of l
+pub wiped-front : (h : ℕ) (l x z : List ℕ) → h ≤ length x → z ≡ zeros (length (take h x)) → drop h x ≡ drop h l → z ++ drop h x ≡ wiped h l
+unfolding wiped over
+wiped-front h l x z w e k = rw (e, k, length-take-le h x w, length-replicate {A = ℕ} h 0)
+
+-- zeros stay zeros
+pub wiped-zeros : (h n : ℕ) → h ≤ n → wiped h (zeros n) ≡ zeros n
+unfolding wiped over
+wiped-zeros h n w =
+    let q : n ≡ h + (n - h) = omega arith in
+    let r : zeros n ≡ zeros h ++ zeros (n - h) = ap zeros q ∙ sym (replicate-append-replicate h (n - h) 0) in
+    let d : drop h (zeros n) ≡ zeros (n - h) = ap (drop h) r ∙ drop-at (zeros h) (zeros (n - h)) h (length-replicate {A = ℕ} h 0) in
+    rw (length-replicate {A = ℕ} h 0, d) (sym r)
+
+-- ---- what is listed
+pub listed-const : (n v : ℕ) → listed n (λ _. v) ≡ replicate n v
+unfolding listed
+listed-const zero v = refl
+listed-const (suc n) v = ap (λ (t : List ℕ). t ++ (v ∷ [])) (listed-const n v) ∙ replicate-append-replicate n 1 v ∙ ap (λ (k : ℕ). replicate k v) (add-one n)
+
+pub map-listed : {A B : Type 0} (f : A → B) (n : ℕ) (g : ℕ → A) → map f (listed n g) ≡ listed n (λ k. f (g k))
+unfolding listed
+map-listed f zero g = refl
+map-listed f (suc n) g = map-append f (listed n g) (g n ∷ []) ∙ ap (λ t. t ++ (f (g n) ∷ [])) (map-listed f n g)
+
+listed-take : (n : ℕ) (l : List ℕ) → n ≤ length l → listed n (λ k. getD l k 0) ≡ take n l
+unfolding listed
+listed-take zero l h = refl
+listed-take (suc n) l h = ap (λ (t : List ℕ). t ++ (getD l n 0 ∷ [])) (listed-take n l (omega arith)) ∙ sym (take-suc l n 0 h)
+
+pub listed-cells : (l : List ℕ) → listed (length l) (λ k. getD l k 0) ≡ l
+listed-cells l = listed-take (length l) l (omega arith) ∙ take-length l
+
+pub listed-map : (f : ℕ → ℕ) (l : List ℕ) → listed (length l) (λ k. f (getD l k 0)) ≡ map f l
+listed-map f l = sym (map-listed f (length l) (λ k. getD l k 0)) ∙ ap (map f) (listed-cells l)
+
+-- ---- cells
+pub getD-any : (l : List ℕ) (i d e : ℕ) → i < length l → getD l i d ≡ getD l i e
+getD-any [] i d e h = absurd (not-suc-le-zero h)
+getD-any (x ∷ l) zero d e h = refl
+getD-any (x ∷ l) (suc i) d e h = getD-any l i d e (le-of-suc-le-suc h)
+
+-- ---- cells of what is listed and of what is written
+pub listed-at : (n : ℕ) (f : ℕ → ℕ) (i : ℕ) → i < n → getD (listed n f) i 0 ≡ f i
+unfolding listed
+listed-at zero f i h = absurd (not-suc-le-zero h)
+listed-at (suc n) f i h =
+    ⊎-elim (λ (e : i ≡ n). rw e (getD-at (listed n f) (f n) [] 0 n (length-listed n f)))
+    (λ (l : i < n). List·getD-append (listed n f) (f n ∷ []) 0 i (rw (length-listed n f) l) ∙ listed-at n f i l) (top-or-below h)
+
+module _ (n : ℕ) (f : ℕ → ℕ) (l : List ℕ) where
+  pub length-written : n ≤ length l → length (written n f l) ≡ length l
+  unfolding written
+  length-written h = length-over (listed n f) l (omega (arith, length-listed n f))
+
+  pub written-at : (k : ℕ) → k < n → getD (written n f l) k 0 ≡ f k
+  unfolding written over
+  written-at k w = List·getD-append (listed n f) (drop (length (listed n f)) l) 0 k (rw (length-listed n f) w) ∙ listed-at n f k w
+
+  pub written-after : (k : ℕ) → n ≤ k → getD (written n f l) k 0 ≡ getD l k 0
+  unfolding written over
+  written-after k w =
+      let q : k ≡ length (listed n f) + (k - n) = omega (arith, length-listed n f) in
+      ap (λ (x : ℕ). getD (listed n f ++ drop (length (listed n f)) l) x 0) q
+      ∙ getD-append-add (listed n f) (drop (length (listed n f)) l) (k - n) 0
+      ∙ getD-drop (length (listed n f)) l (k - n) 0
+      ∙ ap (λ (x : ℕ). getD l x 0) (sym q)
+
+  -- the front of a column lent and come back as what is listed
+  pub front-written : (x : List ℕ) → n ≤ length l → x ≡ listed (length (take n l)) f → x ++ drop n l ≡ written n f l
+  unfolding written over
+  front-written x h e = rw (e, length-take-le n l h, length-listed n f)

@@ -1,0 +1,39 @@
+-- Laws of `swapped`: two cells of a column exchanged.
+use Prim.Native.Nat.{ℕ, _<_}
+use mathlib.Core.Path.{_≡_, ap, _∙_}
+use mathlib.Core.Logic.{⊎-elim}
+use mathlib.Core.List.{List}
+use lib.ListN.{length, getD, set, length-set}
+use lib.Seq.{getD-set-same, getD-set-other}
+use Rattle.columns.specs.Columns.{swapped}
+use Rattle.columns.proofs.All.{same-or-not}
+
+-- a cell after two stores, the later one at j
+module _ (l : List ℕ) (i j x y : ℕ) where
+  pub two-last : j < length l → getD (set (set l i x) j y) j 0 ≡ y
+  two-last h = getD-set-same (set l i x) j y 0 (simp length-set h)
+
+  pub two-first : i < length l → (i ≡ j → ⊥) → getD (set (set l i x) j y) i 0 ≡ x
+  two-first h n = getD-set-other (set l i x) j i y 0 n ∙ getD-set-same l i x 0 h
+
+  pub two-other : (k : ℕ) → (k ≡ i → ⊥) → (k ≡ j → ⊥) → getD (set (set l i x) j y) k 0 ≡ getD l k 0
+  two-other k n m = getD-set-other (set l i x) j k y 0 m ∙ getD-set-other l i k x 0 n
+
+pub length-swapped : (i j : ℕ) (e : List ℕ) → length (swapped i j e) ≡ length e
+unfolding swapped
+length-swapped i j e = simp length-set
+
+module _ (e : List ℕ) (i j : ℕ) (hi : i < length e) (hj : j < length e) where
+  pub swapped-j : getD (swapped i j e) j 0 ≡ getD e i 0
+  unfolding swapped
+  swapped-j = two-last e i j _ _ hj
+
+  pub swapped-i : getD (swapped i j e) i 0 ≡ getD e j 0
+  unfolding swapped
+  swapped-i =
+      ⊎-elim (λ (q : i ≡ j). ap (λ (k : ℕ). getD (swapped i j e) k 0) q ∙ two-last e i j _ _ hj ∙ ap (λ (k : ℕ). getD e k 0) q) (λ (n : i ≡ j → ⊥). two-first e i j _ _ hi n)
+      (same-or-not i j)
+
+  pub swapped-other : (k : ℕ) → (k ≡ i → ⊥) → (k ≡ j → ⊥) → getD (swapped i j e) k 0 ≡ getD e k 0
+  unfolding swapped
+  swapped-other k n m = two-other e i j _ _ k n m

@@ -1,0 +1,52 @@
+-- Columns of numbers as lists.
+use mathlib.Core.Bool.{Bool}
+use mathlib.Core.List.{List, [], _∷_, _++_}
+use Prim.Native.Nat.{ℕ, zero, suc}
+use lib.ListN.{length, getD, set, drop, replicate}
+use Rattle.columns.specs.Sets.{Row, rowLt}
+use Rattle.columns.specs.Sort.{sort}
+
+-- f 0, f 1, .., f (n - 1)
+unfoldable pub listed : {A : Type 0} → ℕ → (ℕ → A) → List A
+listed zero f = []
+listed (suc n) f = listed n f ++ (f n ∷ [])
+
+-- a list written over the front of another
+unfoldable pub over : {A : Type 0} → List A → List A → List A
+over l m = l ++ drop (length l) m
+
+-- the first n cells are f's values, the others as they were
+unfoldable pub written : ℕ → (ℕ → ℕ) → List ℕ → List ℕ
+unfolding over listed
+written n f l = over (listed n f) l
+
+abbrev pub zeros : ℕ → List ℕ
+zeros n = replicate n 0
+
+-- the first n cells made zero
+unfoldable pub wiped : ℕ → List ℕ → List ℕ
+unfolding over
+wiped n l = over (zeros n) l
+
+-- the cells i and j exchanged
+unfoldable pub swapped : ℕ → ℕ → List ℕ → List ℕ
+swapped i j l = set (set l i (getD l j 0)) j (getD l i 0)
+
+-- the cell of a column that a number names; a column that is too short for it gives the number itself
+unfoldable pub cell : List ℕ → ℕ → ℕ
+cell a i = getD a i i
+
+-- what a number is sorted by
+unfoldable pub keyOf : List ℕ → List ℕ → List ℕ → ℕ → Row
+unfolding cell
+keyOf a b c i = (cell a i, (cell b i, cell c i))
+
+-- whether number i comes before number j
+unfoldable pub before : List ℕ → List ℕ → List ℕ → ℕ → ℕ → Bool
+unfolding rowLt keyOf
+before a b c i j = rowLt (keyOf a b c i) (keyOf a b c j)
+
+-- numbers in the order of their cells, and as they came where these are equal
+unfoldable pub sortBy : List ℕ → List ℕ → List ℕ → List ℕ → List ℕ
+unfolding sort rowLt keyOf
+sortBy a b c l = sort rowLt (keyOf a b c) l

@@ -1,0 +1,25 @@
+-- Counting, adding up and storing over the numbers below a bound.
+use Prim.Native.Nat.{ℕ, zero, suc, _+_}
+use mathlib.Core.Bool.{Bool, cond}
+use mathlib.Core.List.{List}
+use lib.ListN.{set}
+
+-- f 0 + f 1 + .. + f (n - 1)
+unfoldable pub sum : (ℕ → ℕ) → ℕ → ℕ
+sum f zero = 0
+sum f (suc n) = sum f n + f n
+
+-- how many numbers below n pass
+unfoldable pub many : ℕ → (ℕ → Bool) → ℕ
+many zero f = 0
+many (suc n) f = many n f + cond (f n) 1 0
+
+-- the least number below n that passes, and n if none does
+unfoldable pub first : ℕ → (ℕ → Bool) → ℕ
+first zero f = zero
+first (suc n) f = let m = first n f in cond (f m) m (suc m)
+
+-- for each s below n that passes, from 0 up, cell i s becomes v s
+unfoldable pub stores : (ℕ → Bool) → (ℕ → ℕ) → (ℕ → ℕ) → ℕ → List ℕ → List ℕ
+stores f i v zero l = l
+stores f i v (suc n) l = cond (f n) (set (stores f i v n l) (i n) (v n)) (stores f i v n l)

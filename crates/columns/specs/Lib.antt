@@ -1,0 +1,9 @@
+pub mod Answers
+pub mod Tests
+pub mod Counting
+pub mod Columns
+pub mod Inverse
+pub mod Sets
+pub mod Sort
+pub mod Rows
+pub mod Number

@@ -1,0 +1,110 @@
+// Rows in three columns as a set: ascending, none twice.
+ghost use mathlib.Core.Path.{_≡_};
+ghost use mathlib.Core.List.{map};
+ghost use Prim.Native.Nat.{_+_, _*_, _/_, _≤_};
+ghost use lib.ListN.{length};
+ghost use Rattle.columns.specs.Columns.{over, wiped, cell};
+ghost use Rattle.columns.specs.Rows.{firstsBy, pickRows, picked, rowSet, firstOf, secondOf, thirdOf};
+use crate::cells::cell_of;
+use crate::cells::clear;
+use crate::cells::count_up;
+use crate::sorting::comes_before;
+use crate::sorting::sort;
+
+// The cells that the numbers of `order` name, over the first ones of `to`.
+pub fn gather(to: &mut [u16], order: &[u16], a: &[u16])
+    requires { ⌜ length (now order) ≤ length (now to) ⌝ }
+    ensures { λ _. ⌜ now (to .exit) ≡ over (map (cell (now (a .entry))) (now (order .entry))) (now (to .entry)) ⌝ }
+{
+    let mut i = 0;
+    while i < order.len() {
+        to[i] = cell_of(a, order[i]);
+        i += 1;
+    }
+}
+
+// Of sorted numbers one for each row, over the first ones. Returns how many.
+pub fn distinct(order: &mut [u16], a: &[u16], b: &[u16], c: &[u16]) -> usize
+    ensures { λ r. ⌜ r ≡ length (firstsBy (now (a .entry)) (now (b .entry)) (now (c .entry)) (now (order .entry))) ⌝ }
+    ensures { λ _. ⌜ now (order .exit) ≡ over (firstsBy (now (a .entry)) (now (b .entry)) (now (c .entry)) (now (order .entry))) (now (order .entry)) ⌝ }
+{
+    if order.len() == 0 {
+        return 0;
+    }
+    let mut last = order[0];
+    let mut r = 1;
+    let mut i = 1;
+    while i < order.len() {
+        let x = order[i];
+        if comes_before(a, b, c, last, x) {
+            order[r] = x;
+            last = x;
+            r += 1;
+            i += 1;
+        } else {
+            i += 1;
+        }
+    }
+    r
+}
+
+// Numbers of the first rows of a, b and c, as many as `order` has cells: one for each row, in the order of the rows, over
+// the first cells of `order`. Returns how many.
+pub fn pick_rows(order: &mut [u16], spare: &mut [u16], a: &[u16], b: &[u16], c: &[u16]) -> usize
+    requires { ⌜ (length (now order) ≤ 65536) × (length (now order) ≤ 2 * length (now spare) + 1) ⌝ }
+    ensures { λ r. ⌜ r ≡ length (pickRows (length (now (order .entry))) (now (a .entry)) (now (b .entry)) (now (c .entry))) ⌝ }
+    ensures { λ _. ⌜ now (order .exit) ≡ picked (length (now (order .entry))) (now (a .entry)) (now (b .entry)) (now (c .entry)) ⌝ }
+    ensures { λ _. ⌜ now (spare .exit) ≡ wiped (length (now (order .entry)) / 2) (now (spare .entry)) ⌝ }
+{
+    count_up(&mut *order);
+    sort(&mut *order, spare, a, b, c);
+    distinct(&mut *order, a, b, c)
+}
+
+// The rows that the numbers of `order` name, over the first cells of x, y and z.
+pub fn write_rows(
+    x: &mut [u16],
+    y: &mut [u16],
+    z: &mut [u16],
+    order: &[u16],
+    a: &[u16],
+    b: &[u16],
+    c: &[u16],
+)
+    requires { ⌜ (length (now order) ≤ length (now x)) × (length (now order) ≤ length (now y)) × (length (now order) ≤ length (now z)) ⌝ }
+    ensures { λ _. ⌜ now (x .exit) ≡ over (map (cell (now (a .entry))) (now (order .entry))) (now (x .entry)) ⌝ }
+    ensures { λ _. ⌜ now (y .exit) ≡ over (map (cell (now (b .entry))) (now (order .entry))) (now (y .entry)) ⌝ }
+    ensures { λ _. ⌜ now (z .exit) ≡ over (map (cell (now (c .entry))) (now (order .entry))) (now (z .entry)) ⌝ }
+{
+    gather(x, order, a);
+    gather(y, order, b);
+    gather(z, order, c);
+}
+
+// The first m rows of a, b and c as a set: ascending, none twice, over the first cells of x, y and z. Returns how many.
+// The cells of `order` and `spare` that are used are zero then.
+pub fn row_set(
+    x: &mut [u16],
+    y: &mut [u16],
+    z: &mut [u16],
+    m: usize,
+    a: &[u16],
+    b: &[u16],
+    c: &[u16],
+    order: &mut [u16],
+    spare: &mut [u16],
+) -> usize
+    requires { ⌜ (m ≤ length (now a)) × (m ≤ length (now b)) × (m ≤ length (now c)) ⌝ }
+    requires { ⌜ (m ≤ length (now x)) × (m ≤ length (now y)) × (m ≤ length (now z)) ⌝ }
+    requires { ⌜ (m ≤ length (now order)) × (m ≤ 2 * length (now spare) + 1) × (m ≤ 65536) ⌝ }
+    ensures { λ r. ⌜ r ≡ length (rowSet m (now (a .entry)) (now (b .entry)) (now (c .entry))) ⌝ }
+    ensures { λ _. ⌜ now (x .exit) ≡ over (firstOf (rowSet m (now (a .entry)) (now (b .entry)) (now (c .entry)))) (now (x .entry)) ⌝ }
+    ensures { λ _. ⌜ now (y .exit) ≡ over (secondOf (rowSet m (now (a .entry)) (now (b .entry)) (now (c .entry)))) (now (y .entry)) ⌝ }
+    ensures { λ _. ⌜ now (z .exit) ≡ over (thirdOf (rowSet m (now (a .entry)) (now (b .entry)) (now (c .entry)))) (now (z .entry)) ⌝ }
+    ensures { λ _. ⌜ (now (order .exit) ≡ wiped m (now (order .entry))) × (now (spare .exit) ≡ wiped (m / 2) (now (spare .entry))) ⌝ }
+{
+    let r = pick_rows(&mut order[..m], spare, a, b, c);
+    write_rows(x, y, z, &order[..r], a, b, c);
+    clear(&mut order[..m]);
+    r
+}

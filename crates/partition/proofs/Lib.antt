@@ -1,0 +1,13 @@
+pub mod Lengths
+pub mod Holds
+pub mod Refusals
+pub mod Owned
+pub mod Whole
+pub mod Marks
+pub mod Keeps
+pub mod Renumbering
+pub mod SwapLaws
+pub mod SwapKeeps
+pub mod Freshness
+pub mod Stretches
+pub mod Sayings

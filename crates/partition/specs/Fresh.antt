@@ -1,0 +1,42 @@
+-- What `BlockPartition::new` says and leaves: one block 0 of all states, order 0..n-1, all marked.
+use Prim.Native.Nat.{ℕ}
+use mathlib.Core.List.{List, [], _∷_}
+use lib.ListN.{set}
+use Rattle.columns.specs.declared.answers.Refusal.{Refusal}
+use Rattle.columns.specs.Answers.{Said, done, refused, refusal, none, unless, leaving}
+use Rattle.columns.specs.Columns.{written, wiped}
+use Rattle.partition.specs.Partition.{Partition, longb}
+use Rattle.partition.specs.Checks.{sizeb}
+use Rattle.partition.specs.declared.PartitionAnswer.{PartitionAnswer}
+use Rattle.partition.specs.declared.PartitionOutcome.{PartitionOutcome}
+use Rattle.partition.specs.declared.PartitionOutcome.the-variants as P
+
+abbrev pub saidPartitionOutcome : PartitionOutcome → Said
+saidPartitionOutcome (P.Done p) = done (p .n ∷ p .count ∷ [])
+saidPartitionOutcome (P.Refused r) = refused (r .number) (r .place)
+
+abbrev pub saidPartition : PartitionAnswer → Said
+saidPartition a = saidPartitionOutcome (a .outcome)
+
+unfoldable pub fresh : Partition → Partition
+unfolding written wiped
+fresh p =
+    record {
+      elements = written (p .n) (λ k. k) (p .elements);
+      element-offset = written (p .n) (λ k. k) (p .element-offset);
+      element-to-block = wiped (p .n) (p .element-to-block);
+      begin = set (p .begin) 0 0;
+      marked-split = set (p .marked-split) 0 0;
+      end = set (p .end) 0 (p .n);
+      n = p .n;
+      count = p .count;
+    }
+
+-- 1, 7
+unfoldable pub newRefusal : Partition → Refusal
+unfolding sizeb longb
+newRefusal p = unless (sizeb (p .n)) (refusal 1 0) (unless (longb p) (refusal 7 0) none)
+
+unfoldable pub newPartition : Partition → Said × Partition
+unfolding leaving newRefusal fresh
+newPartition p = leaving (newRefusal p) p (p .n ∷ 1 ∷ []) (fresh p)

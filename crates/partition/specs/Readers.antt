@@ -1,0 +1,46 @@
+-- What the calls say that read a partition and change nothing.
+use Prim.Native.Nat.{ℕ, _-_}
+use mathlib.Core.Bool.{Bool, not, cond}
+use mathlib.Core.List.{List, [], _∷_}
+use lib.ListN.{getD, take, drop}
+use lib.Dec.{ltb, eqb}
+use Rattle.columns.specs.Answers.{Said, bit, answering}
+use Rattle.partition.specs.Partition.{Partition}
+use Rattle.partition.specs.Checks.{partitionRefusal, stateRefusal, blockRefusal}
+
+unfoldable pub numOfBlocks : Partition → Said
+unfolding answering partitionRefusal
+numOfBlocks p = answering (partitionRefusal p) (p .count ∷ [])
+
+unfoldable pub lenOf : Partition → Said
+unfolding answering partitionRefusal
+lenOf p = answering (partitionRefusal p) (p .n ∷ [])
+
+unfoldable pub blockNumber : Partition → ℕ → Said
+unfolding answering stateRefusal
+blockNumber p s = answering (stateRefusal p s) (getD (p .element-to-block) s 0 ∷ [])
+
+-- state s stands before its block's marked_split
+unfoldable pub unmarkedb : Partition → ℕ → Bool
+unmarkedb p s = ltb (getD (p .element-offset) s 0) (getD (p .marked-split) (getD (p .element-to-block) s 0) 0)
+
+unfoldable pub isElementMarked : Partition → ℕ → Said
+unfolding answering stateRefusal unmarkedb
+isElementMarked p s = answering (stateRefusal p s) (bit (not (unmarkedb p s)) ∷ [])
+
+unfoldable pub readBlock : Partition → ℕ → Said
+unfolding answering blockRefusal
+readBlock p b = answering (blockRefusal p b) (getD (p .begin) b 0 ∷ getD (p .marked-split) b 0 ∷ getD (p .end) b 0 ∷ [])
+
+-- the states of block b, in their order
+unfoldable pub stretch : Partition → ℕ → List ℕ
+stretch p b = take (getD (p .end) b 0 - getD (p .begin) b 0) (drop (getD (p .begin) b 0) (p .elements))
+
+-- the block's stretch, and the empty part where the call is refused
+unfoldable pub iterBlock : Partition → ℕ → List ℕ
+unfolding stretch blockRefusal
+iterBlock p b = cond (eqb (blockRefusal p b .number) 0) (stretch p b) []
+
+unfoldable pub iterBlockRefusal : Partition → ℕ → Said
+unfolding answering blockRefusal
+iterBlockRefusal p b = answering (blockRefusal p b) []

@@ -1,0 +1,28 @@
+//! Answer lines.
+
+use std::fmt::Write;
+
+fn push_cells(line: &mut String, cells: &[usize]) {
+    for cell in cells {
+        write!(line, " {cell}").expect("a string takes any text");
+    }
+}
+
+/// `done`, the outcome's numbers, and each slice that the operation may change.
+pub fn done(numbers: &[usize], slices: &[&[usize]]) -> String {
+    let mut line = String::from("done");
+    push_cells(&mut line, numbers);
+    for slice in slices {
+        line.push_str(" |");
+        push_cells(&mut line, slice);
+    }
+    line
+}
+
+/// `part`, the part's length and its cells.
+pub fn part(cells: &[usize]) -> String {
+    let mut line = String::from("part");
+    push_cells(&mut line, &[cells.len()]);
+    push_cells(&mut line, cells);
+    line
+}

@@ -1,0 +1,71 @@
+//! A line of input, read number by number, and why it may have no answer of the Rust.
+
+/// Why a case has no answer of the Rust.
+#[derive(Debug, PartialEq)]
+pub enum Stop {
+    /// The line is no case.
+    NoCase,
+    /// Document 01 refuses the case.
+    Refused,
+    /// The Rust panicked.
+    Panicked,
+}
+
+/// Cells of the longest column that may be lent.
+const COLUMN_ROOM: usize = 5_000;
+/// Bytes of the longest text that may be lent.
+const TEXT_ROOM: usize = 70_000;
+
+/// What is left of a line: words with one blank between.
+pub struct Line<'a>(std::str::Split<'a, char>);
+
+impl<'a> Line<'a> {
+    pub fn new(text: &'a str) -> Self {
+        Line(text.split(' '))
+    }
+
+    /// The operation's name, the first word.
+    pub fn name(&mut self) -> Result<&'a str, Stop> {
+        self.0.next().ok_or(Stop::NoCase)
+    }
+
+    /// The next word as a decimal number of at most `largest`.
+    fn up_to(&mut self, largest: usize) -> Result<usize, Stop> {
+        let word = self.0.next().ok_or(Stop::NoCase)?;
+        if !word.bytes().all(|byte| byte.is_ascii_digit()) {
+            return Err(Stop::NoCase);
+        }
+        match word.parse() {
+            Ok(number) if number <= largest => Ok(number),
+            _ => Err(Stop::NoCase),
+        }
+    }
+
+    /// A number, u16 like every number that 01 lends.
+    pub fn number(&mut self) -> Result<usize, Stop> {
+        self.up_to(u16::MAX.into())
+    }
+
+    fn slice(&mut self, room: usize, largest: usize) -> Result<Vec<usize>, Stop> {
+        let length = self.up_to(room)?;
+        (0..length).map(|_| self.up_to(largest)).collect()
+    }
+
+    /// A slice of numbers: its length and its cells.
+    pub fn column(&mut self) -> Result<Vec<usize>, Stop> {
+        self.slice(COLUMN_ROOM, u16::MAX.into())
+    }
+
+    /// A slice of bytes: its length and its bytes as numbers.
+    pub fn text(&mut self) -> Result<Vec<usize>, Stop> {
+        self.slice(TEXT_ROOM, u8::MAX.into())
+    }
+
+    /// The line has no further word.
+    pub fn end(&mut self) -> Result<(), Stop> {
+        match self.0.next() {
+            None => Ok(()),
+            Some(_) => Err(Stop::NoCase),
+        }
+    }
+}

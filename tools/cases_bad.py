@@ -1,0 +1,28 @@
+"""Lines that are no case."""
+from operations import COLUMN_ROOM, TEXT_ROOM, Case, written
+
+WRONG_WORDS = ('65536', '131071', '4294967296', '18446744073709551616', 'x', '-1', '1x', '|')
+
+
+def lines(operation, example):
+    """Made of a sound case: a word too few, a word too many, a wrong word, another name, a slice that is too long."""
+    right = written(operation, example)
+    words = right.split(' ')
+    yield ' '.join(words[:-1])
+    yield ' '.join(words[:2])
+    yield right + ' 0'
+    yield words[0]
+    yield ' '.join([words[0] + 's', *words[1:]])
+    yield ' '.join([words[0].lower() + '_', *words[1:]])
+    for word in WRONG_WORDS:
+        yield ' '.join([words[0], word, *words[2:]])
+        yield ' '.join([*words[:-1], word])
+    for name, value in example.items():
+        if isinstance(value, list):
+            room, largest = (TEXT_ROOM, '256') if name == 'text' else (COLUMN_ROOM, '65536')
+            yield written(operation, {**example, name: [0] * (room + 1)})
+            yield written(operation, {**example, name: [*value[:-1], largest]})
+
+
+def cases(operation, example):
+    return (Case(operation, None, line) for line in lines(operation, example))

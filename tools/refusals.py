@@ -1,0 +1,85 @@
+"""Document 01's refusals, in Python: each test answers None, or the number and the place of the refusal.
+
+A test reads the values of a case, by the names of the operation's parameters. It is written from 01 alone.
+"""
+
+COLUMNS = ('elements', 'element_offset', 'element_to_block', 'begin', 'marked_split', 'end')
+MOST_STATES = 4096
+# The order in which 01 ranks its refusals.
+ORDER = (13, 1, 2, 3, 4, 7, 5, 6, 14, 8, 15, 9, 10, 16, 11, 12)
+
+
+def states(v):
+    """1: n outside its range."""
+    return None if 1 <= v['n'] <= MOST_STATES else (1, 0)
+
+
+def columns(v):
+    """7: a state or block column below n cells."""
+    return (7, 0) if any(len(v[column]) < v['n'] for column in COLUMNS) else None
+
+
+def blocks_in_bounds(v):
+    """begin < end and begin <= marked_split <= end <= n for each block."""
+    table = list(zip(v['begin'], v['marked_split'], v['end']))[:v['count']]
+    return all(begin < end and begin <= split <= end <= v['n'] for begin, split, end in table)
+
+
+def in_its_block(v, state):
+    """The state's position lies in its block."""
+    block = v['element_to_block'][state]
+    return block < v['count'] and v['begin'][block] <= v['element_offset'][state] < v['end'][block]
+
+
+def is_consistent(v):
+    """What 01 calls a consistent partition; the columns are long enough."""
+    n, count = v['n'], v['count']
+    if not 1 <= count <= n or not blocks_in_bounds(v):
+        return False
+    if sorted(v['elements'][:n]) != list(range(n)):
+        return False
+    if any(v['element_offset'][v['elements'][place]] != place for place in range(n)):
+        return False
+    if not all(in_its_block(v, state) for state in range(n)):
+        return False
+    return sum(v['end'][:count]) - sum(v['begin'][:count]) == n
+
+
+def partition(v):
+    """14: the lent partition isn't consistent."""
+    return None if is_consistent(v) else (14, 0)
+
+
+def below(argument, bound):
+    """8: an argument out of range; its place is its value."""
+    return lambda v: None if v[argument] < v[bound] else (8, v[argument])
+
+
+def constructor(v):
+    """8 at end: the bounds of a block to be made."""
+    return None if v['begin'] < v['end'] <= MOST_STATES else (8, v['end'])
+
+
+def block(v):
+    """14: a block given alone isn't consistent."""
+    good = v['begin'] < v['end'] <= MOST_STATES and v['begin'] <= v['marked_split'] <= v['end']
+    return None if good else (14, 0)
+
+
+def shown(v):
+    """The text of a consistent partition: `{{2, 3, 0*}, {1}}`."""
+    blocks = []
+    for begin, split, end in list(zip(v['begin'], v['marked_split'], v['end']))[:v['count']]:
+        unmarked = [str(state) for state in v['elements'][begin:split]]
+        marked = [f'{state}*' for state in v['elements'][split:end]]
+        blocks.append('{' + ', '.join(unmarked + marked) + '}')
+    return '{' + ', '.join(blocks) + '}'
+
+
+def room(v):
+    """16: room below the bytes to write; the place is the number needed."""
+    needed = len(shown(v))
+    return None if needed <= len(v['text']) else (16, needed)
+
+
+PARTITION_CHAIN = (states, columns, partition)
