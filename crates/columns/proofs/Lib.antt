@@ -17,3 +17,4 @@ pub mod Stores
 pub mod Swaps
 pub mod Inverses
 pub mod Numbering
+pub mod Members

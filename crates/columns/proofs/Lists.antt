@@ -6,10 +6,10 @@ use Prim.Native.Nat.{ℕ, zero, suc, _+_, _-_, _≤_, _<_}
 use native.Mathlib.Nat.{not-suc-le-zero, le-of-suc-le-suc}
 use native.Mathlib.Numerals.{add-one}
 use native.Mathlib.Omega.{arith}
-use lib.ListN.{length, length-set, getD, set, take, drop, replicate, length-replicate, length-append, length-drop, drop-of-length-le, replicate-append-replicate, List·getD-append}
-use lib.Seq.{drop-cons, take-suc, set-at, append-snoc, take-length, take-at, drop-at, length-take-le, getD-at, getD-append-add, getD-drop}
+use lib.ListN.{length, length-set, getD, set, take, drop, replicate, length-replicate, length-append, length-drop, drop-of-length-le, replicate-append-replicate, List·getD-append, getD-replicate, List·getD-eq-default}
+use lib.Seq.{drop-cons, take-suc, set-at, append-snoc, take-length, take-at, drop-at, length-take-le, getD-at, getD-append-add, getD-drop, ext-getD}
 use Rattle.columns.specs.Columns.{listed, over, written, zeros, wiped, cell}
-use Rattle.columns.proofs.All.{top-or-below}
+use Rattle.columns.proofs.All.{top-or-below, lt-or-le}
 
 pub length-listed : {A : Type 0} (n : ℕ) (f : ℕ → A) → length (listed n f) ≡ n
 unfolding listed
@@ -141,3 +141,23 @@ module _ (n : ℕ) (f : ℕ → ℕ) (l : List ℕ) where
   pub front-written : (x : List ℕ) → n ≤ length l → x ≡ listed (length (take n l)) f → x ++ drop n l ≡ written n f l
   unfolding written over
   front-written x h e = rw (e, length-take-le n l h, length-listed n f)
+
+-- ---- cells that are all zero
+pub zeros-of : (l : List ℕ) → ((k : ℕ) → getD l k 0 ≡ 0) → l ≡ zeros (length l)
+zeros-of l h =
+    ext-getD 0 l (zeros (length l)) (sym (length-replicate {A = ℕ} (length l) 0)) (λ k w. h k ∙ sym (getD-replicate (length l) k 0 0 w))
+
+pub zeros-at : (n k : ℕ) → getD (zeros n) k 0 ≡ 0
+zeros-at n k =
+    ⊎-elim (λ (w : k < n). getD-replicate n k 0 0 w) (λ (w : n ≤ k). List·getD-eq-default (zeros n) 0 (omega (arith, length-replicate {A = ℕ} n 0)))
+    (lt-or-le k n)
+
+-- the first h cells cleared, where the others are zero already
+pub front-zeros : (h : ℕ) (x z : List ℕ) → h ≤ length x → z ≡ zeros (length (take h x)) → ((k : ℕ) → h ≤ k → getD x k 0 ≡ 0) → z ++ drop h x ≡ zeros (length x)
+front-zeros h x z w e r =
+    let d : drop h x ≡ zeros (length x - h)
+    = zeros-of (drop h x) (λ k. getD-drop h x k 0 ∙ r (h + k) (omega arith)) ∙ ap zeros (length-drop h x) in
+    rw (e, length-take-le h x w, d) (replicate-append-replicate h (length x - h) 0 ∙ ap zeros (whole w))
+  where
+    whole : {h n : ℕ} → h ≤ n → h + (n - h) ≡ n
+    whole l = omega arith

@@ -76,3 +76,15 @@ module _ (f : ℕ → Bool) (i v : ℕ → ℕ) where
           (same-or-not (i n) k)
       go rest false e =
           ⊎-elim (λ (q : s ≡ n). absurd (contra fs (ap f q ∙ e))) (λ (z : s < n). rest z) (top-or-below w)
+
+pub stores-cong :
+    (f : ℕ → Bool) (i i' v v' : ℕ → ℕ) (n : ℕ) (l : List ℕ) → ((s : ℕ) → s < n → f s ≡ true → (i s ≡ i' s) × (v s ≡ v' s))
+    → stores f i v n l ≡ stores f i' v' n l
+unfolding stores
+stores-cong f i i' v v' zero l h = refl
+stores-cong f i i' v v' (suc n) l h = go (stores-cong f i i' v v' n l (λ s w. h s (omega arith))) (f n) refl
+  where
+    go : stores f i v n l ≡ stores f i' v' n l → (t : Bool) → f n ≡ t
+        → cond t (set (stores f i v n l) (i n) (v n)) (stores f i v n l) ≡ cond t (set (stores f i' v' n l) (i' n) (v' n)) (stores f i' v' n l)
+    go ih true e = let q = h n (omega arith) e in rw (ih, q .0, q .1)
+    go ih false e = ih

@@ -1,7 +1,7 @@
 -- Counting, adding up and storing over the numbers below a bound.
 use Prim.Native.Nat.{ℕ, zero, suc, _+_}
 use mathlib.Core.Bool.{Bool, cond}
-use mathlib.Core.List.{List}
+use mathlib.Core.List.{List, [], _∷_, _++_}
 use lib.ListN.{set}
 
 -- f 0 + f 1 + .. + f (n - 1)
@@ -23,3 +23,8 @@ first (suc n) f = let m = first n f in cond (f m) m (suc m)
 unfoldable pub stores : (ℕ → Bool) → (ℕ → ℕ) → (ℕ → ℕ) → ℕ → List ℕ → List ℕ
 stores f i v zero l = l
 stores f i v (suc n) l = cond (f n) (set (stores f i v n l) (i n) (v n)) (stores f i v n l)
+
+-- the numbers below n that pass, ascending
+unfoldable pub members : ℕ → (ℕ → Bool) → List ℕ
+members zero f = []
+members (suc n) f = members n f ++ cond (f n) (n ∷ []) []
