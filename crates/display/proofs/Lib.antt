@@ -1,0 +1,4 @@
+pub mod Writes
+pub mod Refusing
+pub mod Digits
+pub mod Examples

@@ -1,0 +1,9 @@
+pub mod Marked
+pub mod Largest
+pub mod Divided
+pub mod PassLaws
+pub mod DivideLaws
+pub mod PartitionMarked
+pub mod Others
+pub mod Unfit
+pub mod Examples

@@ -1,0 +1,10 @@
+pub mod Sifting
+pub mod Sieves
+pub mod Reordering
+pub mod Cutting
+pub mod Splits
+pub mod Homes
+pub mod Marking
+pub mod Steps
+pub mod Answering
+pub mod Examples

@@ -1,0 +1,119 @@
+// The work of `split_marked`, on columns that are checked already. This is no entry point: it asks that the columns are sound.
+ghost use mathlib.Core.Path.{_≡_};
+ghost use Prim.Native.Nat.{ℕ, _-_, _≤_, _<_};
+ghost use lib.ListN.{length, getD, set};
+ghost use Rattle.columns.specs.Columns.{swapped};
+ghost use Rattle.columns.specs.Inverse.{swappedInverse};
+ghost use Rattle.partition.specs.Partition.{parts, Sound};
+ghost use Rattle.partition.specs.SwapBlocks.{renumbered};
+ghost use Rattle.split.specs.Split.{sifting, sifted, split};
+use columns::cells::at;
+
+// Exchanges the states at the positions i and j.
+fn swap_elements(elements: &mut [u16], element_offset: &mut [u16], i: usize, j: usize)
+    requires { ⌜ (i < length (now elements)) × (j < length (now elements)) × (i < 65536) × (j < 65536) ⌝ }
+    requires { ⌜ (getD (now elements) i 0 < length (now «element_offset»)) × (getD (now elements) j 0 < length (now «element_offset»)) ⌝ }
+    ensures { λ _. ⌜ (now (elements .exit) ≡ swapped i j (now (elements .entry))) × (now («element_offset» .exit) ≡ swappedInverse i j (now (elements .entry)) (now («element_offset» .entry))) ⌝ }
+{
+    let x = elements[i];
+    let y = elements[j];
+    elements[i] = y;
+    elements[j] = x;
+    element_offset[y as usize] = i as u16;
+    element_offset[x as usize] = j as u16;
+}
+
+// Swaps the chosen states of the positions from `from` to before `to` to the last places, and answers the first of these.
+fn sift(
+    elements: &mut [u16],
+    element_offset: &mut [u16],
+    choice: &[u8],
+    from: usize,
+    to: usize,
+) -> usize
+    requires { ⌜ (from ≤ to) × (to ≤ length (now elements)) × (to ≤ 65536) ⌝ }
+    requires { ⌜ ((k : ℕ) → k < to → (getD (now elements) k 0 < length (now choice)) × (getD (now elements) k 0 < length (now «element_offset»))) ⌝ }
+    ensures { λ r. ⌜ sifting (now (elements .exit)) (now («element_offset» .exit)) r ≡ sifted (to - from) (now (choice .entry)) (now (elements .entry)) (now («element_offset» .entry)) from ⌝ }
+{
+    let mut i = from;
+    let mut e = to;
+    while i < e {
+        let s = at(&*elements, i);
+        if choice[s] != 0 {
+            e -= 1;
+            swap_elements(&mut *elements, &mut *element_offset, i, e);
+        } else {
+            i += 1;
+        }
+    }
+    e
+}
+
+// The states at the positions from x to before z get the block number v.
+fn renumber(element_to_block: &mut [u16], elements: &[u16], x: usize, z: usize, v: usize)
+    requires { ⌜ (x ≤ z) × (z ≤ length (now elements)) × (v < 65536) ⌝ }
+    requires { ⌜ ((k : ℕ) → k < z → getD (now elements) k 0 < length (now «element_to_block»)) ⌝ }
+    ensures { λ _. ⌜ now («element_to_block» .exit) ≡ renumbered (now (elements .entry)) x z v (now («element_to_block» .entry)) ⌝ }
+{
+    let mut k = x;
+    while k < z {
+        let s = at(elements, k);
+        element_to_block[s] = v as u16;
+        k += 1;
+    }
+}
+
+// Block b ends at e, where it ended at z; block `count` is from e to z. Both are unmarked.
+fn cut(
+    begin: &mut [u16],
+    marked_split: &mut [u16],
+    end: &mut [u16],
+    b: usize,
+    count: usize,
+    e: usize,
+    z: usize,
+)
+    requires { ⌜ (b < length (now «marked_split»)) × (b < length (now end)) × (e < 65536) × (z < 65536) ⌝ }
+    requires { ⌜ (count < length (now begin)) × (count < length (now «marked_split»)) × (count < length (now end)) ⌝ }
+    ensures { λ _. ⌜ (now (begin .exit) ≡ set (now (begin .entry)) count e) × (now («marked_split» .exit) ≡ set (set (now («marked_split» .entry)) b e) count z) × (now (end .exit) ≡ set (set (now (end .entry)) b e) count z) ⌝ }
+{
+    marked_split[b] = e as u16;
+    end[b] = e as u16;
+    begin[count] = e as u16;
+    marked_split[count] = z as u16;
+    end[count] = z as u16;
+}
+
+// Splits block b by the choice, and answers the block count then.
+pub fn split_marked(
+    elements: &mut [u16],
+    element_offset: &mut [u16],
+    element_to_block: &mut [u16],
+    begin: &mut [u16],
+    marked_split: &mut [u16],
+    end: &mut [u16],
+    n: usize,
+    count: usize,
+    b: usize,
+    choice: &[u8],
+) -> usize
+    requires { ⌜ Sound (parts (now elements) (now «element_offset») (now «element_to_block») (now begin) (now «marked_split») (now end) n count) ⌝ }
+    requires { ⌜ (b < count) × (n ≤ length (now choice)) ⌝ }
+    ensures { λ r. ⌜ parts (now (elements .exit)) (now («element_offset» .exit)) (now («element_to_block» .exit)) (now (begin .exit)) (now («marked_split» .exit)) (now (end .exit)) n r ≡ split (parts (now (elements .entry)) (now («element_offset» .entry)) (now («element_to_block» .entry)) (now (begin .entry)) (now («marked_split» .entry)) (now (end .entry)) n count) b (now (choice .entry)) ⌝ }
+{
+    let x = at(&*begin, b);
+    let m = at(&*marked_split, b);
+    let z = at(&*end, b);
+    let e = sift(&mut *elements, &mut *element_offset, choice, m, z);
+    // Nothing is chosen.
+    if e == z {
+        return count;
+    }
+    // The whole block is.
+    if e == x {
+        return count;
+    }
+    cut(&mut *begin, &mut *marked_split, &mut *end, b, count, e, z);
+    renumber(&mut *element_to_block, &*elements, e, z, count);
+    count + 1
+}

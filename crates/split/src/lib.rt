@@ -1,0 +1,62 @@
+// `split_marked` (block_partition.rs): the chosen ones among the marked states of a block become a block of their own.
+ghost use mathlib.Core.Path.{_≡_};
+ghost use Rattle.columns.specs.Answers.{saidNumber};
+ghost use Rattle.partition.specs.Partition.{parts};
+ghost use Rattle.split.specs.Split.{splitMarked, countAfter};
+
+pub mod checks;
+pub mod core;
+
+use columns::answers::NumberAnswer;
+use columns::answers::number;
+use columns::answers::refusing_number;
+use partition::BlockPartition;
+
+// Splits a block by the choice, a byte for each state: 0 no, others yes. The chosen ones among its marked states become a new last
+// block, and both are unmarked; if nothing is chosen, or the whole block is, only the swaps made stay. Answers the block count.
+pub fn split_marked(
+    partition: BlockPartition,
+    elements: &mut [u16],
+    element_offset: &mut [u16],
+    element_to_block: &mut [u16],
+    begin: &mut [u16],
+    marked_split: &mut [u16],
+    end: &mut [u16],
+    block_index: u16,
+    choice: &[u8],
+) -> NumberAnswer
+    ensures { λ r. ⌜ (saidNumber r, parts (now (elements .exit)) (now («element_offset» .exit)) (now («element_to_block» .exit)) (now (begin .exit)) (now («marked_split» .exit)) (now (end .exit)) (partition .n) (countAfter r (partition .count))) ≡ splitMarked (parts (now (elements .entry)) (now («element_offset» .entry)) (now («element_to_block» .entry)) (now (begin .entry)) (now («marked_split» .entry)) (now (end .entry)) (partition .n) (partition .count)) «block_index» (now (choice .entry)) ⌝ }
+{
+    let n = partition.n as usize;
+    let count = partition.count as usize;
+    let b = block_index as usize;
+    let t = checks::split_refusal(
+        &*elements,
+        &*element_offset,
+        &*element_to_block,
+        &*begin,
+        &*marked_split,
+        &*end,
+        n,
+        count,
+        b,
+        choice,
+    );
+    let refused = t.number;
+    if refused != 0 {
+        return refusing_number(t);
+    }
+    let after = core::split_marked(
+        &mut *elements,
+        &mut *element_offset,
+        &mut *element_to_block,
+        &mut *begin,
+        &mut *marked_split,
+        &mut *end,
+        n,
+        count,
+        b,
+        choice,
+    );
+    number(after as u64)
+}
