@@ -13,7 +13,7 @@ use Rattle.columns.specs.Counting.{first}
 use Rattle.columns.specs.Tests.{all}
 use Rattle.columns.proofs.Bools.{cases, and-left, and-right, fails}
 use Rattle.partition.specs.Partition.{Partition}
-use Rattle.partition.proofs.Refusals.{checked-of}
+use Rattle.partition.proofs.Refusals.{checked-of, one}
 use Rattle.division.specs.Marked.{chosen, markedIn, numbered, absent, missing, denseb, lengthIn, lenAt, Ready}
 use Rattle.division.specs.Passes.{held}
 use Rattle.division.specs.Division.{unfit, roomb, Work, refusalFor, divisionRefusal}
@@ -79,10 +79,6 @@ module _ (p : Partition) (b : ℕ) (v : List ℕ) (m z : ℕ) (em : m ≡ getD (
       unfit-ten e = rw (some, more, sym t-is ∙ e, j-is)
 
 -- ---- what holds where nothing is refused
-one : (a : Bool) (i x : ℕ) (next : Refusal) → (i ≡ 0 → ⊥) → unless a (refusal i x) next .number ≡ 0 → (a ≡ true) × (next .number ≡ 0)
-one true i x next n e = (refl, e)
-one false i x next n e = absurd (n e)
-
 dense-of : (a c : Bool) (x : ℕ) → cond a none (unless c (refusal 10 x) none) .number ≡ 0 → a ≡ false → c ≡ true
 dense-of true c x e q = absurd (Rattle.columns.proofs.Bools.contra refl q)
 dense-of false true x e q = refl
@@ -99,8 +95,8 @@ division-ready p b v w e =
     let c = checked-of p r (unless (ltb b (p .count)) (refusal 8 b) (unfit p b v)) e in
     let k = one (ltb b (p .count)) 8 b (unfit p b v) (λ q. omega arith) (c .rest) in
     let m =
-        one (ltb (getD (p .marked-split) b 0) (getD (p .end) b 0)) 9 b
-        (cond (eqb (lenAt p b) 1) none (unless (denseb p b v) (refusal 10 (missing p b v)) none)) (λ q. omega arith) (k .1) in
+    one (ltb (getD (p .marked-split) b 0) (getD (p .end) b 0)) 9 b
+    (cond (eqb (lenAt p b) 1) none (unless (denseb p b v) (refusal 10 (missing p b v)) none)) (λ q. omega arith) (k .1) in
     record {
       ready = record {
         sound = c .sound;

@@ -23,7 +23,11 @@ fn is_chosen(element_offset: &[u16], element_to_block: &[u16], b: usize, m: usiz
     if at(element_to_block, s) != b {
         return false;
     }
-    if at(element_offset, s) < m { false } else { true }
+    if at(element_offset, s) < m {
+        false
+    } else {
+        true
+    }
 }
 
 // Cell k, if it is below n, becomes 1.
@@ -87,7 +91,15 @@ fn least_missing(
     ensures { λ r. ⌜ r ≡ first n (λ k. eqb (held (chosen (now («element_offset» .entry)) (now («element_to_block» .entry)) b m) (λ s. getD (now (numbers .entry)) s 0) n k) 0) ⌝ }
 {
     let mut seen = [0u16; 4096];
-    note(&mut seen, element_offset, element_to_block, numbers, n, b, m);
+    note(
+        &mut seen,
+        element_offset,
+        element_to_block,
+        numbers,
+        n,
+        b,
+        m,
+    );
     first_zero(&seen, n)
 }
 

@@ -4,14 +4,15 @@ ghost use lib.ListN.{length};
 ghost use Rattle.columns.specs.Columns.{zeros};
 ghost use Rattle.partition.specs.Partition.{parts};
 ghost use Rattle.division.specs.Division.{saidDivision, countAfter, work, partitionMarkedWith};
+
 pub mod checks;
 pub mod core;
 pub mod passes;
 
+use crate::checks::division_refusal;
 use columns::answers::Refusal;
 use columns::cells::clear;
 use partition::BlockPartition;
-use crate::checks::division_refusal;
 
 // The outcome: the old index, and the run of new blocks from `first` to before `count`, the block count now.
 pub enum DivisionOutcome {

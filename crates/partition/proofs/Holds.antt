@@ -110,8 +110,8 @@ module _ (p : Partition) where
   unfolding longb sixLong
   long-of t =
       let s =
-          six (leb (p .n) (length (p .elements))) (leb (p .n) (length (p .element-offset))) (leb (p .n) (length (p .element-to-block)))
-          (leb (p .n) (length (p .begin))) (leb (p .n) (length (p .marked-split))) (leb (p .n) (length (p .end))) t in
+      six (leb (p .n) (length (p .elements))) (leb (p .n) (length (p .element-offset))) (leb (p .n) (length (p .element-to-block)))
+      (leb (p .n) (length (p .begin))) (leb (p .n) (length (p .marked-split))) (leb (p .n) (length (p .end))) t in
       record {
         elements = leb-true _ _ (s .0 .left);
         element-offset = leb-true _ _ (s .0 .right);

@@ -49,7 +49,7 @@ module _ (p : Partition) (room : Bool) (next : Refusal) where
   unfolding checked
   checked-of e =
       let t =
-          three (sizeb (p .n)) (longb p && room) (consistentb p) 1 7 14 next (λ q. omega arith) (λ q. omega arith) (λ q. omega arith) e in
+      three (sizeb (p .n)) (longb p && room) (consistentb p) 1 7 14 next (λ q. omega arith) (λ q. omega arith) (λ q. omega arith) e in
       record {
         sound = record {
           small = size-of (p .n) (t .0) .1;
@@ -91,7 +91,8 @@ module _ (p : Partition) (room : Bool) (next t : Refusal) (e : t ≡ checked p r
       e ∙ sym (chain-out (sizeb (p .n)) (longb p && room) (consistentb p) 1 7 14 next (λ z. n (ap (λ (r : Refusal). r .number) e ∙ z)))
 
 -- ---- what holds where a call is not refused
-one : (a : Bool) (i x : ℕ) (next : Refusal) → (i ≡ 0 → ⊥) → unless a (refusal i x) next .number ≡ 0 → (a ≡ true) × (next .number ≡ 0)
+-- one test of a chain passed, and the rest
+pub one : (a : Bool) (i x : ℕ) (next : Refusal) → (i ≡ 0 → ⊥) → unless a (refusal i x) next .number ≡ 0 → (a ≡ true) × (next .number ≡ 0)
 one true i x next n e = (refl, e)
 one false i x next n e = absurd (n e)
 

@@ -2,6 +2,7 @@
 ghost use mathlib.Core.Path.{_≡_};
 ghost use Rattle.columns.specs.Answers.{saidNumber, saidFlag};
 ghost use Rattle.partition.specs.Block.{saidBlock, newBlock, soundb, len, lenMarked, hasMarked, hasUnmarked};
+use crate::checks::within;
 use columns::answers::FlagAnswer;
 use columns::answers::NumberAnswer;
 use columns::answers::Refusal;
@@ -9,7 +10,6 @@ use columns::answers::flag;
 use columns::answers::number;
 use columns::answers::refusing_flag;
 use columns::answers::refusing_number;
-use crate::checks::within;
 
 pub struct Block {
     pub begin: u16,

@@ -5,9 +5,6 @@ ghost use Rattle.partition.specs.Fresh.{saidPartition, newPartition};
 ghost use Rattle.partition.specs.Mark.{markElement};
 ghost use Rattle.partition.specs.Partition.{parts};
 ghost use Rattle.partition.specs.SwapBlocks.{swapBlocks};
-use columns::answers::Answer;
-use columns::answers::finished;
-use columns::answers::refusing;
 use crate::BlockPartition;
 use crate::PartitionAnswer;
 use crate::PartitionOutcome;
@@ -15,6 +12,9 @@ use crate::checks::blocks_refusal;
 use crate::checks::new_refusal;
 use crate::checks::state_refusal;
 use crate::core;
+use columns::answers::Answer;
+use columns::answers::finished;
+use columns::answers::refusing;
 
 impl BlockPartition {
     // One block 0 of all n states, in order, all marked.

@@ -85,7 +85,14 @@ fn blocks_ok(begin: &[u16], marked_split: &[u16], end: &[u16], n: usize, count: 
 }
 
 // Whether state s's place lies in its block.
-fn lie_at(element_offset: &[u16], element_to_block: &[u16], begin: &[u16], end: &[u16], count: usize, s: usize) -> bool
+fn lie_at(
+    element_offset: &[u16],
+    element_to_block: &[u16],
+    begin: &[u16],
+    end: &[u16],
+    count: usize,
+    s: usize,
+) -> bool
     requires { ⌜ (s < length (now «element_offset»)) × (s < length (now «element_to_block»)) ⌝ }
     requires { ⌜ (count ≤ length (now begin)) × (count ≤ length (now end)) ⌝ }
     ensures { λ r. ⌜ r ≡ lieAt (now («element_offset» .entry)) (now («element_to_block» .entry)) (now (begin .entry)) (now (end .entry)) count s ⌝ }

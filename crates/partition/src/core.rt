@@ -9,11 +9,11 @@ ghost use Rattle.partition.specs.Fresh.{fresh};
 ghost use Rattle.partition.specs.Mark.{mark};
 ghost use Rattle.partition.specs.Partition.{parts, Long, Sound};
 ghost use Rattle.partition.specs.SwapBlocks.{renumbered, swap};
+use crate::block::Block;
 use columns::cells::at;
 use columns::cells::clear;
 use columns::cells::count_up;
 use columns::cells::swap_cells;
-use crate::block::Block;
 
 // One block of all n states, in order, all marked.
 pub fn new(
@@ -50,7 +50,7 @@ pub fn read_block(begin: &[u16], marked_split: &[u16], end: &[u16], b: usize) ->
 }
 
 // Exchanges the states at the positions i and j.
-fn swap_elements(elements: &mut [u16], element_offset: &mut [u16], i: usize, j: usize)
+pub fn swap_elements(elements: &mut [u16], element_offset: &mut [u16], i: usize, j: usize)
     requires { ⌜ (i < length (now elements)) × (j < length (now elements)) × (i < 65536) × (j < 65536) ⌝ }
     requires { ⌜ (getD (now elements) i 0 < length (now «element_offset»)) × (getD (now elements) j 0 < length (now «element_offset»)) ⌝ }
     ensures { λ _. ⌜ (now (elements .exit) ≡ swapped i j (now (elements .entry))) × (now («element_offset» .exit) ≡ swappedInverse i j (now (elements .entry)) (now («element_offset» .entry))) ⌝ }
@@ -89,7 +89,7 @@ pub fn mark_element(
 }
 
 // The states at the positions from x to before z get the block number v.
-fn renumber(element_to_block: &mut [u16], elements: &[u16], x: usize, z: usize, v: usize)
+pub fn renumber(element_to_block: &mut [u16], elements: &[u16], x: usize, z: usize, v: usize)
     requires { ⌜ (x ≤ z) × (z ≤ length (now elements)) × (v < 65536) ⌝ }
     requires { ⌜ ((k : ℕ) → k < z → getD (now elements) k 0 < length (now «element_to_block»)) ⌝ }
     ensures { λ _. ⌜ now («element_to_block» .exit) ≡ renumbered (now (elements .entry)) x z v (now («element_to_block» .entry)) ⌝ }

@@ -4,6 +4,13 @@ ghost use Rattle.columns.specs.Answers.{said, saidNumber, saidFlag};
 ghost use Rattle.partition.specs.Block.{saidBlock};
 ghost use Rattle.partition.specs.Partition.{parts};
 ghost use Rattle.partition.specs.Readers.{numOfBlocks, lenOf, blockNumber, isElementMarked, readBlock, iterBlock, iterBlockRefusal};
+use crate::BlockPartition;
+use crate::block::BlockAnswer;
+use crate::block::BlockOutcome;
+use crate::checks::block_refusal;
+use crate::checks::check;
+use crate::checks::state_refusal;
+use crate::core;
 use columns::answers::Answer;
 use columns::answers::FlagAnswer;
 use columns::answers::NumberAnswer;
@@ -14,13 +21,6 @@ use columns::answers::refusing;
 use columns::answers::refusing_flag;
 use columns::answers::refusing_number;
 use columns::cells::at;
-use crate::BlockPartition;
-use crate::block::BlockAnswer;
-use crate::block::BlockOutcome;
-use crate::checks::block_refusal;
-use crate::checks::check;
-use crate::checks::state_refusal;
-use crate::core;
 
 impl BlockPartition {
     // The number of blocks.

@@ -2,26 +2,11 @@
 ghost use mathlib.Core.Path.{_≡_};
 ghost use Prim.Native.Nat.{ℕ, _-_, _≤_, _<_};
 ghost use lib.ListN.{length, getD, set};
-ghost use Rattle.columns.specs.Columns.{swapped};
-ghost use Rattle.columns.specs.Inverse.{swappedInverse};
 ghost use Rattle.partition.specs.Partition.{parts, Sound};
-ghost use Rattle.partition.specs.SwapBlocks.{renumbered};
 ghost use Rattle.split.specs.Split.{sifting, sifted, split};
 use columns::cells::at;
-
-// Exchanges the states at the positions i and j.
-fn swap_elements(elements: &mut [u16], element_offset: &mut [u16], i: usize, j: usize)
-    requires { ⌜ (i < length (now elements)) × (j < length (now elements)) × (i < 65536) × (j < 65536) ⌝ }
-    requires { ⌜ (getD (now elements) i 0 < length (now «element_offset»)) × (getD (now elements) j 0 < length (now «element_offset»)) ⌝ }
-    ensures { λ _. ⌜ (now (elements .exit) ≡ swapped i j (now (elements .entry))) × (now («element_offset» .exit) ≡ swappedInverse i j (now (elements .entry)) (now («element_offset» .entry))) ⌝ }
-{
-    let x = elements[i];
-    let y = elements[j];
-    elements[i] = y;
-    elements[j] = x;
-    element_offset[y as usize] = i as u16;
-    element_offset[x as usize] = j as u16;
-}
+use partition::core::renumber;
+use partition::core::swap_elements;
 
 // Swaps the chosen states of the positions from `from` to before `to` to the last places, and answers the first of these.
 fn sift(
@@ -47,20 +32,6 @@ fn sift(
         }
     }
     e
-}
-
-// The states at the positions from x to before z get the block number v.
-fn renumber(element_to_block: &mut [u16], elements: &[u16], x: usize, z: usize, v: usize)
-    requires { ⌜ (x ≤ z) × (z ≤ length (now elements)) × (v < 65536) ⌝ }
-    requires { ⌜ ((k : ℕ) → k < z → getD (now elements) k 0 < length (now «element_to_block»)) ⌝ }
-    ensures { λ _. ⌜ now («element_to_block» .exit) ≡ renumbered (now (elements .entry)) x z v (now («element_to_block» .entry)) ⌝ }
-{
-    let mut k = x;
-    while k < z {
-        let s = at(elements, k);
-        element_to_block[s] = v as u16;
-        k += 1;
-    }
 }
 
 // Block b ends at e, where it ended at z; block `count` is from e to z. Both are unmarked.
