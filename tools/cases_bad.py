@@ -1,5 +1,5 @@
 """Lines that are no case."""
-from operations import COLUMN_ROOM, TEXT_ROOM, Case, written
+from operations import BYTES, COLUMN_ROOM, TEXT_ROOM, Case, written
 
 WRONG_WORDS = ('65536', '131071', '4294967296', '18446744073709551616', 'x', '-1', '1x', '|')
 
@@ -19,9 +19,9 @@ def lines(operation, example):
         yield ' '.join([*words[:-1], word])
     for name, value in example.items():
         if isinstance(value, list):
-            room, largest = (TEXT_ROOM, '256') if name == 'text' else (COLUMN_ROOM, '65536')
+            room = TEXT_ROOM if name == 'text' else COLUMN_ROOM
             yield written(operation, {**example, name: [0] * (room + 1)})
-            yield written(operation, {**example, name: [*value[:-1], largest]})
+            yield written(operation, {**example, name: [*value[:-1], '256' if name in BYTES else '65536']})
 
 
 def cases(operation, example):

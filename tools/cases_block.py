@@ -19,11 +19,12 @@ def numbers(rng, width):
 
 
 def cases(operation, rng, number):
+    """Every small block and every edge, and random ones until `number` of them can be expected to be sound."""
     width = len(operation.parameters)
     made = [*product(range(6), repeat=width), *product(EDGES, repeat=width)]
     for chosen in made:
         yield Case(operation, dict(zip(operation.parameters, chosen)))
-    for _ in range(number):
+    for _ in range(number * 8 // 5):
         yield Case(operation, dict(zip(operation.parameters, numbers(rng, width))))
 
 

@@ -2,6 +2,7 @@
 from itertools import product
 
 import partitions
+import splits
 from operations import BOUNDS, COLUMN_ROOM, TEXT_ROOM, Case
 from partitions import DAMAGES, LARGEST, copied, laid_out, lengthen, random_partition
 from refusals import COLUMNS, MOST_STATES, shown
@@ -31,7 +32,9 @@ def good_arguments(rng, operation, v):
     """Arguments in range for a sound partition."""
     chosen = {}
     for name in argument_names(operation):
-        if name == 'text':
+        if operation.name in splits.OPERATIONS:
+            chosen[name] = splits.good_argument(rng, {**v, **chosen}, name)
+        elif name == 'text':
             room = len(shown(v)) + rng.choice((0, 0, 1, 5))
             chosen[name] = list(rng.randbytes(min(room, TEXT_ROOM)))
         else:

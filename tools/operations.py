@@ -2,7 +2,7 @@
 from typing import NamedTuple
 
 import refusals
-from refusals import COLUMNS, PARTITION_CHAIN, below
+from refusals import COLUMNS, WORK, below, cell_for_each_state
 
 
 class Operation(NamedTuple):
@@ -25,6 +25,8 @@ class Operation(NamedTuple):
 # The longest slices that `replay` takes.
 COLUMN_ROOM = 5000
 TEXT_ROOM = 70000
+# The slices of bytes; every other one is of u16.
+BYTES = ('text', 'choice')
 
 PARTITION = ('n', 'count') + COLUMNS
 BLOCK = ('begin', 'marked_split', 'end')
@@ -32,10 +34,11 @@ BLOCK = ('begin', 'marked_split', 'end')
 BOUNDS = {'element': 'n', 'block': 'count', 'left': 'count', 'right': 'count'}
 
 
-def on_partition(name, arguments=(), changed=(), tests=(), **more):
-    """An operation on a lent partition: the partition's tests, then those of its arguments in their order."""
-    ranges = tuple(below(argument, BOUNDS[argument]) for argument in arguments if argument in BOUNDS)
-    return Operation(name, PARTITION + arguments, PARTITION_CHAIN + ranges + tests, changed, **more)
+def on_partition(name, arguments=(), changed=(), tests=(), lengths=(), **more):
+    """An operation on a lent partition: n, lengths, the partition, then the arguments in their order, then the rest."""
+    ranges = (below(argument, BOUNDS[argument]) for argument in arguments if argument in BOUNDS)
+    chain = (refusals.states, refusals.columns, *lengths, refusals.partition, *ranges, *tests)
+    return Operation(name, PARTITION + arguments, chain, changed, **more)
 
 
 ALL = (
@@ -56,6 +59,9 @@ ALL = (
     on_partition('display', ('text',), ('text',), (refusals.room,)),
     on_partition('mark_element', ('element',), ('elements', 'element_offset', 'marked_split')),
     on_partition('swap_blocks', ('left', 'right'), ('element_to_block', 'begin', 'marked_split', 'end')),
+    on_partition('partition_marked_with', ('block', 'numbers') + WORK, COLUMNS + WORK,
+                 (refusals.nothing_marked, refusals.not_dense), (cell_for_each_state('numbers'), refusals.work)),
+    on_partition('split_marked', ('block', 'choice'), COLUMNS, lengths=(cell_for_each_state('choice'),)),
 )
 BY_NAME = {operation.name: operation for operation in ALL}
 

@@ -4,6 +4,7 @@ A test reads the values of a case, by the names of the operation's parameters. I
 """
 
 COLUMNS = ('elements', 'element_offset', 'element_to_block', 'begin', 'marked_split', 'end')
+WORK = ('old_elements', 'block_sizes', 'spare')
 MOST_STATES = 4096
 # The order in which 01 ranks its refusals.
 ORDER = (13, 1, 2, 3, 4, 7, 5, 6, 14, 8, 15, 9, 10, 16, 11, 12)
@@ -17,6 +18,16 @@ def states(v):
 def columns(v):
     """7: a state or block column below n cells."""
     return (7, 0) if any(len(v[column]) < v['n'] for column in COLUMNS) else None
+
+
+def cell_for_each_state(slice):
+    """7: a slice with a cell for each state is below n cells."""
+    return lambda v: (7, 0) if len(v[slice]) < v['n'] else None
+
+
+def work(v):
+    """7: a work slice below n + 1 cells."""
+    return (7, 0) if any(len(v[slice]) < v['n'] + 1 for slice in WORK) else None
 
 
 def blocks_in_bounds(v):
@@ -55,6 +66,25 @@ def below(argument, bound):
     return lambda v: None if v[argument] < v[bound] else (8, v[argument])
 
 
+def marked(v):
+    """The marked states of the block, in the order of the elements."""
+    return v['elements'][v['marked_split'][v['block']]:v['end'][v['block']]]
+
+
+def nothing_marked(v):
+    """9: the block has nothing marked; the place is the block."""
+    return None if marked(v) else (9, v['block'])
+
+
+def not_dense(v):
+    """10: the numbers of the marked states have a gap; the place is the least missing one."""
+    if v['end'][v['block']] - v['begin'][v['block']] == 1:
+        return None
+    held = {v['numbers'][state] for state in marked(v)}
+    missing = next(number for number in range(len(held) + 1) if number not in held)
+    return None if missing > max(held) else (10, missing)
+
+
 def constructor(v):
     """8 at end: the bounds of a block to be made."""
     return None if v['begin'] < v['end'] <= MOST_STATES else (8, v['end'])
@@ -80,6 +110,3 @@ def room(v):
     """16: room below the bytes to write; the place is the number needed."""
     needed = len(shown(v))
     return None if needed <= len(v['text']) else (16, needed)
-
-
-PARTITION_CHAIN = (states, columns, partition)

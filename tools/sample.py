@@ -7,6 +7,7 @@ from itertools import product
 import cases_bad
 import cases_block
 import cases_partition
+import sample_split
 from operations import ALL, BOUNDS, BY_NAME, Case
 from partitions import LARGEST, copied, laid_out, wrapped_sum
 from refusals import COLUMNS, MOST_STATES, shown
@@ -162,6 +163,7 @@ def of_no_case():
         yield from (case for case in cases if len(case.line) < 300)
     yield next(case for case in cases if len(case.line) > 5000)
     yield Case(operation, None, 'no_such_operation 1')
+    yield from sample_split.of_no_case()
 
 
 def entries():
@@ -173,8 +175,13 @@ def entries():
             yield from of_block(operation)
         elif operation.name == 'BlockPartition::new':
             yield from of_new(operation)
+        elif operation.name == 'partition_marked_with':
+            yield from sample_split.of_divide()
+        elif operation.name == 'split_marked':
+            yield from sample_split.of_split()
         else:
             yield from of_partition(operation, DAMAGED if operation.name in everything else DAMAGED[index % 3::3])
     yield ''
     yield from of_limits()
+    yield from sample_split.of_size()
     yield from of_no_case()

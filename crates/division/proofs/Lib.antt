@@ -7,3 +7,4 @@ pub mod PartitionMarked
 pub mod Others
 pub mod Unfit
 pub mod Examples
+pub mod Sayings

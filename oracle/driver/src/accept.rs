@@ -36,6 +36,14 @@ pub fn permutation(list: &[usize]) -> Result<(), Stop> {
     Ok(())
 }
 
+/// Every number from 0 to the largest stands in the list.
+pub fn dense(list: &[usize]) -> Result<(), Stop> {
+    let mut numbers = list.to_vec();
+    numbers.sort_unstable();
+    numbers.dedup();
+    accept(numbers.iter().enumerate().all(|(place, &number)| number == place))
+}
+
 /// The second list takes each number to its place in the first.
 pub fn inverse(list: &[usize], places: &[usize]) -> Result<(), Stop> {
     list.iter().enumerate().try_for_each(|(place, &number)| accept(places[number] == place))

@@ -104,6 +104,11 @@ impl Lent {
         accept(block < self.count)
     }
 
+    /// The marked states of a block, in the order of the elements.
+    pub fn marked(&self, block: usize) -> &[usize] {
+        &self.columns.elements[self.columns.marked_split[block]..self.columns.end[block]]
+    }
+
     /// The Rust's partition, out of the first n cells and the first blocks.
     pub fn partition(&self) -> BlockPartition {
         let Columns { elements, element_offset, element_to_block, begin, marked_split, end } = &self.columns;

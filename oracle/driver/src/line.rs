@@ -56,6 +56,11 @@ impl<'a> Line<'a> {
         self.slice(COLUMN_ROOM, u16::MAX.into())
     }
 
+    /// A byte for each state: the length and the bytes as numbers.
+    pub fn byte_column(&mut self) -> Result<Vec<usize>, Stop> {
+        self.slice(COLUMN_ROOM, u8::MAX.into())
+    }
+
     /// A slice of bytes: its length and its bytes as numbers.
     pub fn text(&mut self) -> Result<Vec<usize>, Stop> {
         self.slice(TEXT_ROOM, u8::MAX.into())

@@ -9,6 +9,7 @@ mod lent;
 mod line;
 mod partition;
 mod run;
+mod split;
 
 use std::io::{self, BufRead, BufWriter, Write};
 
@@ -16,7 +17,7 @@ use line::{Line, Stop};
 use run::Operation;
 
 /// The operations, a table for each file that holds some.
-const TABLES: &[&[(&str, Operation)]] = &[block::OPERATIONS, partition::OPERATIONS];
+const TABLES: &[&[(&str, Operation)]] = &[block::OPERATIONS, partition::OPERATIONS, split::OPERATIONS];
 
 fn case(text: &str) -> Result<String, Stop> {
     let mut line = Line::new(text);

@@ -1,0 +1,108 @@
+// From one line to the next.
+ghost use Prim.Native.Nat.{_≤_};
+ghost use lib.ListN.{length};
+use crate::input::BLANK;
+use crate::input::Buffer;
+use crate::input::END;
+use crate::input::Input;
+use crate::input::NEWLINE;
+use crate::input::TURNS;
+use crate::names;
+use crate::numbers::Cells;
+use crate::output::byte;
+use crate::output::word;
+
+const SHARP: u16 = 35;
+
+// A line of which the name is read: the operation, and the place after the name.
+pub struct Line {
+    pub operation: usize,
+    pub input: Input,
+}
+
+// A line that is answered: the first place of the next one, and how many bytes of the output are not written yet.
+pub struct Answered {
+    pub rest: Input,
+    pub used: usize,
+}
+
+// Whether a line that starts with this byte has no answer.
+fn is_silent(byte: u16) -> bool {
+    if byte == NEWLINE {
+        return true;
+    }
+    byte == SHARP
+}
+
+// The first place of the next line that has an answer, or the end.
+fn skip_silent(first: Input, buffer: &mut Buffer) -> Input {
+    let mut input = first;
+    let mut turns = TURNS;
+    while 0 < turns && is_silent(input.byte) {
+        input = input.skip_line(buffer);
+        turns -= 1;
+    }
+    input
+}
+
+// Whether a byte belongs to a word.
+fn in_word(byte: u16) -> bool {
+    match byte {
+        BLANK => false,
+        NEWLINE => false,
+        END => false,
+        _ => true,
+    }
+}
+
+// The word that starts here, or as much of it as `into` has room for.
+fn read_word(first: Input, buffer: &mut Buffer, into: &mut [u8]) -> Cells
+    ensures { λ r. ⌜ r .count ≤ length (now (into .exit)) ⌝ }
+{
+    let mut input = first;
+    let mut count = 0;
+    while count < into.len() {
+        if !in_word(input.byte) {
+            return Cells { input, count };
+        }
+        into[count] = (input.byte % 256) as u8;
+        input = input.next(buffer);
+        count += 1;
+    }
+    Cells { input, count }
+}
+
+// The next line that has an answer.
+pub fn next_line(rest: Input, buffer: &mut Buffer) -> Line {
+    let start = skip_silent(rest.judged(true), buffer);
+    if start.byte == END {
+        return Line {
+            operation: names::END,
+            input: start,
+        };
+    }
+    let mut name = [0u8; 64];
+    let read = read_word(start, buffer, &mut name);
+    let count = read.count;
+    let input = read.input;
+    Line {
+        operation: names::operation(&name[0..count]),
+        input,
+    }
+}
+
+// A line that is no case.
+pub fn bad_case(rest: Input, out: &mut Buffer, used: usize) -> Answered {
+    Answered {
+        rest,
+        used: word(out, used, b"bad\n"),
+    }
+}
+
+// A line whose answer is written up to its end.
+pub fn end_case(rest: Input, out: &mut Buffer, used: usize) -> Answered {
+    Answered {
+        rest,
+        used: byte(out, used, b'\n'),
+    }
+}

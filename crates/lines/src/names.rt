@@ -1,0 +1,130 @@
+// Which operation a line names. An operation is a number, the hundreds of which are its family.
+ghost use Prim.Native.Nat.{_≤_};
+
+// No further line.
+pub const END: usize = 0;
+
+// A name that no operation has.
+pub const UNKNOWN: usize = 1;
+
+pub const BLOCKS: usize = 100;
+
+pub const BLOCK_NEW: usize = 101;
+
+pub const BLOCK_NEW_UNMARKED: usize = 102;
+
+pub const BLOCK_LEN: usize = 103;
+
+pub const BLOCK_LEN_MARKED: usize = 104;
+
+pub const BLOCK_HAS_MARKED: usize = 105;
+
+pub const BLOCK_HAS_UNMARKED: usize = 106;
+
+pub const PARTITIONS: usize = 200;
+
+pub const NEW: usize = 201;
+
+pub const MARK_ELEMENT: usize = 202;
+
+pub const SWAP_BLOCKS: usize = 203;
+
+pub const NUM_OF_BLOCKS: usize = 204;
+
+pub const LEN: usize = 205;
+
+pub const BLOCK_NUMBER: usize = 206;
+
+pub const IS_ELEMENT_MARKED: usize = 207;
+
+pub const READ_BLOCK: usize = 208;
+
+pub const ITER_BLOCK: usize = 209;
+
+pub const ITER_BLOCK_REFUSAL: usize = 210;
+
+// The operations that take more slices than a partition's: one with text, with work, and with a choice.
+pub const TEXTS: usize = 300;
+
+pub const DISPLAY: usize = 301;
+
+pub const DIVISIONS: usize = 400;
+
+pub const SPLITS: usize = 500;
+
+// The operation with this name. The names of a family stand in the order of their numbers, each with a blank after it.
+pub fn operation(name: &[u8]) -> usize {
+    let block = place(
+        name,
+        b"Block::new Block::new_unmarked Block::len Block::len_marked \
+          Block::has_marked Block::has_unmarked ",
+    );
+    if block != 0 {
+        return BLOCKS + block;
+    }
+    let partition = place(
+        name,
+        b"BlockPartition::new mark_element swap_blocks \
+          num_of_blocks len block_number is_element_marked \
+          read_block iter_block iter_block_refusal ",
+    );
+    if partition != 0 {
+        return PARTITIONS + partition;
+    }
+    larger(name)
+}
+
+// The operation with this name among those that take more slices.
+fn larger(name: &[u8]) -> usize {
+    if place(name, b"display ") != 0 {
+        return DISPLAY;
+    }
+    if place(name, b"partition_marked_with ") != 0 {
+        return DIVISIONS;
+    }
+    if place(name, b"split_marked ") != 0 {
+        return SPLITS;
+    }
+    UNKNOWN
+}
+
+// The family of an operation.
+pub fn family(operation: usize) -> usize {
+    operation / 100 * 100
+}
+
+const DIFFERENT: usize = usize::MAX;
+
+// The place of a name among at most 99 names, from 1 on; 0 where it is not there.
+fn place(name: &[u8], names: &[u8]) -> usize
+    ensures { λ r. ⌜ r ≤ 99 ⌝ }
+{
+    let mut passed = 0;
+    let mut agreed = 0;
+    let mut i = 0;
+    while i < names.len() {
+        let byte = names[i];
+        if byte == b' ' {
+            if agreed == name.len() {
+                return passed % 99 + 1;
+            }
+            passed += 1;
+            agreed = 0;
+            i += 1;
+        } else {
+            agreed = agreeing(name, agreed, byte);
+            i += 1;
+        }
+    }
+    0
+}
+
+// How many bytes of a name agree, with one byte more.
+fn agreeing(name: &[u8], agreed: usize, byte: u8) -> usize {
+    if agreed < name.len() {
+        if name[agreed] == byte {
+            return agreed + 1;
+        }
+    }
+    DIFFERENT
+}

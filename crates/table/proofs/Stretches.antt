@@ -1,0 +1,140 @@
+-- The rows of a state are a stretch: row i has source s exactly if firstRow s <= i < firstRow (s + 1).
+use Prim.Native.Nat.{ℕ, zero, suc, _+_, _-_, _≤_, _<_}
+use native.Mathlib.Omega.{arith}
+use native.Mathlib.Nat.{eq-or-lt-of-le, le-antisymm}
+use borrow.Author.Tests.{ltb-true, lt-ltb, le-ltb, eqb-true, eq-eqb}
+use mathlib.Core.Path.{_≡_, ap, sym, _∙_}
+use mathlib.Core.Logic.{⊎-elim, _↔_}
+use mathlib.Core.Bool.{Bool, true, false}
+use mathlib.Core.List.{List}
+use lib.Dec.{ltb, eqb}
+use lib.ListN.{getD}
+use Rattle.columns.specs.Counting.{many}
+use Rattle.columns.specs.Sets.{Pair, rowLt, pairLt}
+use Rattle.columns.proofs.All.{not-below}
+use Rattle.columns.proofs.Bools.{contra}
+use Rattle.columns.proofs.Counting.{many-none, many-hit, many-up, many-le, many-mono, first-law}
+use Rattle.columns.proofs.Orders.{lex-split, lex-first, lex-second, ltb-order, pair-order}
+use Rattle.table.specs.Lts.{Lts, rowIn, rowAt, Valid, Rising}
+use Rattle.table.specs.Stretch.{firstRow, nextIncoming}
+
+-- ---- a test that passes for the numbers below r, and for no others
+module _ (f : ℕ → Bool) where
+  many-all : (r : ℕ) → ((i : ℕ) → i < r → f i ≡ true) → many r f ≡ r
+  many-all zero h = many-none f
+  many-all (suc r) h = many-hit r f (h r (omega arith)) ∙ ap suc (many-all r (λ i l. h i (omega arith)))
+
+  pub many-miss : (m : ℕ) → f m ≡ false → many (suc m) f ≡ many m f
+  unfolding many
+  many-miss m e = rw e (omega arith)
+
+  many-rest : (m r : ℕ) → r ≤ m → ((i : ℕ) → r ≤ i → i < m → f i ≡ false) → many m f ≡ many r f
+  many-rest zero r h g = ap (λ (k : ℕ). many k f) (zero-is h)
+    where
+      zero-is : {r : ℕ} → r ≤ 0 → 0 ≡ r
+      zero-is h = omega arith
+  many-rest (suc m) r h g =
+      ⊎-elim (λ (e : r ≡ suc m). ap (λ (k : ℕ). many k f) (sym e))
+      (λ (l : r < suc m). many-miss m (g m (omega arith) (omega arith)) ∙ many-rest m r (omega arith) (λ i a b. g i a (omega arith)))
+      (eq-or-lt-of-le h)
+
+  pub many-front : (m r : ℕ) → r ≤ m → ((i : ℕ) → i < r → f i ≡ true) → ((i : ℕ) → r ≤ i → i < m → f i ≡ false) → r ≡ many m f
+  many-front m r h y n = sym (many-rest m r h n ∙ many-all r y)
+
+-- ---- the first row of a state
+module _ (source : List ℕ) (m : ℕ) where
+  pub first-row-is :
+      (s r : ℕ) → r ≤ m → ((i : ℕ) → i < r → getD source i 0 < s) → ((i : ℕ) → r ≤ i → i < m → s ≤ getD source i 0) → r ≡ firstRow source m s
+  unfolding firstRow
+  first-row-is s r h y n = many-front (λ i. ltb (getD source i 0) s) m r h (λ i l. lt-ltb _ _ (y i l)) (λ i a b. le-ltb _ _ (n i a b))
+
+  pub first-row-most : (s : ℕ) → firstRow source m s ≤ m
+  unfolding firstRow
+  first-row-most s = many-le m (λ i. ltb (getD source i 0) s)
+
+  module _ (up : Rising source m) where
+    -- a row is before the first row of s exactly if its source is below s
+    pub before-row : (s i : ℕ) → i < m → getD source i 0 < s → i < firstRow source m s
+    unfolding firstRow
+    before-row s i h l =
+        let f : ℕ → Bool = λ i. ltb (getD source i 0) s in
+        omega (arith, many-up (suc i) m f h, many-all f (suc i) (λ j k. lt-ltb (getD source j 0) s (omega (arith, l, up j i (omega arith) h))))
+
+    pub from-row : (s i : ℕ) → i < m → s ≤ getD source i 0 → firstRow source m s ≤ i
+    unfolding firstRow
+    from-row s i h l =
+        let f : ℕ → Bool = λ i. ltb (getD source i 0) s in
+        omega (arith, many-rest f m i (omega arith) (λ j a b. le-ltb (getD source j 0) s (omega (arith, l, up i j a b))), many-le i f)
+
+    -- row i has source s exactly if firstRow s <= i < firstRow (s + 1)
+    pub stretch : (s i : ℕ) → i < m → (getD source i 0 ≡ s) ↔ ((firstRow source m s ≤ i) × (i < firstRow source m (s + 1)))
+    stretch s i h = (
+      λ e. (from-row s i h (omega (arith, e)), before-row (s + 1) i h (omega (arith, e))),
+      λ b. equal (not-below (λ l. omega (arith, b .0, before-row s i h l))) (not-below (λ l. omega (arith, b .1, from-row (s + 1) i h (omega (arith, l))))),
+    )
+      where
+        equal : {x y : ℕ} → y ≤ x → x ≤ y → x ≡ y
+        equal a b = omega arith
+
+    -- the rows of s stand before those of s + 1
+    pub first-row-up : (s : ℕ) → firstRow source m s ≤ firstRow source m (s + 1)
+    unfolding firstRow
+    first-row-up s =
+        many-mono m (λ i. ltb (getD source i 0) s) (λ i. ltb (getD source i 0) (s + 1)) (λ i h e. lt-ltb (getD source i 0) (s + 1) (omega (arith, ltb-true (getD source i 0) s e)))
+
+-- the sources of a checked table never fall
+pub rising : (t : Lts) → Valid t → Rising (t .source) (t .m)
+unfolding rowIn rowLt
+rising t v i j h l =
+    ⊎-elim (λ (e : i ≡ j). omega (arith, ap (λ (k : ℕ). getD (t .source) k 0) e))
+    (λ (k : i < j).
+    ⊎-elim (λ (q : ltb (getD (t .source) i 0) (getD (t .source) j 0) ≡ true). omega (arith, ltb-true (getD (t .source) i 0) (getD (t .source) j 0) q))
+    (λ q. omega (arith, q .0)) (lex-split ltb pairLt ltb-order pair-order (rowAt t i) (rowAt t j) (v .ascending i j k l)))
+    (eq-or-lt-of-le h)
+
+-- ---- the next incoming row
+-- r is the least row at or after `from` whose target is u, or m
+pub record Next (target : List ℕ) (m u from r : ℕ) : Type 0 where
+  pub low : from ≤ r
+  pub most : r ≤ m
+  pub before : (i : ℕ) → from ≤ i → i < r → getD target i 0 ≡ u → ⊥
+  pub hit : r < m → getD target r 0 ≡ u
+
+module _ (target : List ℕ) (m u from : ℕ) (fits : from ≤ m) where
+  pub next-law : Next target m u from (nextIncoming target m u from)
+  unfolding nextIncoming
+  next-law =
+      let f : ℕ → Bool = λ k. eqb (getD target (from + k) 0) u in
+      let q = first-law (m - from) f in
+      record {
+        low = omega arith;
+        most = omega (arith, q .bound);
+        before = λ i a b e. contra (eq-eqb _ _ (ap (λ (k : ℕ). getD target k 0) (whole a) ∙ e)) (q .before (i - from) (omega (arith, a, b)));
+        hit = λ h. eqb-true _ _ (q .hit (omega (arith, h)));
+      }
+    where
+      whole : {i : ℕ} → from ≤ i → from + (i - from) ≡ i
+      whole h = omega arith
+
+  -- and no other number is
+  pub next-is : (r : ℕ) → Next target m u from r → r ≡ nextIncoming target m u from
+  next-is r n =
+      let q = next-law in
+      le-antisymm
+      (not-below (λ l. n .before (nextIncoming target m u from) (q .low) l (q .hit (omega (arith, l, n .most)))))
+      (not-below (λ l. q .before r (n .low) l (n .hit (omega (arith, l, q .most)))))
+
+-- so the incoming rows of a state come by ascending source, then label
+pub incoming-up :
+    (t : Lts) → Valid t → (i j : ℕ) → i < j → j < t .m → getD (t .target) i 0 ≡ getD (t .target) j 0
+    → pairLt (getD (t .source) i 0, getD (t .label) i 0) (getD (t .source) j 0, getD (t .label) j 0) ≡ true
+unfolding rowIn rowLt pairLt
+incoming-up t v i j h l e =
+    let x : Pair = (getD (t .source) i 0, getD (t .label) i 0) in
+    let y : Pair = (getD (t .source) j 0, getD (t .label) j 0) in
+    ⊎-elim (λ (q : ltb (x .0) (y .0) ≡ true). lex-first ltb ltb ltb-order ltb-order x y q)
+    (λ q. lex-second ltb ltb ltb-order ltb-order x y (q .0)
+    (⊎-elim (λ (k : ltb (x .1) (y .1) ≡ true). k)
+    (λ k. absurd (contra (k .1) (ap (λ (z : ℕ). ltb z (getD (t .target) j 0)) e ∙ ltb-order .irrefl (getD (t .target) j 0))))
+    (lex-split ltb ltb ltb-order ltb-order (rowAt t i .1) (rowAt t j .1) (q .1))))
+    (lex-split ltb pairLt ltb-order pair-order (rowAt t i) (rowAt t j) (v .ascending i j h l))

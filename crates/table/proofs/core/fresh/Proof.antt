@@ -1,0 +1,48 @@
+-- `core.fresh` meets its contract.
+use borrow.Author.Needs.{needs}
+use borrow.Author.Tests.{eq-eqb, ne-eqb, not-true, not-false}
+use mathlib.Core.Path.{sym, ap, _∙_}
+use native.Mathlib.Omega.{arith}
+use Prim.Native.Nat.{ℕ}
+use lib.ListN.{getD}
+use Rattle.columns.proofs.Bools.{and-both, and-no-left, and-no-right}
+use Rattle.table.specs.Reach.{takes}
+use Rattle.table.specs.Search.{freshb}
+use Rattle.table.proofs.core.fresh.Statement.{statement}
+use Rattle.table.proofs.core.fresh.Tie as tie
+
+taken-requires : tie.Need-taken-requires
+taken-requires c κs = search needs
+
+returns : tie.Need-returns
+unfolding freshb
+returns c = let a = c .before .before .before .before .before in
+    sym (and-no-left (takes (a .args .hidden) (getD (a .args .label .now) (a .args .i) 0)) _ (sym (c .before .taken .ensures) ∙ not-true _ (c .if1 .taken)))
+
+at-requires : tie.Need-at-requires
+at-requires c κs = search needs
+
+at-requires-2 : tie.Need-at-requires-2
+at-requires-2 c κs = let a = c .before .before .before .before .before .before in
+    omega (arith, c .at .ensures .0, a .pre .2)
+
+returns-2 : tie.Need-returns-2
+unfolding freshb
+returns-2 c = let a = c .before .before .before .before .before .before .before .before in
+    sym (and-both (sym (c .before .before .before .before .taken .ensures) ∙ not-false _ (c .before .before .before .if1 .left)) (eq-eqb _ _ (sym (ap (λ (u : ℕ). getD (a .args .marks .now) u 0) (c .before .before .at .ensures .0)) ∙ (sym (c .before .at2 .ensures .0) ∙ c .if2 .taken))))
+
+returns-3 : tie.Need-returns-3
+unfolding freshb
+returns-3 c = let a = c .before .before .before .before .before .before .before .before in
+    sym (and-no-right (takes (a .args .hidden) (getD (a .args .label .now) (a .args .i) 0)) _ (ne-eqb _ _ (λ e. c .if2 .left (c .before .at2 .ensures .0 ∙ (ap (λ (u : ℕ). getD (a .args .marks .now) u 0) (c .before .before .at .ensures .0) ∙ e)))))
+
+pub fresh-spec : {M : Type 1} → statement M
+fresh-spec =
+    tie.close
+    (tie.spec
+    taken-requires
+    returns
+    at-requires
+    at-requires-2
+    returns-2
+    returns-3)

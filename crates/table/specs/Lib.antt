@@ -1,0 +1,6 @@
+pub mod Lts
+pub mod Checks
+pub mod Stretch
+pub mod Incoming
+pub mod Reach
+pub mod Search

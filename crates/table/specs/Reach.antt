@@ -1,0 +1,55 @@
+-- Which states a state reaches, along all rows or along hidden rows only.
+use mathlib.Core.Path.{_≡_}
+use mathlib.Core.Bool.{Bool, true, not, _&&_, _||_}
+use mathlib.Core.List.{List, [], _∷_}
+use Prim.Native.Nat.{ℕ, zero, suc}
+use lib.Dec.{ltb, eqb}
+use lib.ListN.{length, getD}
+use Rattle.columns.specs.declared.answers.Refusal.{Refusal}
+use Rattle.columns.specs.Answers.{Said, refusal, none, unless, bit, leaving}
+use Rattle.columns.specs.Columns.{written, zeros}
+use Rattle.columns.specs.Counting.{first, many}
+use Rattle.table.specs.Lts.{Lts}
+use Rattle.table.specs.Checks.{checkedTable, roomb}
+
+module _ (edge : ℕ → ℕ → Bool) where
+  -- a walk along edges, perhaps of none
+  pub data Walk : ℕ → ℕ → Type 0 where
+    stop : {s : ℕ} → Walk s s
+    along : {s u v : ℕ} → edge s u ≡ true → Walk u v → Walk s v
+
+  -- s reaches u with stops below k between them
+  unfoldable pub via : ℕ → ℕ → ℕ → Bool
+  via zero s u = eqb s u || edge s u
+  via (suc k) s u = via k s u || (via k s k && via k k u)
+
+-- a row with label a is taken: any row, or a hidden one only
+unfoldable pub takes : Bool → ℕ → Bool
+takes hidden a = not hidden || eqb a 0
+
+-- row i is taken and leads from s to u
+unfoldable pub leads : Lts → Bool → ℕ → ℕ → ℕ → Bool
+unfolding takes
+leads t hidden s u i =
+    eqb (getD (t .source) i 0) s && (eqb (getD (t .target) i 0) u && takes hidden (getD (t .label) i 0))
+
+-- some row does
+unfoldable pub edge : Lts → Bool → ℕ → ℕ → Bool
+unfolding first leads
+edge t hidden s u = ltb (first (t .m) (leads t hidden s u)) (t .m)
+
+unfoldable pub reaches : Lts → Bool → ℕ → ℕ → Bool
+unfolding via edge
+reaches t hidden s u = via (edge t hidden) (t .n) s u
+
+unfoldable pub reachRefusal : Lts → ℕ → ℕ → ℕ → Refusal
+unfolding checkedTable roomb
+reachRefusal t s result work =
+    checkedTable t (roomb (t .n) (t .m) (t .n) result work) (unless (ltb s (t .n)) (refusal 8 s) none)
+
+-- 1 for each state that is reached and 0 for each other, over the first n cells; how many; and the work slice is zero
+unfoldable pub reachable : Lts → Bool → ℕ → List ℕ → List ℕ → Said × (List ℕ × List ℕ)
+unfolding leaving reachRefusal many reaches written
+reachable t hidden s reached queue =
+    leaving (reachRefusal t s (length reached) (length queue)) (reached, queue) (many (t .n) (reaches t hidden s) ∷ [])
+    (written (t .n) (λ u. bit (reaches t hidden s u)) reached, zeros (length queue))

@@ -1,0 +1,164 @@
+// What other crates call once a table is checked. No entry points: each says what it requires.
+ghost use mathlib.Core.Path.{_≡_};
+ghost use Prim.Native.Nat.{_+_, _*_, _/_, _≤_, _<_};
+ghost use lib.ListN.{length, getD};
+ghost use Rattle.columns.specs.Answers.{bit};
+ghost use Rattle.columns.specs.Columns.{listed, sortBy, wiped};
+ghost use Rattle.columns.specs.Counting.{many};
+ghost use Rattle.table.specs.Lts.{lts, Valid, Rising};
+ghost use Rattle.table.specs.Reach.{takes, reaches};
+ghost use Rattle.table.specs.Search.{Search, freshb};
+ghost use Rattle.table.specs.Stretch.{firstRow, nextIncoming};
+use crate::Table;
+use columns::cells::at;
+use columns::cells::clear;
+use columns::cells::count_up;
+use columns::sorting::sort;
+
+// How many of the first m rows have a source below s. The rows of s are those from first_row(s) to first_row(s + 1).
+pub fn first_row(source: &[u16], m: usize, s: usize) -> usize
+    requires { ⌜ (m ≤ length (now source)) × Rising (now source) m ⌝ }
+    ensures { λ r. ⌜ r ≡ firstRow (now (source .entry)) m s ⌝ }
+{
+    let mut low = 0;
+    let mut high = m;
+    while low < high {
+        let mid = low + (high - low) / 2;
+        if at(source, mid) < s {
+            low = mid + 1;
+        } else {
+            high = mid;
+        }
+    }
+    low
+}
+
+// The least of the first m rows, at or after `from`, whose target is u; m if there is none. The incoming rows of a state
+// come by ascending source, then label.
+pub fn next_incoming(target: &[u16], m: usize, u: usize, from: usize) -> usize
+    requires { ⌜ (m ≤ length (now target)) × (from ≤ m) ⌝ }
+    ensures { λ r. ⌜ r ≡ nextIncoming (now (target .entry)) m u from ⌝ }
+{
+    let mut i = from;
+    while i < m {
+        if at(target, i) == u {
+            return i;
+        }
+        i += 1;
+    }
+    i
+}
+
+// The numbers of the first rows, as many as `order` has cells, by target, then source, then label. The first half as many
+// cells of `spare` are used, and zero then.
+pub fn sort_incoming(
+    order: &mut [u16],
+    spare: &mut [u16],
+    source: &[u16],
+    label: &[u16],
+    target: &[u16],
+)
+    requires { ⌜ (length (now order) ≤ 65536) × (length (now order) ≤ 2 * length (now spare) + 1) ⌝ }
+    ensures { λ _. ⌜ now (order .exit) ≡ sortBy (now (target .entry)) (now (source .entry)) (now (label .entry)) (listed (length (now (order .entry))) (λ k. k)) ⌝ }
+    ensures { λ _. ⌜ now (spare .exit) ≡ wiped (length (now (order .entry)) / 2) (now (spare .entry)) ⌝ }
+{
+    count_up(&mut *order);
+    sort(order, spare, target, source, label);
+}
+
+// Whether row i is taken: any row, or a hidden one only.
+pub fn taken(label: &[u16], hidden: bool, i: usize) -> bool
+    requires { ⌜ i < length (now label) ⌝ }
+    ensures { λ r. ⌜ r ≡ takes hidden (getD (now (label .entry)) i 0) ⌝ }
+{
+    if !hidden {
+        return true;
+    }
+    if at(label, i) == 0 { true } else { false }
+}
+
+// Whether row i is taken and its target is not yet marked.
+fn fresh(label: &[u16], target: &[u16], marks: &[u16], hidden: bool, i: usize) -> bool
+    requires { ⌜ (i < length (now label)) × (i < length (now target)) × (getD (now target) i 0 < length (now marks)) ⌝ }
+    ensures { λ r. ⌜ r ≡ freshb hidden (now (label .entry)) (now (target .entry)) (now (marks .entry)) i ⌝ }
+{
+    if !taken(label, hidden, i) {
+        return false;
+    }
+    let u = at(target, i);
+    if at(marks, u) == 0 { true } else { false }
+}
+
+// Marks what the state at `head` of the queue leads to, and appends what is new. Returns the queue's new length.
+fn visit(
+    table: Table,
+    source: &[u16],
+    label: &[u16],
+    target: &[u16],
+    hidden: bool,
+    marks: &mut [u16],
+    queue: &mut [u16],
+    head: usize,
+    tail: usize,
+) -> usize
+    requires { ⌜ Valid (lts table (now source) (now label) (now target)) × (head < tail) ⌝ }
+    requires { ⌜ Search (lts table (now source) (now label) (now target)) hidden (getD (now queue) 0 0) (now marks) (now queue) head tail ⌝ }
+    ensures { λ r. ⌜ Search (lts table (now (source .entry)) (now (label .entry)) (now (target .entry))) hidden (getD (now (queue .entry)) 0 0) (now (marks .exit)) (now (queue .exit)) (head + 1) r ⌝ }
+{
+    let m = table.m as usize;
+    let s = at(&*queue, head);
+    let mut i = first_row(source, m, s);
+    let end = first_row(source, m, s + 1);
+    let mut high = tail;
+    while i < end {
+        if fresh(label, target, &*marks, hidden, i) {
+            let u = at(target, i);
+            marks[u] = 1;
+            queue[high] = u as u16;
+            high += 1;
+            i += 1;
+        } else {
+            i += 1;
+        }
+    }
+    high
+}
+
+// The states that a state reaches, along all rows or hidden rows only: 1 for each in `marks`, 0 for each other. Returns how
+// many. The first n cells of `queue` are used.
+pub fn reach(
+    table: Table,
+    source: &[u16],
+    label: &[u16],
+    target: &[u16],
+    hidden: bool,
+    state: usize,
+    marks: &mut [u16],
+    queue: &mut [u16],
+) -> usize
+    requires { ⌜ Valid (lts table (now source) (now label) (now target)) × (state < table .n) ⌝ }
+    requires { ⌜ (length (now marks) ≡ table .n) × (table .n ≤ length (now queue)) ⌝ }
+    ensures { λ r. ⌜ r ≡ many (table .n) (reaches (lts table (now (source .entry)) (now (label .entry)) (now (target .entry))) hidden state) ⌝ }
+    ensures { λ _. ⌜ now (marks .exit) ≡ listed (table .n) (λ u. bit (reaches (lts table (now (source .entry)) (now (label .entry)) (now (target .entry))) hidden state u)) ⌝ }
+{
+    clear(&mut *marks);
+    marks[state] = 1;
+    queue[0] = state as u16;
+    let mut head = 0;
+    let mut tail = 1;
+    while head < tail {
+        tail = visit(
+            table,
+            source,
+            label,
+            target,
+            hidden,
+            &mut *marks,
+            &mut *queue,
+            head,
+            tail,
+        );
+        head += 1;
+    }
+    tail
+}

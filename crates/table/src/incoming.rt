@@ -1,0 +1,36 @@
+// The incoming list: all row numbers by target, then source, then label.
+ghost use mathlib.Core.Path.{_≡_};
+ghost use Rattle.columns.specs.Answers.{saidNumber};
+ghost use Rattle.table.specs.Incoming.{incomingRows};
+ghost use Rattle.table.specs.Lts.{lts};
+use crate::Table;
+use crate::checks::check;
+use crate::checks::room;
+use crate::core::sort_incoming;
+use columns::answers::NumberAnswer;
+use columns::answers::number_of;
+use columns::answers::refusing_number;
+use columns::cells::clear;
+
+// All row numbers, by target, then source, then label, over the first m cells of `incoming`. Answers m.
+pub fn incoming(
+    table: Table,
+    source: &[u16],
+    label: &[u16],
+    target: &[u16],
+    incoming: &mut [u16],
+    spare: &mut [u16],
+) -> NumberAnswer
+    ensures { λ r. ⌜ (saidNumber r, (now (incoming .exit), now (spare .exit))) ≡ incomingRows (lts table (now (source .entry)) (now (label .entry)) (now (target .entry))) (now (incoming .entry)) (now (spare .entry)) ⌝ }
+{
+    let m = table.m as usize;
+    let enough = room(table, m, incoming.len(), spare.len());
+    let t = check(table, source, label, target, enough);
+    let number = t.number;
+    if number != 0 {
+        return refusing_number(t);
+    }
+    clear(&mut *spare);
+    sort_incoming(&mut incoming[..m], &mut *spare, source, label, target);
+    number_of(table.m)
+}

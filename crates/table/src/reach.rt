@@ -1,0 +1,75 @@
+// Which states a state reaches, along all rows or along hidden rows only.
+ghost use mathlib.Core.Path.{_≡_};
+ghost use Rattle.columns.specs.Answers.{saidNumber};
+ghost use Rattle.table.specs.Lts.{lts};
+ghost use Rattle.table.specs.Reach.{reachRefusal, reachable};
+use crate::Table;
+use crate::checks::check;
+use crate::checks::room;
+use crate::core::reach;
+use columns::answers::NumberAnswer;
+use columns::answers::Refusal;
+use columns::answers::number;
+use columns::answers::refuse;
+use columns::answers::refusing_number;
+use columns::cells::clear;
+
+// The refusal of a call with the table and a state, a result column of n cells and a work slice, given by their lengths.
+fn reach_refusal(
+    table: Table,
+    source: &[u16],
+    label: &[u16],
+    target: &[u16],
+    state: usize,
+    result: usize,
+    work: usize,
+) -> Refusal
+    ensures { λ r. ⌜ r ≡ reachRefusal (lts table (now (source .entry)) (now (label .entry)) (now (target .entry))) state result work ⌝ }
+{
+    let n = table.n as usize;
+    let enough = room(table, n, result, work);
+    let t = check(table, source, label, target, enough);
+    let refused = t.number;
+    if refused != 0 {
+        return t;
+    }
+    if n <= state {
+        return refuse(8, state as u64);
+    }
+    refuse(0, 0)
+}
+
+// The states that a state reaches by a walk of rows, perhaps of none: over the first n cells of `reached`, 1 for each and 0
+// for each other. With `hidden` only rows with label 0 are walked. Answers how many are reached.
+pub fn reachable(
+    table: Table,
+    source: &[u16],
+    label: &[u16],
+    target: &[u16],
+    hidden: bool,
+    state: u16,
+    reached: &mut [u16],
+    queue: &mut [u16],
+) -> NumberAnswer
+    ensures { λ r. ⌜ (saidNumber r, (now (reached .exit), now (queue .exit))) ≡ reachable (lts table (now (source .entry)) (now (label .entry)) (now (target .entry))) hidden state (now (reached .entry)) (now (queue .entry)) ⌝ }
+{
+    let n = table.n as usize;
+    let s = state as usize;
+    let t = reach_refusal(table, source, label, target, s, reached.len(), queue.len());
+    let refused = t.number;
+    if refused != 0 {
+        return refusing_number(t);
+    }
+    let count = reach(
+        table,
+        source,
+        label,
+        target,
+        hidden,
+        s,
+        &mut reached[..n],
+        &mut *queue,
+    );
+    clear(&mut *queue);
+    number(count as u64)
+}

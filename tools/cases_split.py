@@ -1,0 +1,190 @@
+"""Cases of the operations that split a block: every small one, equal sizes, the limits, random ones, faulty ones."""
+from itertools import chain, combinations, product
+
+import partitions
+import splits
+from cases_partition import every_changed_cell, every_short_column, good_arguments, large, small_size, sound
+from operations import COLUMN_ROOM, Case
+from partitions import DAMAGES, LARGEST, copied, laid_out, lengthen, random_partition, random_split
+from refusals import COLUMNS, MOST_STATES, WORK, marked
+from splits import junk_bytes, junk_cells, put
+
+
+def works(rng, n):
+    """Work slices of exact length, with junk."""
+    return {slice: junk_cells(rng, n, n + 1) for slice in WORK}
+
+
+def with_numbers(rng, v, numbers):
+    """The case in which the block's marked states, ascending, have these numbers; the others have junk."""
+    return {**v, 'numbers': put(junk_cells(rng, v['n'], v['n']), sorted(marked(v)), numbers), **works(rng, v['n'])}
+
+
+def with_choice(rng, v, cells):
+    """The case in which the block's marked states, in the order of the elements, have these bytes; junk for others."""
+    return {**v, 'choice': put(junk_bytes(rng, v['n']), marked(v), cells)}
+
+
+def every_numbering(rng, v):
+    """Up to three states: all numbers up to 3 and the largest. Four: all that are dense, and junk for one alone."""
+    size = len(marked(v))
+    if v['n'] <= 3:
+        return product((0, 1, 2, 3, LARGEST), repeat=size)
+    alone = v['end'][v['block']] - v['begin'][v['block']] == 1
+    return [junk_cells(rng, v['n'], size)] if alone else splits.dense_numberings(size)
+
+
+def every_choice(rng, v):
+    """Up to three states: all of 0, 1 and 255. Four: chosen or not, by 1 or by another byte."""
+    return product((0, 1, 255) if v['n'] <= 3 else (0, rng.choice((1, 1, 2, 255))), repeat=len(marked(v)))
+
+
+def every_small(operation, rng):
+    """Every partition of up to four states with every block, and every numbering or choice of what is marked."""
+    every, made = (every_choice, with_choice) if 'choice' in operation.parameters else (every_numbering, with_numbers)
+    for n in (1, 2, 3, 4):
+        for v in partitions.every(n):
+            for block in range(v['count']):
+                v['block'] = block
+                yield from (made(rng, v, cells) for cells in every(rng, v))
+
+
+def every_block_outside(operation, rng):
+    """Every partition of up to three states with a block of the count, and the largest number."""
+    for n in (1, 2, 3):
+        for v in partitions.every(n):
+            chosen = good_arguments(rng, operation, v)
+            yield from ({**v, **chosen, 'block': outside} for outside in (v['count'], LARGEST))
+
+
+def every_size(rng):
+    """Up to three unmarked states, then up to four numbers of one to three states each: equal sizes in each place."""
+    for unmarked, most in product(range(4), (1, 2, 3, 4)):
+        for sizes in product((1, 2, 3), repeat=most):
+            numbers = [number for number, size in enumerate(sizes) for _ in range(size)]
+            rng.shuffle(numbers)
+            yield with_numbers(rng, among_blocks(rng, unmarked, len(numbers)), numbers)
+
+
+def among_blocks(rng, unmarked, size):
+    """A block of so many unmarked and so many marked states, with other blocks before it, after it, or none."""
+    begin, after = rng.randint(0, 2), rng.randint(0, 2)
+    end = begin + unmarked + size
+    block, order = (begin, begin + unmarked, end), list(range(end + after))
+    others = [(first, random_split(rng, first, last), last) for first, last in ((0, begin), (end, end + after))
+              if first < last]
+    blocks = [block, *others]
+    rng.shuffle(blocks)
+    rng.shuffle(order)
+    return {**laid_out(order, blocks, rng.choice((0, LARGEST))), 'block': blocks.index(block)}
+
+
+def every_short_slice(operation, rng):
+    """The slices besides the columns exact, one short, empty, or one longer, in all combinations."""
+    v = laid_out([1, 0], [(0, 1, 2)])
+    chosen = good_arguments(rng, operation, v)
+    names = [name for name in splits.SLICES if name in chosen]
+    for changes in product((0, -1, None, 1), repeat=len(names)):
+        needed = {name: v['n'] + (name in WORK) for name in names}
+        lengths = {name: 0 if change is None else needed[name] + change for name, change in zip(names, changes)}
+        yield {**v, **chosen, **{name: (chosen[name] + [1, 1])[:length] for name, length in lengths.items()}}
+
+
+def at_limit(operation, rng):
+    """One block of the greatest n, marked from its begin, from the next state, from the middle: orderly arguments."""
+    for split in (0, 1, MOST_STATES // 2):
+        order = list(range(MOST_STATES))
+        rng.shuffle(order)
+        v, size = {**laid_out(order, [(0, split, MOST_STATES)]), 'block': 0}, MOST_STATES - split
+        places = range(size)
+        if 'choice' in operation.parameters:
+            choices = ([0] * size, [255] * size, [1, 0] * size, [1, *[0] * size], [*[0] * (size - 1), 1])
+            yield from (with_choice(rng, v, cells) for cells in choices)
+        else:
+            numbers = (places, places[::-1], [0] * size, [place % 2 for place in places],
+                       [place // 64 for place in places], [place + 1 for place in places])
+            yield from (with_numbers(rng, v, cells) for cells in numbers)
+
+
+def at_room(operation, rng):
+    """The greatest n with every slice as long as `replay` takes it, and with one slice that is one short."""
+    v = random_partition(rng, MOST_STATES, 3)
+    v |= good_arguments(rng, operation, v)
+    names = [name for name in COLUMNS + splits.SLICES if name in v]
+    yield {**v, **{name: v[name] + [1] * (COLUMN_ROOM - len(v[name])) for name in names}}
+    yield {**v, names[-1]: v[names[-1]][:MOST_STATES if names[-1] in WORK else MOST_STATES - 1]}
+
+
+def shorten(rng, v):
+    """One slice, or several: one short, empty, or anything between."""
+    names = [name for name in COLUMNS + splits.SLICES if name in v]
+    for name in rng.sample(names, rng.choice((1, 1, 1, 2, len(names)))):
+        needed = max(v['n'] + (name in WORK), 1)
+        del v[name][rng.choice((needed - 1, 0, rng.randrange(needed))):]
+
+
+def damage(rng, v):
+    rng.choice(DAMAGES)(rng, v)
+
+
+# What makes each refusal due, in an order in which all can be done.
+FAULTS = {
+    10: splits.make_gap, 9: splits.unmark, 8: splits.block_outside, 14: damage, 7: shorten, 1: partitions.n_outside,
+}
+
+
+def faults_of(operation):
+    return [fault for number, fault in FAULTS.items() if 'numbers' in operation.parameters or number not in (9, 10)]
+
+
+def faulty(operation, rng, wrong):
+    """A random case with these faults."""
+    v = random_partition(rng, small_size(rng))
+    v = lengthen(rng, v) if rng.random() < 0.5 else v
+    v = copied({**v, **good_arguments(rng, operation, v)})
+    for fault in wrong:
+        fault(rng, v)
+    return v
+
+
+def several_faults(operation, rng):
+    """Every set of faults, thirty times."""
+    faults = faults_of(operation)
+    sets = chain.from_iterable(combinations(faults, size) for size in range(len(faults) + 1))
+    for wrong, _ in product(sets, range(30)):
+        yield faulty(operation, rng, wrong)
+
+
+def damaged(operation, rng, number):
+    """Random cases with one fault, or with two."""
+    faults = faults_of(operation)
+    for _ in range(number):
+        first, second = rng.sample(range(len(faults)), 2)
+        both = [faults[place] for place in sorted((first, second))]
+        yield faulty(operation, rng, both if rng.random() < 0.2 else [faults[first]])
+
+
+def values(operation, rng, number):
+    yield from every_small(operation, rng)
+    yield from every_block_outside(operation, rng)
+    yield from chain.from_iterable(every_size(rng) for _ in range(5) if 'numbers' in operation.parameters)
+    yield from every_changed_cell(operation, rng)
+    yield from every_short_column(operation, rng)
+    yield from every_short_slice(operation, rng)
+    yield from large(operation, rng)
+    yield from at_limit(operation, rng)
+    yield from at_room(operation, rng)
+    yield from sound(operation, rng, number)
+    yield from several_faults(operation, rng)
+    yield from damaged(operation, rng, number // 2)
+
+
+def example(operation):
+    """A sound case of the operation."""
+    v = {**laid_out([2, 3, 0, 1], [(0, 1, 3), (3, 4, 4)]), 'block': 0}
+    arguments = {'numbers': [1, 9, 9, 0], 'choice': [1, 9, 9, 0], **{slice: [7] * 5 for slice in WORK}}
+    return {**v, **{name: value for name, value in arguments.items() if name in operation.parameters}}
+
+
+def cases(operation, rng, number):
+    return (Case(operation, v) for v in values(operation, rng, number))
