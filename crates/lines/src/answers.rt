@@ -6,8 +6,6 @@ use columns::answers::NumberAnswer;
 use columns::answers::NumberOutcome;
 use columns::answers::Outcome;
 use columns::answers::Refusal;
-use division::DivisionAnswer;
-use division::DivisionOutcome;
 use partition::PartitionAnswer;
 use partition::PartitionOutcome;
 use partition::block::BlockAnswer;
@@ -20,7 +18,8 @@ pub struct Said {
     pub numbers: [u64; 6],
 }
 
-fn done(count: usize, a: u64, b: u64, c: u64) -> Said {
+// What is done, with the first `count` of three numbers.
+pub fn done(count: usize, a: u64, b: u64, c: u64) -> Said {
     let numbers = [a, b, c, 0, 0, 0];
     Said {
         refused: false,
@@ -29,7 +28,8 @@ fn done(count: usize, a: u64, b: u64, c: u64) -> Said {
     }
 }
 
-fn refused(refusal: Refusal) -> Said {
+// What is refused.
+pub fn refused(refusal: Refusal) -> Said {
     let numbers = [refusal.number, refusal.place, 0, 0, 0, 0];
     Said {
         refused: true,
@@ -82,17 +82,5 @@ pub fn partition(answer: PartitionAnswer) -> Said {
             done(2, partition.n as u64, partition.count as u64, 0)
         }
         PartitionOutcome::Refused(refusal) => refused(refusal),
-    }
-}
-
-pub fn division(answer: DivisionAnswer) -> Said {
-    let outcome = answer.outcome;
-    match outcome {
-        DivisionOutcome::Done {
-            index,
-            first,
-            count,
-        } => done(3, index, first, count),
-        DivisionOutcome::Refused(refusal) => refused(refusal),
     }
 }

@@ -3,7 +3,11 @@ ghost use Rattle.io.specs.Counts.{Counts};
 use cases::partition_cases::Column;
 use cases::partition_cases::read_case;
 use cases::partition_cases::show_all;
-use lines::answers::division;
+use division::DivisionAnswer;
+use division::DivisionOutcome;
+use lines::answers::Said;
+use lines::answers::done;
+use lines::answers::refused;
 use lines::input::Buffer;
 use lines::input::Input;
 use lines::lines::Answered;
@@ -12,6 +16,19 @@ use lines::lines::bad_case;
 use lines::lines::end_case;
 use lines::output::column;
 use lines::output::said;
+
+// The answer as numbers.
+fn answered_by(answer: DivisionAnswer) -> Said {
+    let outcome = answer.outcome;
+    match outcome {
+        DivisionOutcome::Done {
+            index,
+            first,
+            count,
+        } => done(3, index, first, count),
+        DivisionOutcome::Refused(refusal) => refused(refusal),
+    }
+}
 
 // How many cells of the numbers and of each work slice are lent, and the first place of the next line.
 struct Work {
@@ -104,7 +121,7 @@ pub fn replay(line: Line, buffer: &mut Buffer, out: &mut Buffer, used: usize) ->
         &mut h[..to_h],
         &mut k[..to_k],
     );
-    let answered = said(out, used, division(answer));
+    let answered = said(out, used, answered_by(answer));
     let shown = show_all(case, &a, &b, &c, &d, &e, &f, out, answered);
     let worked = show_work(work, &g, &h, &k, out, shown);
     end_case(rest, out, worked)
