@@ -7,7 +7,6 @@ ghost use Rattle.division.specs.Division.{saidDivision, countAfter, work
 
 pub mod checks;
 pub mod core;
-pub mod passes;
 
 use crate::checks::division_refusal;
 use columns::answers::Refusal;
