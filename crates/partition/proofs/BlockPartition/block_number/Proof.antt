@@ -11,7 +11,6 @@ use Rattle.columns.specs.Answers.{bit}
 use Rattle.partition.specs.Checks.{stateRefusal}
 use Rattle.partition.specs.Partition.{Partition, parts}
 use Rattle.partition.specs.Readers.{blockNumber}
-use Rattle.columns.specs.declared.answers.Refusal.{Refusal}
 use Rattle.partition.proofs.Refusals.{state-ready}
 use Rattle.partition.proofs.BlockPartition.block_number.Statement.{statement}
 use Rattle.partition.proofs.BlockPartition.block_number.Tie as tie
@@ -43,7 +42,7 @@ mul-number-of c = search needs
 
 shared-slice-read-number-of : tie.Need-shared-slice-read-number-of
 shared-slice-read-number-of c = let a = c .before .before .before .before .before .before .before .before .before .before .before in
-    let q = state-ready (P a) (a .args .element) (sym (ap (λ (r : Refusal). r .number) (c .before .before .state-refusal .ensures)) ∙ c .before .if1 .left) in
+    let q = state-ready (P a) (a .args .element) _ (c .before .before .state-refusal .ensures) (c .before .if1 .left) in
     omega (arith, q .known, q .sound .long .element-to-block)
 
 number-of-requires : tie.Need-number-of-requires

@@ -11,7 +11,6 @@ use Rattle.columns.specs.Answers.{bit}
 use Rattle.partition.specs.Checks.{stateRefusal}
 use Rattle.partition.specs.Partition.{Partition, parts}
 use Rattle.partition.specs.Readers.{isElementMarked}
-use Rattle.columns.specs.declared.answers.Refusal.{Refusal}
 use mathlib.Core.Bool.{Bool}
 use Rattle.columns.specs.Answers.{done}
 use Rattle.partition.specs.Readers.{unmarkedb}
@@ -44,17 +43,17 @@ returns c = let a = c .before .before .before .before .before .before .before .b
 
 at-requires : tie.Need-at-requires
 at-requires c κs = let a = c .before .before .before .before .before .before .before .before .before .before in
-    let q = state-ready (P a) (a .args .element) (sym (ap (λ (r : Refusal). r .number) (c .before .state-refusal .ensures)) ∙ c .if1 .left) in
+    let q = state-ready (P a) (a .args .element) _ (c .before .state-refusal .ensures) (c .if1 .left) in
     omega (arith, q .known, q .sound .long .element-to-block)
 
 at-requires-2 : tie.Need-at-requires-2
 at-requires-2 c κs = let a = c .before .before .before .before .before .before .before .before .before .before .before in
-    let q = state-ready (P a) (a .args .element) (sym (ap (λ (r : Refusal). r .number) (c .before .before .state-refusal .ensures)) ∙ c .before .if1 .left) in
+    let q = state-ready (P a) (a .args .element) _ (c .before .before .state-refusal .ensures) (c .before .if1 .left) in
     omega (arith, q .known, q .sound .long .element-offset)
 
 at-requires-3 : tie.Need-at-requires-3
 at-requires-3 c κs = let a = c .before .before .before .before .before .before .before .before .before .before .before .before in
-    let q = state-ready (P a) (a .args .element) (sym (ap (λ (r : Refusal). r .number) (c .before .before .before .state-refusal .ensures)) ∙ c .before .before .if1 .left) in
+    let q = state-ready (P a) (a .args .element) _ (c .before .before .before .state-refusal .ensures) (c .before .before .if1 .left) in
     block-known (P a) _ _ (c .before .at .ensures .0) (q .sound) (q .known)
 
 flag-requires : tie.Need-flag-requires

@@ -2,7 +2,6 @@
 use borrow.Author.Needs.{needs}
 use mathlib.Core.Path.{_≡_, refl, sym, ap, _∙_}
 use native.Mathlib.Omega.{arith}
-use Rattle.columns.specs.declared.answers.Refusal.{Refusal}
 use Rattle.partition.specs.Partition.{Partition, parts}
 use Rattle.partition.proofs.Refusals.{block-ready}
 use Rattle.partition.proofs.Stretches.{iter-refused, iter-done}
@@ -38,12 +37,12 @@ returns c = let a = c .before .before .before .before .before .before .before .b
 
 at-requires : tie.Need-at-requires
 at-requires c κs = let a = c .before .before .before .before .before .before .before .before .before .before in
-    let q = block-ready (P a) (a .args .block-index) (sym (ap (λ (r : Refusal). r .number) (c .before .block-refusal .ensures)) ∙ c .if1 .left) in
+    let q = block-ready (P a) (a .args .block-index) _ (c .before .block-refusal .ensures) (c .if1 .left) in
     omega (arith, q .known, q .sound .consistent .most, q .sound .long .begin)
 
 at-requires-2 : tie.Need-at-requires-2
 at-requires-2 c κs = let a = c .before .before .before .before .before .before .before .before .before .before .before in
-    let q = block-ready (P a) (a .args .block-index) (sym (ap (λ (r : Refusal). r .number) (c .before .before .block-refusal .ensures)) ∙ c .before .if1 .left) in
+    let q = block-ready (P a) (a .args .block-index) _ (c .before .before .block-refusal .ensures) (c .before .if1 .left) in
     omega (arith, q .known, q .sound .consistent .most, q .sound .long .end)
 
 mul-result : tie.Need-mul-result
@@ -51,17 +50,17 @@ mul-result c = search needs
 
 sub-result-2 : tie.Need-sub-result-2
 sub-result-2 c = let a = c .before .before .before .before .before .before .before .before .before .before .before .before in
-    let q = block-ready (P a) (a .args .block-index) (sym (ap (λ (r : Refusal). r .number) (c .before .before .before .block-refusal .ensures)) ∙ c .before .before .if1 .left) in
+    let q = block-ready (P a) (a .args .block-index) _ (c .before .before .before .block-refusal .ensures) (c .before .before .if1 .left) in
     let w = q .sound .consistent .bounds (a .args .block-index) (q .known) in omega (arith, w, c .before .at .ensures, c .at2 .ensures)
 
 part-result-start-2 : tie.Need-part-result-start-2
 part-result-start-2 c = let a = c .before .before .before .before .before .before .before .before .before .before .before .before in
-    let q = block-ready (P a) (a .args .block-index) (sym (ap (λ (r : Refusal). r .number) (c .before .before .before .block-refusal .ensures)) ∙ c .before .before .if1 .left) in
+    let q = block-ready (P a) (a .args .block-index) _ (c .before .before .before .block-refusal .ensures) (c .before .before .if1 .left) in
     let w = q .sound .consistent .bounds (a .args .block-index) (q .known) in omega (arith, w, c .before .at .ensures, c .at2 .ensures)
 
 part-result-end-2 : tie.Need-part-result-end-2
 part-result-end-2 c = let a = c .before .before .before .before .before .before .before .before .before .before .before .before in
-    let q = block-ready (P a) (a .args .block-index) (sym (ap (λ (r : Refusal). r .number) (c .before .before .before .block-refusal .ensures)) ∙ c .before .before .if1 .left) in
+    let q = block-ready (P a) (a .args .block-index) _ (c .before .before .before .block-refusal .ensures) (c .before .before .if1 .left) in
     let w = q .sound .consistent .bounds (a .args .block-index) (q .known) in omega (arith, w, q .sound .long .elements, c .at2 .ensures)
 
 returns-2 : tie.Need-returns-2

@@ -2,7 +2,6 @@
 use borrow.Author.Needs.{needs}
 use mathlib.Core.Path.{_≡_, refl, sym, ap, _∙_}
 use mathlib.Core.List.{[], _∷_}
-use Rattle.columns.specs.declared.answers.Refusal.{Refusal}
 use Rattle.columns.proofs.Saying.{left-refused, left-done}
 use Rattle.partition.specs.Checks.{stateRefusal}
 use Rattle.partition.specs.Partition.{Partition, parts}
@@ -44,7 +43,7 @@ returns c = let a = c .before .before .before .before .before .before .before .b
 
 mark-element-requires : tie.Need-mark-element-requires
 mark-element-requires c κs = let a = c .before .before .before .before .before .before .before .before .before .before .before .before .before .before .before .before in
-    let q = state-ready (P a) (a .args .element) (sym (ap (λ (r : Refusal). r .number) (c .before .before .before .before .state-refusal .ensures)) ∙ c .before .before .before .if1 .left) in
+    let q = state-ready (P a) (a .args .element) _ (c .before .before .before .before .state-refusal .ensures) (c .before .before .before .if1 .left) in
     (q .sound, q .known)
 
 finished-requires : tie.Need-finished-requires

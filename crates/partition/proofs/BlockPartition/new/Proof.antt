@@ -2,7 +2,6 @@
 use borrow.Author.Needs.{needs}
 use mathlib.Core.Path.{_≡_, refl, sym, ap, _∙_}
 use mathlib.Core.List.{[], _∷_}
-use Rattle.columns.specs.declared.answers.Refusal.{Refusal}
 use Rattle.columns.proofs.Saying.{left-refused, left-done}
 use Rattle.partition.specs.Partition.{Partition, parts}
 use Rattle.partition.specs.Fresh.{fresh, newRefusal, newPartition}
@@ -43,7 +42,7 @@ returns c = let a = c .before .before .before .before .before .before .before .b
 
 new-requires : tie.Need-new-requires
 new-requires c κs = let a = c .before .before .before .before .before .before .before .before .before .before .before .before .before .before .before .before .before .before .before .before in
-    let q = new-ready (P a) (sym (ap (λ (r : Refusal). r .number) (c .before .before .before .before .before .before .before .new-refusal .ensures)) ∙ c .before .before .before .before .before .before .if1 .left) in
+    let q = new-ready (P a) _ (c .before .before .before .before .before .before .before .new-refusal .ensures) (c .before .before .before .before .before .before .if1 .left) in
     (q .long, (q .some, q .small))
 
 same-length-7 : tie.Need-same-length-7

@@ -4,7 +4,6 @@ use mathlib.Core.Path.{_≡_, refl, sym, ap, _∙_}
 use native.Mathlib.Omega.{arith}
 use mathlib.Core.List.{[], _∷_}
 use lib.ListN.{getD}
-use Rattle.columns.specs.declared.answers.Refusal.{Refusal}
 use Rattle.columns.proofs.Saying.{asked-refused, asked-done}
 use Rattle.columns.specs.Answers.{done}
 use Rattle.partition.specs.Checks.{blockRefusal}
@@ -44,7 +43,7 @@ returns c = let a = c .before .before .before .before .before .before .before .b
 
 read-block-requires : tie.Need-read-block-requires
 read-block-requires c κs = let a = c .before .before .before .before .before .before .before .before .before .before in
-    let q = block-ready (P a) (a .args .block-index) (sym (ap (λ (r : Refusal). r .number) (c .before .block-refusal .ensures)) ∙ c .if1 .left) in
+    let q = block-ready (P a) (a .args .block-index) _ (c .before .block-refusal .ensures) (c .if1 .left) in
     omega (arith, q .known, q .sound .consistent .most, q .sound .long .begin, q .sound .long .marked-split, q .sound .long .end)
 
 returns-2 : tie.Need-returns-2

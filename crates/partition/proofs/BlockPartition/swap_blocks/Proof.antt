@@ -2,7 +2,6 @@
 use borrow.Author.Needs.{needs}
 use mathlib.Core.Path.{_≡_, refl, sym, ap, _∙_}
 use mathlib.Core.List.{[], _∷_}
-use Rattle.columns.specs.declared.answers.Refusal.{Refusal}
 use Rattle.columns.proofs.Saying.{left-refused, left-done}
 use Rattle.partition.specs.Checks.{blocksRefusal}
 use Rattle.partition.specs.Partition.{Partition, parts}
@@ -47,7 +46,7 @@ returns c = let a = c .before .before .before .before .before .before .before .b
 
 swap-blocks-requires : tie.Need-swap-blocks-requires
 swap-blocks-requires c κs = let a = c .before .before .before .before .before .before .before .before .before .before .before .before .before .before .before .before .before .before in
-    let q = blocks-ready (P a) (a .args .left-index) (a .args .right-index) (sym (ap (λ (r : Refusal). r .number) (c .before .before .before .before .before .blocks-refusal .ensures)) ∙ c .before .before .before .before .if1 .left) in
+    let q = blocks-ready (P a) (a .args .left-index) (a .args .right-index) _ (c .before .before .before .before .before .blocks-refusal .ensures) (c .before .before .before .before .if1 .left) in
     (q .sound, (q .left, q .right))
 
 finished-requires : tie.Need-finished-requires
