@@ -1,6 +1,7 @@
 // The operations on a partition. Its columns `elements`, `element_offset`, `element_to_block`, `begin`, `marked_split`
 // and `end` are called a, b, c, d, e and f here.
 ghost use Rattle.io.specs.Counts.{Counts};
+use block_partition::BlockPartition;
 use lines::answers::block;
 use lines::answers::flag;
 use lines::answers::number;
@@ -16,7 +17,6 @@ use lines::names;
 use lines::output::column;
 use lines::output::part;
 use lines::output::said;
-use partition::BlockPartition;
 
 // What a column is read into.
 pub type Column = [u16; 5000];

@@ -1,4 +1,6 @@
 // Answers as numbers.
+use block_partition::PartitionAnswer;
+use block_partition::PartitionOutcome;
 use columns::answers::Answer;
 use columns::answers::FlagAnswer;
 use columns::answers::FlagOutcome;
@@ -6,8 +8,6 @@ use columns::answers::NumberAnswer;
 use columns::answers::NumberOutcome;
 use columns::answers::Outcome;
 use columns::answers::Refusal;
-use partition::PartitionAnswer;
-use partition::PartitionOutcome;
 use partition::block::BlockAnswer;
 use partition::block::BlockOutcome;
 

@@ -1,16 +1,10 @@
 // The calls that read a partition and change nothing.
 ghost use mathlib.Core.Path.{_≡_};
 ghost use Rattle.columns.specs.Answers.{said, saidNumber, saidFlag};
 ghost use Rattle.partition.specs.Block.{saidBlock};
 ghost use Rattle.partition.specs.Partition.{parts};
 ghost use Rattle.partition.specs.Readers.{numOfBlocks, lenOf, blockNumber, isElementMarked, readBlock, iterBlock, iterBlockRefusal};
 use crate::BlockPartition;
-use crate::block::BlockAnswer;
-use crate::block::BlockOutcome;
-use crate::checks::block_refusal;
-use crate::checks::check;
-use crate::checks::state_refusal;
-use crate::core;
 use columns::answers::Answer;
 use columns::answers::FlagAnswer;
 use columns::answers::NumberAnswer;
@@ -21,6 +15,12 @@ use columns::answers::refusing;
 use columns::answers::refusing_flag;
 use columns::answers::refusing_number;
 use columns::cells::at;
+use partition::block::BlockAnswer;
+use partition::block::BlockOutcome;
+use partition::checks::block_refusal;
+use partition::checks::check;
+use partition::checks::state_refusal;
+use partition::core;
 
 impl BlockPartition {
     // The number of blocks.

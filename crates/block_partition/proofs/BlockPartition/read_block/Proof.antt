@@ -6,16 +6,16 @@ use mathlib.Core.List.{[], _∷_}
 use lib.ListN.{getD}
 use Rattle.columns.proofs.Saying.{asked-refused, asked-done}
 use Rattle.columns.specs.Answers.{done}
 use Rattle.partition.specs.Checks.{blockRefusal}
 use Rattle.partition.specs.Block.{blockValues}
 use Rattle.partition.specs.declared.block.Block.{Block}
 use Rattle.partition.specs.Partition.{Partition, parts}
 use Rattle.partition.specs.Readers.{readBlock}
 use Rattle.partition.proofs.Refusals.{block-ready}
 use mathlib.Core.List.{List}
 use Prim.Native.Nat.{ℕ}
-use Rattle.partition.proofs.BlockPartition.read_block.Statement.{statement}
-use Rattle.partition.proofs.BlockPartition.read_block.Tie as tie
+use Rattle.block_partition.proofs.BlockPartition.read_block.Statement.{statement}
+use Rattle.block_partition.proofs.BlockPartition.read_block.Tie as tie
 
 -- the partition that is lent
 abbrev P : tie.Start → Partition

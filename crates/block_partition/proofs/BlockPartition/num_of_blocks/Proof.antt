@@ -8,11 +8,11 @@ use lib.Dec.{ltb}
 use mathlib.Core.Bool.{not}
 use Rattle.columns.proofs.Saying.{asked-refused, asked-done}
 use Rattle.columns.specs.Answers.{bit}
 use Rattle.partition.specs.Checks.{partitionRefusal}
 use Rattle.partition.specs.Partition.{Partition, parts}
 use Rattle.partition.specs.Readers.{numOfBlocks}
-use Rattle.partition.proofs.BlockPartition.num_of_blocks.Statement.{statement}
-use Rattle.partition.proofs.BlockPartition.num_of_blocks.Tie as tie
+use Rattle.block_partition.proofs.BlockPartition.num_of_blocks.Statement.{statement}
+use Rattle.block_partition.proofs.BlockPartition.num_of_blocks.Tie as tie
 
 -- the partition that is lent
 abbrev P : tie.Start → Partition

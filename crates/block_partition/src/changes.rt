@@ -1,20 +1,21 @@
 // The calls that change a partition.
 ghost use mathlib.Core.Path.{_≡_};
 ghost use Rattle.columns.specs.Answers.{said};
-ghost use Rattle.partition.specs.Fresh.{saidPartition, newPartition};
+ghost use Rattle.block_partition.specs.Saying.{saidPartition};
+ghost use Rattle.partition.specs.Fresh.{newPartition};
 ghost use Rattle.partition.specs.Mark.{markElement};
 ghost use Rattle.partition.specs.Partition.{parts};
 ghost use Rattle.partition.specs.SwapBlocks.{swapBlocks};
 use crate::BlockPartition;
 use crate::PartitionAnswer;
 use crate::PartitionOutcome;
-use crate::checks::blocks_refusal;
-use crate::checks::new_refusal;
-use crate::checks::state_refusal;
-use crate::core;
 use columns::answers::Answer;
 use columns::answers::finished;
 use columns::answers::refusing;
+use partition::checks::blocks_refusal;
+use partition::checks::new_refusal;
+use partition::checks::state_refusal;
+use partition::core;
 
 impl BlockPartition {
     // One block 0 of all n states, in order, all marked.

@@ -2,11 +2,11 @@
 use borrow.Author.Needs.{needs}
 use mathlib.Core.Path.{_≡_, refl, sym, ap, _∙_}
 use native.Mathlib.Omega.{arith}
 use Rattle.partition.specs.Partition.{Partition, parts}
 use Rattle.partition.proofs.Refusals.{block-ready}
 use Rattle.partition.proofs.Stretches.{iter-refused, iter-done}
-use Rattle.partition.proofs.BlockPartition.iter_block.Statement.{statement}
-use Rattle.partition.proofs.BlockPartition.iter_block.Tie as tie
+use Rattle.block_partition.proofs.BlockPartition.iter_block.Statement.{statement}
+use Rattle.block_partition.proofs.BlockPartition.iter_block.Tie as tie
 
 -- the partition that is lent
 abbrev P : tie.Start → Partition

@@ -8,16 +8,16 @@ use lib.Dec.{ltb}
 use mathlib.Core.Bool.{not}
 use Rattle.columns.proofs.Saying.{asked-refused, asked-done}
 use Rattle.columns.specs.Answers.{bit}
 use Rattle.partition.specs.Checks.{stateRefusal}
 use Rattle.partition.specs.Partition.{Partition, parts}
 use Rattle.partition.specs.Readers.{isElementMarked}
 use mathlib.Core.Bool.{Bool}
 use Rattle.columns.specs.Answers.{done}
 use Rattle.partition.specs.Readers.{unmarkedb}
 use Rattle.partition.proofs.Refusals.{state-ready}
 use Rattle.partition.proofs.Marks.{block-known, marked-read}
-use Rattle.partition.proofs.BlockPartition.is_element_marked.Statement.{statement}
-use Rattle.partition.proofs.BlockPartition.is_element_marked.Tie as tie
+use Rattle.block_partition.proofs.BlockPartition.is_element_marked.Statement.{statement}
+use Rattle.block_partition.proofs.BlockPartition.is_element_marked.Tie as tie
 
 -- the partition that is lent
 abbrev P : tie.Start → Partition

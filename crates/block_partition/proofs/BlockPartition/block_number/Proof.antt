@@ -8,12 +8,12 @@ use lib.Dec.{ltb}
 use mathlib.Core.Bool.{not}
 use Rattle.columns.proofs.Saying.{asked-refused, asked-done}
 use Rattle.columns.specs.Answers.{bit}
 use Rattle.partition.specs.Checks.{stateRefusal}
 use Rattle.partition.specs.Partition.{Partition, parts}
 use Rattle.partition.specs.Readers.{blockNumber}
 use Rattle.partition.proofs.Refusals.{state-ready}
-use Rattle.partition.proofs.BlockPartition.block_number.Statement.{statement}
-use Rattle.partition.proofs.BlockPartition.block_number.Tie as tie
+use Rattle.block_partition.proofs.BlockPartition.block_number.Statement.{statement}
+use Rattle.block_partition.proofs.BlockPartition.block_number.Tie as tie
 
 -- the partition that is lent
 abbrev P : tie.Start → Partition

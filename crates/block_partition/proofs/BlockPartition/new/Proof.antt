@@ -3,11 +3,11 @@ use borrow.Author.Needs.{needs}
 use mathlib.Core.Path.{_≡_, refl, sym, ap, _∙_}
 use mathlib.Core.List.{[], _∷_}
 use Rattle.columns.proofs.Saying.{left-refused, left-done}
 use Rattle.partition.specs.Partition.{Partition, parts}
 use Rattle.partition.specs.Fresh.{fresh, newRefusal, newPartition}
 use Rattle.partition.proofs.Refusals.{new-ready}
-use Rattle.partition.proofs.BlockPartition.new.Statement.{statement}
-use Rattle.partition.proofs.BlockPartition.new.Tie as tie
+use Rattle.block_partition.proofs.BlockPartition.new.Statement.{statement}
+use Rattle.block_partition.proofs.BlockPartition.new.Tie as tie
 
 -- the partition that is lent
 abbrev P : tie.Start → Partition

@@ -3,12 +3,12 @@ use borrow.Author.Needs.{needs}
 use mathlib.Core.Path.{_≡_, refl, sym, ap, _∙_}
 use mathlib.Core.List.{[], _∷_}
 use Rattle.columns.proofs.Saying.{left-refused, left-done}
 use Rattle.partition.specs.Checks.{blocksRefusal}
 use Rattle.partition.specs.Partition.{Partition, parts}
 use Rattle.partition.specs.SwapBlocks.{swap, swapBlocks}
 use Rattle.partition.proofs.Refusals.{blocks-ready}
-use Rattle.partition.proofs.BlockPartition.swap_blocks.Statement.{statement}
-use Rattle.partition.proofs.BlockPartition.swap_blocks.Tie as tie
+use Rattle.block_partition.proofs.BlockPartition.swap_blocks.Statement.{statement}
+use Rattle.block_partition.proofs.BlockPartition.swap_blocks.Tie as tie
 
 -- the partition that is lent
 abbrev P : tie.Start → Partition
