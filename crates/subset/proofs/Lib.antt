@@ -3,4 +3,5 @@ pub mod Risings
 pub mod Refusals
 pub mod Walking
 pub mod Subsets
+pub mod Listing
 pub mod Examples

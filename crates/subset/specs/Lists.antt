@@ -36,8 +36,12 @@ listsRefusal starts n labels blocks next =
     leastBad (n + 1) (badStart starts (endOf labels blocks))
     (leastBad (endOf labels blocks) (badInLists starts n labels blocks) next)
 
+-- the starts never fall, and none is past the end
+pub record Starts (starts : List ℕ) (n end : ℕ) : Type 0 where
+  pub rising : (u v : ℕ) → u ≤ v → v ≤ n → startAt starts u ≤ startAt starts v
+  pub inside : (u : ℕ) → u ≤ n → startAt starts u ≤ end
+
 -- what a call may go by once the lists are checked
 pub record Lists (starts : List ℕ) (n : ℕ) (labels blocks : List ℕ) : Type 0 where
-  pub rising : (u v : ℕ) → u ≤ v → v ≤ n → startAt starts u ≤ startAt starts v
-  pub inside : (u : ℕ) → u ≤ n → startAt starts u ≤ endOf labels blocks
+  pub bounds : Starts starts n (endOf labels blocks)
   pub ascending : (u : ℕ) → u < n → Ascending pairLt (listAt starts labels blocks u)

@@ -1,6 +1,7 @@
 // Whether one signature is in another, and 15 for lists of pairs.
 pub mod checks;
 pub mod core;
+pub mod lists;
 pub mod pairs;
 ghost use mathlib.Core.Path.{_≡_};
 ghost use Rattle.columns.specs.Answers.{saidFlag};
