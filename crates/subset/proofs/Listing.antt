@@ -2,24 +2,21 @@
 use Prim.Native.Nat.{ℕ, zero, suc, _+_, _-_, _≤_, _<_}
 use native.Mathlib.Omega.{arith}
 use native.Mathlib.Nat.{eq-or-lt-of-le}
-use native.Mathlib.Numerals.{add-one}
-use borrow.Author.Tests.{ltb-true, ltb-false, lt-ltb, le-ltb}
-use mathlib.Core.Bool.{Bool, true, false, _&&_, _||_}
-use mathlib.Core.Path.{_≡_, refl, ap, ap₂, sym, _∙_}
+use borrow.Author.Tests.{ltb-true, lt-ltb, le-ltb}
+use mathlib.Core.Bool.{Bool, true, false, _&&_}
+use mathlib.Core.Path.{_≡_, ap, ap₂, sym, _∙_}
 use mathlib.Core.Logic.{⊎-elim}
 use mathlib.Core.List.{List}
 use lib.Dec.{ltb}
 use Rattle.columns.specs.declared.answers.Refusal.{Refusal}
 use Rattle.columns.specs.Answers.{refusal, none}
-use Rattle.columns.specs.Columns.{listed}
 use Rattle.columns.specs.Counting.{first}
 use Rattle.columns.specs.Sets.{Pair, pairLt, Ascending}
 use Rattle.columns.proofs.All.{top-or-below, lt-or-le, not-below}
-use Rattle.columns.proofs.Bools.{contra, fails, cases, and-left, and-right, and-both, and-no-left, and-no-right, or-left, or-right}
+use Rattle.columns.proofs.Bools.{contra, fails, cases, and-both, and-no-left, and-no-right, or-left, or-right}
 use Rattle.columns.proofs.Counting.{first-law}
 use Rattle.columns.proofs.Orders.{pair-order}
 use Rattle.subset.specs.Pairs.{endOf, pairAt, badPair, badAt, leastBad}
-use Rattle.subset.specs.Subset.{some}
 use Rattle.subset.specs.Lists.{startAt, listAt, badStart, badInLists, listsRefusal, Starts, Lists}
 use Rattle.subset.proofs.Firsts.{NoneBelow, first-hit, first-none, none-of, some-in, some-none}
 use Rattle.subset.proofs.Refusals.{least-of, least-on, bad-below, bad-past, pair-before, pair-above, above-pair}

@@ -1,30 +1,27 @@
 -- Laws of 15: what holds once a list of pairs is not refused, and how a chain goes on.
-use Prim.Native.Nat.{ℕ, zero, suc, _+_, _-_, _≤_, _<_}
+use Prim.Native.Nat.{ℕ, zero, suc, _-_, _≤_, _<_}
 use native.Mathlib.Omega.{arith}
-use borrow.Author.Tests.{ltb-true, ltb-false, leb-true, leb-false, lt-ltb, le-ltb, le-leb, lt-leb, not-true, not-false}
-use mathlib.Core.Bool.{Bool, true, false, not, _&&_}
-use mathlib.Core.Path.{_≡_, refl, ap, ap₂, sym, _∙_}
-use mathlib.Core.Logic.{_↔_}
+use borrow.Author.Tests.{ltb-true, ltb-false, leb-true, lt-ltb, le-ltb, le-leb, lt-leb, not-false}
+use mathlib.Core.Bool.{Bool, true, false, not, cond}
+use mathlib.Core.Path.{_≡_, refl, ap, sym, _∙_}
 use mathlib.Core.List.{List}
 use lib.Dec.{ltb, leb}
-use lib.ListN.{length, getD}
 use Rattle.columns.specs.declared.answers.Refusal.{Refusal}
 use Rattle.columns.specs.Answers.{refusal, none, unless}
 use Rattle.columns.specs.Counting.{first}
 use Rattle.columns.specs.Rows.{pairsOf}
-use Rattle.columns.specs.Sets.{pairLt, Pair, Ascending}
-use Rattle.columns.proofs.Bools.{contra, and-no-left, and-no-right, and-both, fails}
-use Rattle.columns.proofs.All.{not-below}
+use Rattle.columns.specs.Sets.{pairLt, Ascending}
+use Rattle.columns.proofs.Bools.{and-no-left, and-no-right}
 use Rattle.columns.proofs.Orders.{pair-order}
 use Rattle.subset.specs.Pairs.{shorter, endOf, pairAt, pairs, badPair, badAt, leastBad, listRefusal}
 use Rattle.subset.proofs.Firsts.{NoneBelow, first-none, none-of}
-use Rattle.subset.proofs.Risings.{Stepping, Rising, rising-of, ascending-of, of-ascending}
+use Rattle.subset.proofs.Risings.{rising-of, ascending-of, of-ascending}
 
 pub shorter-left : (a b : ℕ) → shorter a b ≤ a
 unfolding shorter
 shorter-left a b = go (ltb a b) refl
   where
-    go : (t : Bool) → ltb a b ≡ t → mathlib.Core.Bool.cond t a b ≤ a
+    go : (t : Bool) → ltb a b ≡ t → cond t a b ≤ a
     go true e = omega arith
     go false e = ltb-false a b e
 
@@ -32,7 +29,7 @@ pub shorter-right : (a b : ℕ) → shorter a b ≤ b
 unfolding shorter
 shorter-right a b = go (ltb a b) refl
   where
-    go : (t : Bool) → ltb a b ≡ t → mathlib.Core.Bool.cond t a b ≤ b
+    go : (t : Bool) → ltb a b ≡ t → cond t a b ≤ b
     go true e = let h = ltb-true a b e in omega arith
     go false e = omega arith
 
@@ -107,7 +104,7 @@ module _ (labels blocks : List ℕ) where
   list-of next z =
       let p = least-of (endOf labels blocks) (badPair labels blocks 0) next z in (
         ascending-of pairLt (endOf labels blocks) (pairAt labels blocks)
-        (rising-of pairLt pair-order (endOf labels blocks) (pairAt labels blocks) (λ j h. pair-above 0 j (omega arith) (p .0 (suc j) h))),
+            (rising-of pairLt pair-order (endOf labels blocks) (pairAt labels blocks) (λ j h. pair-above 0 j (omega arith) (p .0 (suc j) h))),
         p .1,
       )
 

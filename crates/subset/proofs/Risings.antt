@@ -1,8 +1,8 @@
 -- Lists that are given by index: their members, and that a list ascends exactly if each is above the one before.
-use mathlib.Core.Path.{_≡_, ap, sym, _∙_}
+use mathlib.Core.Path.{_≡_, ap, _∙_}
 use mathlib.Core.Logic.{_⊎_, ⊎-elim}
 use mathlib.Core.Bool.{Bool, true}
-use mathlib.Core.List.{List, [], _∷_, _++_, List·Memᴰ·head, List·Memᴰ·tail, List·Memᴰ·not-nil, List·Memᴰ·append-cases, List·Memᴰ·eq-of-singleton, Memᴰ·append-left, Memᴰ·append-right}
+use mathlib.Core.List.{List, [], _∷_, _++_, List·Memᴰ·head, List·Memᴰ·tail, List·Memᴰ·cases-cons, List·Memᴰ·not-nil, List·Memᴰ·append-cases, List·Memᴰ·eq-of-singleton, Memᴰ·append-left, Memᴰ·append-right}
 use Prim.Native.Nat.{ℕ, zero, suc, _<_}
 use native.Mathlib.Omega.{arith}
 use Rattle.columns.specs.Columns.{listed}
@@ -62,7 +62,7 @@ module _ {A : Type 0} where
     ascending-snoc (y ∷ l) x a = let r = ascending-snoc l x (a .1) in (
       (λ z m. a .0 z (Memᴰ·append-left (x ∷ []) m), r .0),
       λ z m.
-          ⊎-elim (λ (e : z ≡ y). ap (λ (w : A). lt w x) e ∙ a .0 x (Memᴰ·append-right l here)) (λ (k : Mem z l). r .1 z k) (mathlib.Core.List.List·Memᴰ·cases-cons m),
+          ⊎-elim (λ (e : z ≡ y). ap (λ (w : A). lt w x) e ∙ a .0 x (Memᴰ·append-right l here)) (λ (k : Mem z l). r .1 z k) (List·Memᴰ·cases-cons m),
     )
 
     pub ascending-of : (n : ℕ) (f : ℕ → A) → Rising n f → Ascending lt (listed n f)

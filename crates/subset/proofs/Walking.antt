@@ -1,5 +1,5 @@
 -- The walk along two ascending lists, f of n pairs and g of m: what is passed of f is below all that is left of g.
-use Prim.Native.Nat.{ℕ, suc, _+_, _≤_, _<_}
+use Prim.Native.Nat.{ℕ, _+_, _≤_, _<_}
 use native.Mathlib.Omega.{arith}
 use native.Mathlib.Nat.{eq-or-lt-of-le}
 use borrow.Author.Tests.{le-leb, lt-leb, ltb-true, lt-ltb, not-false, not-true}

@@ -6,7 +6,6 @@ use lib.Dec.{ltb, leb}
 use lib.ListN.{length, getD}
 use Rattle.columns.specs.declared.answers.Refusal.{Refusal}
 use Rattle.columns.specs.Answers.{refusal, unless}
-use Rattle.columns.specs.Columns.{listed}
 use Rattle.columns.specs.Counting.{first}
 use Rattle.columns.specs.Rows.{pairsOf}
 use Rattle.columns.specs.Sets.{Pair, pairLt}

@@ -3,6 +3,7 @@ pub mod checks;
 pub mod core;
 pub mod lists;
 pub mod pairs;
+
 ghost use mathlib.Core.Path.{_≡_};
 ghost use Rattle.columns.specs.Answers.{saidFlag};
 ghost use Rattle.subset.specs.Subset.{isSubsetOf};
@@ -29,6 +30,13 @@ pub fn is_subset_of(
     if refused != 0 {
         return refusing_flag(t);
     }
-    let found = subset(self_labels, self_blocks, other_labels, other_blocks, label, block);
+    let found = subset(
+        self_labels,
+        self_blocks,
+        other_labels,
+        other_blocks,
+        label,
+        block,
+    );
     flag(found)
 }

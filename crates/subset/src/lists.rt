@@ -33,7 +33,11 @@ fn bad_start(starts: &[u32], end: usize, u: usize) -> bool
     if u == 0 {
         return false;
     }
-    if x < start(starts, u - 1) { true } else { false }
+    if x < start(starts, u - 1) {
+        true
+    } else {
+        false
+    }
 }
 
 // The first of the first n starts that is bad; n if there is none.

@@ -1,6 +1,5 @@
 // Pairs (label, block) in two lent columns. No entry points: what the checks and the walk read.
 ghost use mathlib.Core.Path.{_≡_};
-ghost use mathlib.Core.Bool.{Bool};
 ghost use Prim.Native.Nat.{_≤_, _<_};
 ghost use lib.ListN.{length};
 ghost use Rattle.columns.specs.Answers.{none};

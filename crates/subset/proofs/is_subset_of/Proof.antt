@@ -24,7 +24,8 @@ returns c = let a = c .before .before .before .before .before .before .before .a
 
 subset-requires : tie.Need-subset-requires
 subset-requires c κs = let a = c .before .before .before .before .before .before .args in
-    checked-of (a .self-labels .now) (a .self-blocks .now) (a .other-labels .now) (a .other-blocks .now) (sym (ap (λ (r : Refusal). r .number) (c .before .subset-refusal .ensures)) ∙ c .if1 .left)
+    let both = checked-of (a .self-labels .now) (a .self-blocks .now) (a .other-labels .now) (a .other-blocks .now) (sym (ap (λ (r : Refusal). r .number) (c .before .subset-refusal .ensures)) ∙ c .if1 .left) in
+    search needs
 
 flag-requires : tie.Need-flag-requires
 flag-requires c κs = search needs

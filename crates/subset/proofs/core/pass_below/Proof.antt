@@ -54,8 +54,11 @@ loop-less c = omega arith
 
 loop-again : tie.Need-loop-again Inv-loop μ-loop
 unfolding pairAt
-loop-again c = ((omega arith, omega arith), none-more (S (c .before .before .before .before .before .before .before .before)) (c .before .before .before .before .before .loop .k) (c .before .before .before .before .before .loop .inv .1)
-    (sym (stays-here (pairAt (c .before .before .before .before .before .before .before .before .args .labels .now) (c .before .before .before .before .before .before .before .before .args .blocks .now)) (c .before .before .before .before .before .before .before .before .args .i) (c .before .before .before .before .before .before .before .before .args .label, c .before .before .before .before .before .before .before .before .args .block) (c .before .before .before .before .before .loop .k) (c .before .before .before .before .before .loop .inv .0 .0)) ∙ (ap not (sym (c .before .below .ensures)) ∙ c .if1 .left)))
+loop-again c = (
+  (omega arith, omega arith),
+  none-more (S (c .before .before .before .before .before .before .before .before)) (c .before .before .before .before .before .loop .k) (c .before .before .before .before .before .loop .inv .1)
+      (sym (stays-here (pairAt (c .before .before .before .before .before .before .before .before .args .labels .now) (c .before .before .before .before .before .before .before .before .args .blocks .now)) (c .before .before .before .before .before .before .before .before .args .i) (c .before .before .before .before .before .before .before .before .args .label, c .before .before .before .before .before .before .before .before .args .block) (c .before .before .before .before .before .loop .k) (c .before .before .before .before .before .loop .inv .0 .0)) ∙ (ap not (sym (c .before .below .ensures)) ∙ c .if1 .left)),
+)
 
 returns-2 : tie.Need-returns-2 Inv-loop μ-loop
 unfolding notBelow

@@ -47,9 +47,11 @@ loop-less : tie.Need-loop-less Inv-loop μ-loop
 loop-less c = omega arith
 
 loop-again : tie.Need-loop-again Inv-loop μ-loop
-loop-again c = let a = c .before .before .before .before .before .before .before .before .before .args in
-    (omega arith, clean-more (a .starts .now) (a .labels .now) (a .blocks .now) (c .before .before .before .before .before .loop .u) (c .before .first-bad .result) (c .before .before .before .start .result) (c .before .before .before .start .ensures)
-    (c .before .first-bad .ensures ∙ ap (λ (x : ℕ). first (c .before .before .before .start .result) (badPair (a .labels .now) (a .blocks .now) x)) (c .before .before .start2 .ensures)) (c .if1 .left) (c .before .before .before .before .before .loop .inv .1))
+loop-again c = let a = c .before .before .before .before .before .before .before .before .before .args in (
+  omega arith,
+  clean-more (a .starts .now) (a .labels .now) (a .blocks .now) (c .before .before .before .before .before .loop .u) (c .before .first-bad .result) (c .before .before .before .start .result) (c .before .before .before .start .ensures)
+      (c .before .first-bad .ensures ∙ ap (λ (x : ℕ). first (c .before .before .before .start .result) (badPair (a .labels .now) (a .blocks .now) x)) (c .before .before .start2 .ensures)) (c .if1 .left) (c .before .before .before .before .before .loop .inv .1),
+)
 
 returns-2 : tie.Need-returns-2 Inv-loop μ-loop
 returns-2 c = let a = c .before .before .before .before .before .args in
