@@ -1,0 +1,13 @@
+pub mod Examples
+pub mod Lists
+pub mod Ordered
+pub mod Visits
+pub mod Machine
+pub mod Turns
+pub mod Rows
+pub mod Successors
+pub mod Cycles
+pub mod Topological
+pub mod Steps
+pub mod Searches
+pub mod Sorts
