@@ -4,10 +4,11 @@ pub mod Ordered
 pub mod Visits
 pub mod Machine
 pub mod Turns
-pub mod Rows
 pub mod Successors
+pub mod Rows
 pub mod Cycles
 pub mod Topological
 pub mod Steps
 pub mod Searches
 pub mod Sorts
+pub mod Calls

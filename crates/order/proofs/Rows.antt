@@ -1,25 +1,43 @@
 -- The successors of a state, row by row, and the loop that pushes them.
 use mathlib.Core.Path.{_≡_, refl, sym, ap, _∙_, subst}
 use mathlib.Core.Logic.{_⊎_, inl, inr, ⊎-elim}
-use mathlib.Core.Bool.{Bool, true, false, cond}
+use mathlib.Core.Bool.{Bool, true, false, not, cond}
 use mathlib.Core.List.{List, [], _∷_, _++_, List·Memᴰ·head, List·Memᴰ·tail, List·Memᴰ·cases-cons, List·Memᴰ·not-nil, List·Memᴰ·append-cases, List·Memᴰ·eq-of-singleton, Memᴰ·append-left, Memᴰ·append-right, append-nil}
 use Prim.Native.Nat.{ℕ, zero, suc, _+_, _-_, _≤_, _<_}
 use native.Mathlib.Nat.{eq-or-lt-of-le}
 use native.Mathlib.Numerals.{add-one}
 use native.Mathlib.Omega.{arith}
 use borrow.Author.Tests.{eq-eqb, ne-eqb}
+use lib.Dec.{eqb}
 use lib.ListN.{length, getD, set, length-append}
 use lib.Seq.{getD-set-same, getD-set-other}
 use Rattle.columns.specs.Columns.{listed}
 use Rattle.columns.specs.Rows.{rowsOf}
 use Rattle.columns.specs.Sets.{Mem, Row}
-use Rattle.table.specs.Lts.{Rising}
+use Rattle.table.specs.Lts.{Lts, Rising, Valid}
+use Rattle.table.specs.Reach.{takes}
 use Rattle.table.specs.Stretch.{firstRow}
-use Rattle.table.proofs.Stretches.{stretch, first-row-most}
+use Rattle.table.proofs.Stretches.{rising, stretch, first-row-most}
+use Rattle.columns.proofs.Bools.{and-no-left, and-no-right}
 use Rattle.order.specs.Order.{counts, passes, succs}
 use Rattle.order.specs.Machine.{stackOf, pushAll, keep, newIn}
 use Rattle.order.specs.Turn.{seenOf, Pushed}
 use Rattle.order.proofs.Turns.{newIn-yes, newIn-no}
+use Rattle.order.proofs.Successors.{of-counts}
+
+-- ---- the mark of a row's target
+module _ (hidden : Bool) (s : ℕ) (marks : List ℕ) (a u : ℕ) where
+  pub seen-skipped : takes hidden a ≡ false → 2 ≡ seenOf hidden s marks a u
+  unfolding seenOf counts
+  seen-skipped e = rw (and-no-left (takes hidden a) (not (eqb u s)) e)
+
+  pub seen-loop : u ≡ s → 2 ≡ seenOf hidden s marks a u
+  unfolding seenOf counts
+  seen-loop e = rw (and-no-right (takes hidden a) (not (eqb u s)) (ap not (eq-eqb u s e)))
+
+  pub seen-mark : (x v : ℕ) → takes hidden a ≡ true → x ≡ u → (x ≡ s → ⊥) → v ≡ getD marks x 0 → v ≡ seenOf hidden s marks a u
+  unfolding seenOf
+  seen-mark x v k e f h = rw (of-counts hidden s a u k (λ q. f (e ∙ sym q))) (h ∙ ap (λ (y : ℕ). getD marks y 0) e)
 
 -- ---- what is appended
 succs-append : (hidden : Bool) (a b : List Row) (s : ℕ) → succs hidden (a ++ b) s ≡ succs hidden a s ++ succs hidden b s
@@ -196,13 +214,19 @@ module _ (hidden : Bool) (source label target : List ℕ) (s : ℕ) where
           go false p q = absurd (omega (arith, q, z))
 
       module _ (m : ℕ) (h : i < m) where
-        pub push-room : v ≡ 0 → suc (length (sofar hidden source label target s i)) ≤ length (sofar hidden source label target s m)
+        push-room : v ≡ 0 → suc (length (sofar hidden source label target s i)) ≤ length (sofar hidden source label target s m)
         unfolding seenOf
         push-room z = go (test i) refl e
           where
             go : (b : Bool) → test i ≡ b → v ≡ cond b (getD marks (getD target i 0) 0) 2 → suc (length (S i)) ≤ length (S m)
             go true p q = omega (arith, grows (i + 1) m (omega arith) .size, ap length (row-hit p), length-append (S i) (getD target i 0 ∷ []))
             go false p q = absurd (omega (arith, q, z))
+
+        -- room for one more successor
+        pub push-fits :
+            v ≡ 0 → (base stack : List ℕ) (top₀ top : ℕ) → Offer (sofar hidden source label target s i) marks base stack top₀ top → (room : ℕ)
+            → top₀ + length (sofar hidden source label target s m) ≤ room → top < room
+        push-fits z base stack top₀ top o room l = omega (arith, push-room z, o .most, l)
 
         offer-clash : v ≡ 1 → (t : ℕ) × Mem t (S m) × (getD marks t 0 ≡ 1)
         unfolding seenOf
@@ -259,3 +283,14 @@ module _ (hidden : Bool) (source label target : List ℕ) (s : ℕ) where
       where
         e : S r ≡ S m
         e = ap S q ∙ sym (high to m (first-row-most source m (s + 1)) (λ i a b j. omega (arith, a, stretch source m up s i b .0 j .1)))
+
+-- ---- a row of the stretch of s
+pub record Own (t : Lts) (s i : ℕ) : Type 0 where
+  pub below : i < t .m
+  pub own : getD (t .source) i 0 ≡ s
+
+pub own-row :
+    (t : Lts) → Valid t → (s first end i : ℕ) → first ≡ firstRow (t .source) (t .m) s → end ≡ firstRow (t .source) (t .m) (s + 1) → first ≤ i → i < end → Own t s i
+own-row t v s first end i p q a b =
+    let h : i < t .m = omega (arith, b, q, first-row-most (t .source) (t .m) (s + 1)) in
+    record { below = h; own = stretch (t .source) (t .m) (rising t v) s i h .1 (omega (arith, a, p), omega (arith, b, q)) }

@@ -5,6 +5,8 @@ use mathlib.Core.Bool.{Bool, true, false}
 use mathlib.Core.List.{List, [], _∷_}
 use Prim.Native.Nat.{ℕ, zero, suc, _+_, _-_, _≤_, _<_}
 use native.Mathlib.Omega.{arith}
+use borrow.Author.Tests.{eqb-true, eqb-false}
+use lib.Dec.{eqb}
 use lib.ListN.{length, getD, set}
 use Rattle.columns.specs.Sets.{Mem}
 use Rattle.columns.proofs.Bools.{contra}
@@ -73,7 +75,7 @@ module _ (t : Lts) (v : Valid t) (hidden : Bool) (marks stack : List ℕ) (top c
     }
 
     module _ (e : k ≡ 0) (after : List ℕ) (high : ℕ) (p : Pushed (next t hidden x) (set marks x 1) stack after top high) where
-      pub turned-cycle : high ≡ 0 → (marks′ st′ : List ℕ) (count′ : ℕ) → Turned (next t hidden) (t .n) (t .m) bound goal marks (stackOf top stack) marks′ st′ count′ true
+      turned-cycle : high ≡ 0 → (marks′ st′ : List ℕ) (count′ : ℕ) → Turned (next t hidden) (t .n) (t .m) bound goal marks (stackOf top stack) marks′ st′ count′ true
       turned-cycle z marks′ st′ count′ =
           let q = p .clash z in
           record {
@@ -82,7 +84,7 @@ module _ (t : Lts) (v : Valid t) (hidden : Bool) (marks stack : List ℕ) (top c
             less = λ q. absurd (contra refl q);
           }
 
-      pub turned-enter : (high ≡ 0 → ⊥) → Turned (next t hidden) (t .n) (t .m) bound goal marks (stackOf top stack) (set marks x 1) (stackOf high after) count false
+      turned-enter : (high ≡ 0 → ⊥) → Turned (next t hidden) (t .n) (t .m) bound goal marks (stackOf top stack) (set marks x 1) (stackOf high after) count false
       turned-enter f = rw (p .pushed f, S) record {
         cycle = λ q. absurd (contra q refl);
         machine = λ _.
@@ -91,3 +93,11 @@ module _ (t : Lts) (v : Valid t) (hidden : Bool) (marks stack : List ℕ) (top c
             enter-less N (t .n) (t .m) bound goal (inside t hidden v) (irreflexive t hidden) marks (stackOf (top - 1) stack) x
             (top-small N (t .n) (t .m) bound goal i) in-marks (sym ek ∙ e);
       }
+
+      -- a cycle was met, or the new successors are pushed
+      pub turned-visit : Turned (next t hidden) (t .n) (t .m) bound goal marks (stackOf top stack) (set marks x 1) (stackOf high after) count (eqb high 0)
+      turned-visit = go (eqb high 0) refl
+        where
+          go : (c : Bool) → eqb high 0 ≡ c → Turned (next t hidden) (t .n) (t .m) bound goal marks (stackOf top stack) (set marks x 1) (stackOf high after) count c
+          go true q = turned-cycle (eqb-true high 0 q) (set marks x 1) (stackOf high after) count
+          go false q = turned-enter (eqb-false high 0 q)
