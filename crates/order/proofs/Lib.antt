@@ -12,3 +12,5 @@ pub mod Steps
 pub mod Searches
 pub mod Sorts
 pub mod Calls
+pub mod Absences
+pub mod Bounds

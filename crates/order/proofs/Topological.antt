@@ -65,6 +65,10 @@ module _ (t : Lts) (v : Valid t) (hidden : Bool) where
         let p = behind-onto N (t .n) order k (omega (arith, h, length-full N (t .n) order has)) in
         (p .0, below N (t .n) order (p .1), p .2)
 
+    -- one order is the other's opposite
+    pub opposite : (s : ℕ) → s < t .n → suc (place t hidden true s + place t hidden false s) ≡ t .n
+    opposite s h = omega (arith, at-reversed s, at-forward s, total s h)
+
     -- the places are a permutation
     pub permutation : (reversed : Bool) → Permutation (t .n) (place t hidden reversed)
     permutation true = record {
