@@ -3,8 +3,8 @@
 use mathlib.Core.Path.{_≡_, refl, sym, ap, _∙_}
 use mathlib.Core.Logic.{⊎-elim}
 use mathlib.Core.Bool.{Bool, true, false}
-use mathlib.Core.List.{List, [], _∷_, List·Memᴰ·head, List·Memᴰ·cases-cons, List·Memᴰ·not-nil}
-use Prim.Native.Nat.{ℕ, zero, suc, _+_, _-_, _≤_, _<_}
+use mathlib.Core.List.{List, [], _∷_, List·Memᴰ·cases-cons, List·Memᴰ·not-nil}
+use Prim.Native.Nat.{ℕ, zero, suc, _-_, _<_}
 use native.Mathlib.Omega.{arith}
 use lib.ListN.{length, getD}
 use Rattle.columns.specs.Sets.{Mem}
@@ -13,8 +13,9 @@ use Rattle.table.specs.Lts.{Lts, Step, Valid, rows}
 use Rattle.table.specs.Reach.{Walk, stop, along, takes, edge}
 use Rattle.table.proofs.Rows.{step-row}
 use Rattle.table.proofs.Walks.{edge-step, takes-hidden}
-use Rattle.order.specs.Order.{isIn, lastFirst, visit, sweep, behind, placeOf, place, next}
+use Rattle.order.specs.Order.{lastFirst, visit, sweep, behind, placeOf, place, next}
 use Rattle.order.specs.Promise.{LongCycle}
+use Rattle.order.proofs.General.{no-members}
 use Rattle.order.proofs.Lists.{not-isIn, behind-head, behind-tail}
 use Rattle.order.proofs.Successors.{succs-row}
 use Rattle.order.proofs.Topological.{opposite}
@@ -50,10 +51,6 @@ sweep-down next e f (suc r) h = ap (visit next f r) (sweep-down next e f r h) �
     new : (f : ℕ) → 0 < f → visit next f r (down r) ≡ r ∷ down r
     new zero h = absurd (omega arith)
     new (suc f) h = rw (not-isIn r (down r) (λ m. omega (arith, down-below r r m)), e r)
-
-no-members : (l : List ℕ) → ((u : ℕ) → Mem u l → ⊥) → l ≡ []
-no-members [] f = refl
-no-members (x ∷ l) f = absurd (f x (List·Memᴰ·head refl))
 
 -- every accepted row is a self-loop
 abbrev pub Still : Lts → Bool → Type 0

@@ -1,13 +1,11 @@
--- How much stack and how many turns a sort takes: at most m + 1 entries at any moment, and at most 2n + m turns. Each turn takes
--- at least one off what is left to do, which is n + m at most, and each of the searches, at most n, puts one entry on. A turn
--- that visits a state finds its stretch, in log m steps, and reads it: all in all (n + m) log m.
+-- How much stack and how many turns a sort takes: at most m + 1 entries at any moment, and at most 2n + m turns. A turn that visits
+-- a state finds its stretch, in log m steps, and reads it, and each state is visited once: all in all (n + m) log m.
 use mathlib.Core.Path.{_≡_}
 use mathlib.Core.Bool.{Bool, true, false, cond}
 use mathlib.Core.List.{List, [], _∷_}
 use Prim.Native.Nat.{ℕ, suc, _+_, _≤_, _<_}
 use native.Mathlib.Omega.{arith}
 use lib.ListN.{length, getD}
-use Rattle.columns.specs.Counting.{sum}
 use Rattle.columns.proofs.Sums.{sum-add, sum-mono, sum-one}
 use Rattle.table.specs.Lts.{Lts, Valid}
 use Rattle.order.specs.Order.{next}
@@ -45,7 +43,18 @@ module _ (t : Lts) (hidden : Bool) where
       one s true = omega arith
       one s false = omega arith
 
-  -- a search starts with one entry
-  pub search-most : (marks : List ℕ) (root : ℕ) → measure (next t hidden) (t .n) marks (root ∷ []) ≡ suc (measure (next t hidden) (t .n) marks [])
+  -- searches that were started, at most n, and turns that were made, each of which lessens the measure (`Turned`)
+  pub data Run : ℕ → ℕ → List ℕ → List ℕ → Type 0 where
+    begun : {marks : List ℕ} → Run 0 0 marks []
+    started : {a b : ℕ} {marks : List ℕ} {root : ℕ} → Run a b marks [] → Run (suc a) b marks (root ∷ [])
+    turned : {a b : ℕ} {marks st marks′ st′ : List ℕ} → Run a b marks st
+        → measure (next t hidden) (t .n) marks′ st′ < measure (next t hidden) (t .n) marks st → Run a (suc b) marks′ st′
+
+  paid : {a b : ℕ} {marks st : List ℕ} → Run a b marks st → b + measure (next t hidden) (t .n) marks st ≤ a + (t .n + t .m)
   unfolding measure
-  search-most marks root = omega arith
+  paid (begun {marks}) = omega (arith, left-most marks)
+  paid (started {a} {b} {marks} {root} r) = omega (arith, paid r)
+  paid (turned r l) = omega (arith, paid r, l)
+
+  pub turns-most : {a b : ℕ} {marks st : List ℕ} → Run a b marks st → a ≤ t .n → b ≤ (t .n + t .n) + t .m
+  turns-most r h = omega (arith, paid r, h)

@@ -1,4 +1,5 @@
 pub mod Examples
+pub mod General
 pub mod Lists
 pub mod Ordered
 pub mod Visits

@@ -1,19 +1,18 @@
--- Lists of numbers: membership as a test, places, visits in order; and a test of some number.
-use mathlib.Core.Path.{_≡_, refl, sym, ap, _∙_}
+-- Lists of numbers: membership as a test, places, visits in order; and a test of some number below a bound.
+use mathlib.Core.Path.{_≡_, refl}
 use mathlib.Core.Logic.{_⊎_, inl, inr, ⊎-elim}
 use mathlib.Core.Bool.{Bool, true, false, _||_}
 use mathlib.Core.List.{List, [], _∷_, List·Memᴰ·head, List·Memᴰ·tail, List·Memᴰ·cases-cons, List·Memᴰ·not-nil}
-use Prim.Native.Nat.{ℕ, zero, suc, _+_, _<_}
+use Prim.Native.Nat.{ℕ, suc, _+_, _<_}
 use native.Mathlib.Omega.{arith}
 use borrow.Author.Tests.{ltb-true, lt-ltb, eqb-true, eq-eqb, ne-eqb}
 use lib.Dec.{eqb}
 use lib.ListN.{length}
-use Rattle.columns.specs.Counting.{first, many}
+use Rattle.columns.specs.Counting.{first}
 use Rattle.columns.specs.Sets.{Mem}
-use Rattle.columns.proofs.All.{top-or-below, same-or-not}
+use Rattle.columns.proofs.All.{same-or-not}
 use Rattle.columns.proofs.Bools.{cases, contra, fails, or-split, or-left, or-right}
-use Rattle.columns.proofs.Counting.{first-law, first-min, many-hit, many-cong}
-use Rattle.table.proofs.Stretches.{many-miss}
+use Rattle.columns.proofs.Counting.{first-law, first-min}
 use Rattle.order.specs.Order.{isIn, behind, ahead, some, lastFirst}
 
 pub isIn-mem : (s : ℕ) (l : List ℕ) → isIn s l ≡ true → Mem s l
@@ -78,21 +77,6 @@ places-add s (x ∷ xs) m = go (places-add s xs) (same-or-not s x)
     go : (Mem s xs → suc (behind s xs + ahead s xs) ≡ length xs) → (s ≡ x) ⊎ (s ≡ x → ⊥) → suc (behind s (x ∷ xs) + ahead s (x ∷ xs)) ≡ suc (length xs)
     go ih (inl e) = rw e (omega (arith, behind-head x xs, ahead-head x xs))
     go ih (inr f) = omega (arith, behind-tail s x xs f, ahead-tail s x xs f, ih (other-tail f m))
-
--- ---- one more number passes
-pub many-one-more :
-    (n x : ℕ) (f g : ℕ → Bool) → x < n → f x ≡ false → g x ≡ true → ((k : ℕ) → (k ≡ x → ⊥) → g k ≡ f k) → many n g ≡ suc (many n f)
-many-one-more zero x f g h p q e = absurd (omega arith)
-many-one-more (suc n) x f g h p q e =
-    ⊎-elim
-    (λ (i : x ≡ n).
-    many-hit n g (ap g (sym i) ∙ q)
-    ∙ ap suc (many-cong n g f (λ k w. e k (λ j. omega (arith, w, i, j))) ∙ sym (many-miss f n (ap f (sym i) ∙ p))))
-    (λ (l : x < n). go (many-one-more n x f g l p q e) (f n) refl (e n (λ j. omega (arith, l, j)))) (top-or-below h)
-  where
-    go : many n g ≡ suc (many n f) → (b : Bool) → f n ≡ b → g n ≡ f n → many (suc n) g ≡ suc (many (suc n) f)
-    go ih true a d = many-hit n g (d ∙ a) ∙ (ap suc ih ∙ ap suc (sym (many-hit n f a)))
-    go ih false a d = many-miss g n (d ∙ a) ∙ (ih ∙ ap suc (sym (many-miss f n a)))
 
 -- ---- some
 pub some-at : (n : ℕ) (p : ℕ → Bool) → some n p ≡ true → (k : ℕ) × (k < n) × (p k ≡ true)

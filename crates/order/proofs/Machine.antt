@@ -1,23 +1,18 @@
--- The turns of the search keep `Machine`.
-use mathlib.Core.Path.{_≡_, refl, sym, ap, _∙_, subst}
+-- Laws of what a search stands on: marks, what is left, the rest of a search, pushes, and visits that can be left out.
+use mathlib.Core.Path.{_≡_, refl, sym, ap, _∙_}
 use mathlib.Core.Logic.{_⊎_, inl, inr, ⊎-elim}
 use mathlib.Core.Bool.{Bool, true, false, cond}
-use mathlib.Core.List.{List, [], _∷_, List·Memᴰ, List·Memᴰ·head, List·Memᴰ·tail, List·Memᴰ·cases-cons, List·Memᴰ·not-nil}
+use mathlib.Core.List.{List, [], _∷_, List·Memᴰ·head, List·Memᴰ·tail, List·Memᴰ·cases-cons, List·Memᴰ·not-nil}
 use Prim.Native.Nat.{ℕ, zero, suc, _+_, _≤_, _<_}
-use native.Mathlib.Nat.{not-suc-le-zero}
-use native.Mathlib.Numerals.{add-one}
 use native.Mathlib.Omega.{arith}
 use borrow.Author.Tests.{eq-eqb, ne-eqb}
 use lib.Dec.{eqb}
-use lib.ListN.{length, getD, set, length-set}
-use lib.Seq.{getD-set-same, getD-set-other}
+use lib.ListN.{length}
 use Rattle.columns.specs.Sets.{Mem}
-use Rattle.table.specs.Reach.{Walk, stop, along}
-use Rattle.columns.specs.Counting.{sum}
 use Rattle.columns.proofs.All.{same-or-not}
 use Rattle.columns.proofs.Bools.{contra}
 use Rattle.columns.proofs.Counting.{sum-pick}
-use Rattle.columns.proofs.Sums.{sum-cong, sum-add, sum-mono}
+use Rattle.columns.proofs.Sums.{sum-cong, sum-add}
 use Rattle.order.specs.Order.{isIn, behind, visit, lastFirst}
 use Rattle.order.specs.Machine.{pushAll, keep, newIn, mark, left, rest}
 use Rattle.order.proofs.Lists.{mem-isIn, not-isIn, isIn-other, mem?, behind-tail}

@@ -1,9 +1,9 @@
 -- Laws of `Ordered`: how many states it has, their places, and that it admits no cycle.
 use mathlib.Core.Path.{_≡_, refl, sym, ap, _∙_, subst}
 use mathlib.Core.Logic.{_⊎_, inl, inr, ⊎-elim}
-use mathlib.Core.Bool.{Bool, true, false}
-use mathlib.Core.List.{List, [], _∷_, List·Memᴰ, List·Memᴰ·head, List·Memᴰ·tail, List·Memᴰ·cases-cons, List·Memᴰ·not-nil}
-use Prim.Native.Nat.{ℕ, zero, suc, _+_, _≤_, _<_}
+use mathlib.Core.Bool.{true}
+use mathlib.Core.List.{List, [], _∷_, List·Memᴰ·head, List·Memᴰ·tail, List·Memᴰ·cases-cons, List·Memᴰ·not-nil}
+use Prim.Native.Nat.{ℕ, suc, _≤_, _<_}
 use native.Mathlib.Nat.{not-suc-le-zero}
 use native.Mathlib.Omega.{arith}
 use lib.ListN.{length}
@@ -15,7 +15,8 @@ use Rattle.columns.proofs.Counting.{many-le, many-nothing}
 use Rattle.table.proofs.Stretches.{many-front}
 use Rattle.order.specs.Order.{isIn, behind}
 use Rattle.order.specs.Machine.{arc, Cycle, cycle, Ordered, none, more}
-use Rattle.order.proofs.Lists.{isIn-mem, mem-isIn, not-isIn, isIn-other, isIn-head, behind-head, behind-tail, places-add, other-tail, many-one-more}
+use Rattle.order.proofs.General.{many-one-more}
+use Rattle.order.proofs.Lists.{isIn-mem, mem-isIn, not-isIn, isIn-other, isIn-head, behind-head, behind-tail, places-add, other-tail}
 
 pub arc-mem : (next : ℕ → List ℕ) (s t : ℕ) → arc next s t ≡ true → Mem t (next s)
 unfolding arc

@@ -1,26 +1,21 @@
 -- The whole sort, on columns: where it starts, and what its marks say at the end.
 use mathlib.Core.Path.{_≡_, refl, sym, ap, _∙_}
-use mathlib.Core.Bool.{Bool, true, false, not, cond}
-use mathlib.Core.List.{List, _++_}
-use Prim.Native.Nat.{ℕ, zero, suc, _+_, _-_, _≤_, _<_}
-use native.Mathlib.Omega.{arith}
-use lib.ListN.{length, getD, drop}
-use Rattle.columns.specs.Columns.{listed, over, written, zeros}
+use mathlib.Core.Bool.{Bool, true, false, not}
+use mathlib.Core.List.{List}
+use Prim.Native.Nat.{ℕ, _+_, _-_, _≤_, _<_}
+use lib.ListN.{getD}
+use Rattle.columns.specs.Columns.{over, written, zeros}
 use Rattle.columns.proofs.Bools.{fails}
 use Rattle.columns.proofs.Lists.{zeros-at}
 use Rattle.table.specs.Lts.{Lts, Valid}
-use Rattle.order.specs.Order.{next, place, placeOf, cyclic}
+use Rattle.order.specs.Order.{next, place, cyclic}
 use Rattle.order.specs.Call.{sorted}
 use Rattle.order.specs.Machine.{Idle}
 use Rattle.order.specs.Turn.{Swept, markPlace}
+use Rattle.order.proofs.General.{listed-cong}
 use Rattle.order.proofs.Turns.{idle-start, all-acyclic, mark-low, mark-high, place-reversed, place-forward}
 use Rattle.order.proofs.Successors.{starts, total-rows}
 use Rattle.order.proofs.Cycles.{long-cycle, cycle-long, cyclic-long}
-
-listed-cong : {A : Type 0} (n : ℕ) (f g : ℕ → A) → ((k : ℕ) → k < n → f k ≡ g k) → listed n f ≡ listed n g
-unfolding listed
-listed-cong zero f g e = refl
-listed-cong (suc n) f g e = rw (listed-cong n f g (λ k h. e k (omega arith)), e n (omega arith))
 
 module _ (t : Lts) (v : Valid t) (hidden : Bool) where
   pub start : (marks : List ℕ) (l : ℕ) → marks ≡ zeros l → Idle (next t hidden) (t .n) (t .m) 0 marks 0

@@ -1,9 +1,9 @@
 -- The successors of a state are the targets of its accepted rows to other states; together they are no more than the rows.
 use mathlib.Core.Path.{_≡_, refl, sym, ap, _∙_, subst}
 use mathlib.Core.Logic.{_⊎_, inl, inr, ⊎-elim}
-use mathlib.Core.Bool.{Bool, true, false, not, _&&_, cond}
+use mathlib.Core.Bool.{Bool, true, false, not, cond}
 use mathlib.Core.List.{List, [], _∷_, List·Memᴰ·head, List·Memᴰ·tail, List·Memᴰ·cases-cons, List·Memᴰ·not-nil}
-use Prim.Native.Nat.{ℕ, zero, suc, _+_, _≤_, _<_}
+use Prim.Native.Nat.{ℕ, _+_, _≤_, _<_}
 use native.Mathlib.Omega.{arith}
 use borrow.Author.Tests.{eqb-true, eq-eqb, ne-eqb, not-true}
 use lib.Dec.{eqb}
@@ -12,12 +12,12 @@ use Rattle.columns.specs.Counting.{sum}
 use Rattle.columns.specs.Rows.{rowsOf}
 use Rattle.columns.specs.Sets.{Mem, Row}
 use Rattle.columns.proofs.All.{lt-or-le}
-use Rattle.columns.proofs.Bools.{cases, contra, fails, and-left, and-right, and-both}
+use Rattle.columns.proofs.Bools.{contra, and-left, and-right, and-both}
 use Rattle.columns.proofs.Counting.{sum-pick}
 use Rattle.columns.proofs.Lists.{length-listed}
 use Rattle.columns.proofs.Sums.{sum-mono, sum-add, sum-cong, sum-zero}
 use Rattle.table.specs.Lts.{Lts, Step, Valid, rows}
-use Rattle.table.specs.Reach.{Walk, stop, along, takes, edge}
+use Rattle.table.specs.Reach.{takes, edge}
 use Rattle.table.proofs.Rows.{step-fields}
 use Rattle.table.proofs.Walks.{edge-step}
 use Rattle.order.specs.Order.{counts, passes, succs, next}

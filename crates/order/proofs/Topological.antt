@@ -4,12 +4,10 @@ use mathlib.Core.Path.{_≡_, refl, sym, ap, _∙_}
 use mathlib.Core.Logic.{_↔_}
 use mathlib.Core.Bool.{Bool, true, false, _&&_, cond}
 use mathlib.Core.List.{List, []}
-use Prim.Native.Nat.{ℕ, zero, suc, _+_, _-_, _≤_, _<_}
+use Prim.Native.Nat.{ℕ, suc, _+_, _-_, _≤_, _<_}
 use native.Mathlib.Omega.{arith}
-use borrow.Author.Tests.{le-leb, eqb-true}
-use lib.Dec.{eqb}
+use borrow.Author.Tests.{le-leb}
 use lib.ListN.{length}
-use Rattle.columns.specs.declared.answers.Refusal.{Refusal}
 use Rattle.columns.specs.Answers.{Said, done, refused, none}
 use Rattle.columns.specs.Columns.{written, zeros}
 use Rattle.columns.specs.Sets.{Mem}
@@ -22,7 +20,7 @@ use Rattle.table.proofs.Rows.{step-fields}
 use Rattle.order.specs.Order.{sweep, behind, ahead, placeOf, place, next, cyclic}
 use Rattle.order.specs.Call.{sortRefusal, sorted, sortTopological}
 use Rattle.order.specs.Machine.{Cycle, Ordered}
-use Rattle.order.specs.Promise.{LongCycle, Permutation, Comes, Topological}
+use Rattle.order.specs.Promise.{LongCycle, Permutation, Topological}
 use Rattle.order.proofs.Lists.{places-add}
 use Rattle.order.proofs.Ordered.{length-full, before, behind-inj, behind-onto, below}
 use Rattle.order.proofs.Visits.{sweep-good}

@@ -1,13 +1,12 @@
 -- Without a cycle: n is fuel enough, and the sweep finishes every state after its successors.
-use mathlib.Core.Path.{_≡_, refl, sym, ap, _∙_, subst}
+use mathlib.Core.Path.{_≡_, refl, sym, ap, subst}
 use mathlib.Core.Logic.{_⊎_, inl, inr, ⊎-elim}
-use mathlib.Core.Bool.{Bool, true, false, cond}
-use mathlib.Core.List.{List, [], _∷_, List·Memᴰ, List·Memᴰ·head, List·Memᴰ·tail, List·Memᴰ·cases-cons, List·Memᴰ·not-nil}
-use Prim.Native.Nat.{ℕ, zero, suc, _+_, _≤_, _<_}
+use mathlib.Core.Bool.{true, false}
+use mathlib.Core.List.{List, [], _∷_, List·Memᴰ·head, List·Memᴰ·tail, List·Memᴰ·cases-cons, List·Memᴰ·not-nil}
+use Prim.Native.Nat.{ℕ, zero, suc, _≤_, _<_}
 use native.Mathlib.Nat.{not-suc-le-zero}
 use native.Mathlib.Omega.{arith}
 use lib.Dec.{ltb}
-use lib.ListN.{length}
 use Rattle.columns.specs.Sets.{Mem}
 use Rattle.columns.specs.Counting.{many}
 use Rattle.table.specs.Reach.{Walk, stop, along, via}
@@ -17,7 +16,7 @@ use Rattle.columns.proofs.Bools.{cases}
 use Rattle.columns.proofs.Counting.{many-le, many-full, many-strict}
 use Rattle.order.specs.Order.{isIn, visit, sweep, lastFirst}
 use Rattle.order.specs.Machine.{arc, Cycle, cycle, Ordered, none, more}
-use Rattle.table.proofs.Walks.{via-walk, walk-via, joined}
+use Rattle.table.proofs.Walks.{via-walk, walk-via}
 use Rattle.order.proofs.Lists.{isIn-mem, isIn-not, lastFirst-cong}
 use Rattle.order.proofs.Ordered.{arc-mem, mem-arc}
 

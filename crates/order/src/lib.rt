@@ -3,7 +3,9 @@ ghost use mathlib.Core.Path.{_≡_};
 ghost use Rattle.columns.specs.Answers.{said};
 ghost use Rattle.table.specs.Lts.{lts};
 ghost use Rattle.order.specs.Call.{sortRefusal, sortTopological};
+
 pub mod core;
+
 use columns::answers::Answer;
 use columns::answers::Refusal;
 use columns::answers::finished;

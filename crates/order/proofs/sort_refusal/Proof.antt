@@ -1,6 +1,6 @@
 -- `sort_refusal` meets its contract.
 use borrow.Author.Needs.{needs}
-use mathlib.Core.Path.{ap₂, ap, _∙_}
+use mathlib.Core.Path.{ap₂, _∙_}
 use mathlib.Core.Bool.{Bool, _&&_}
 use Rattle.columns.specs.Answers.{none}
 use Rattle.table.specs.Lts.{Lts, lts}

@@ -1,6 +1,5 @@
 -- `core.mark_place` meets its contract.
 use borrow.Author.Needs.{needs}
-use mathlib.Core.Path.{refl}
 use native.Mathlib.Omega.{arith}
 use Rattle.order.specs.Turn.{markPlace}
 use Rattle.order.proofs.core.mark_place.Statement.{statement}

@@ -2,9 +2,9 @@
 use borrow.Author.Needs.{needs}
 use mathlib.Core.Path.{_≡_, refl, _∙_}
 use native.Mathlib.Omega.{arith}
-use Prim.Native.Nat.{ℕ, _+_}
+use Prim.Native.Nat.{_+_}
 use lib.ListN.{length, length-set}
-use Rattle.table.specs.Lts.{Lts, lts}
+use Rattle.table.specs.Lts.{lts}
 use Rattle.order.specs.Order.{next, sweep}
 use Rattle.order.specs.Machine.{stackOf, Machine}
 use Rattle.order.specs.Turn.{measure}

@@ -45,13 +45,13 @@ same-length-3 c = search needs
 
 returns : tie.Need-returns
 returns c = let a = c .before .before .before .before .before .before .before .before .before .before .before .before .before .before .before .before .before .before .before .before .before .before .before .before .before .before in (
-      is-free (L a) (a .pre .0) (a .args .hidden) _ _ (c .before .before .before .before .before .before .before .before .before .before .before .before .before .sweep-all .ensures),
-      (
-        ⊎-elim (λ w. w .7 ∙ placed (L a) (a .pre .0) (a .args .hidden) _ _ (c .before .before .before .before .before .before .before .before .before .before .before .before .before .sweep-all .ensures) (a .args .reversed) (a .args .places .now) _ (w .0 .taken) (w .4 .ensures))
-            (λ w. w .1 ∙ stays (L a) (a .pre .0) (a .args .hidden) _ _ (c .before .before .before .before .before .before .before .before .before .before .before .before .before .sweep-all .ensures) (a .args .reversed) (a .args .places .now) (w .0 .left)) (c .before .before .before .before .before .before .before .before .if1 .came),
-        (c .before .before .before .before .before .before .clear2 .ensures ∙ ap zeros (c .before .before .before .before .before .before .before .before .before .before .before .before .before .sweep-all .kept .1 .1 .1 .1 .1 .0 ∙ c .before .before .before .before .before .before .before .before .before .before .before .before .before .before .before .before .before .before .clear .kept .0), c .before .before .clear3 .ensures ∙ ap zeros (c .before .before .before .before .before .before .before .before .before .before .before .before .before .sweep-all .kept .1 .1 .1 .1 .1 .1 .0)),
-      ),
-    )
+  is-free (L a) (a .pre .0) (a .args .hidden) _ _ (c .before .before .before .before .before .before .before .before .before .before .before .before .before .sweep-all .ensures),
+  (
+    ⊎-elim (λ w. w .7 ∙ placed (L a) (a .pre .0) (a .args .hidden) _ _ (c .before .before .before .before .before .before .before .before .before .before .before .before .before .sweep-all .ensures) (a .args .reversed) (a .args .places .now) _ (w .0 .taken) (w .4 .ensures))
+        (λ w. w .1 ∙ stays (L a) (a .pre .0) (a .args .hidden) _ _ (c .before .before .before .before .before .before .before .before .before .before .before .before .before .sweep-all .ensures) (a .args .reversed) (a .args .places .now) (w .0 .left)) (c .before .before .before .before .before .before .before .before .if1 .came),
+    (c .before .before .before .before .before .before .clear2 .ensures ∙ ap zeros (c .before .before .before .before .before .before .before .before .before .before .before .before .before .sweep-all .kept .1 .1 .1 .1 .1 .0 ∙ c .before .before .before .before .before .before .before .before .before .before .before .before .before .before .before .before .before .before .clear .kept .0), c .before .before .clear3 .ensures ∙ ap zeros (c .before .before .before .before .before .before .before .before .before .before .before .before .before .sweep-all .kept .1 .1 .1 .1 .1 .1 .0)),
+  ),
+)
 
 pub sort-topological-spec : {M : Type 1} → statement M
 sort-topological-spec =

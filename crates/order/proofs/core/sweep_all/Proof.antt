@@ -2,9 +2,9 @@
 use borrow.Author.Needs.{needs}
 use mathlib.Core.Path.{_≡_, refl, _∙_}
 use native.Mathlib.Omega.{arith}
-use Prim.Native.Nat.{ℕ, _≤_, _-_}
+use Prim.Native.Nat.{_≤_, _-_}
 use lib.ListN.{length}
-use Rattle.table.specs.Lts.{Lts, lts}
+use Rattle.table.specs.Lts.{lts}
 use Rattle.order.specs.Order.{next}
 use Rattle.order.specs.Machine.{Idle}
 use Rattle.order.proofs.Searches.{swept-cycle, swept-all}

@@ -1,8 +1,7 @@
 -- `core.turn` meets its contract.
 use borrow.Author.Needs.{needs}
-use mathlib.Core.Path.{sym, _∙_}
 use native.Mathlib.Omega.{arith}
-use lib.ListN.{length, length-set}
+use lib.ListN.{length-set}
 use Rattle.table.specs.Lts.{Lts, lts}
 use Rattle.order.specs.Order.{next}
 use Rattle.order.proofs.Steps.{top-fits, state-fits, finish-fits, enter-fits, turned-finish, turned-drop, turned-visit}
