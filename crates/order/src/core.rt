@@ -1,8 +1,8 @@
 // What other crates call once a table is checked. No entry points: each says what it requires.
 ghost use mathlib.Core.Path.{_≡_};
-ghost use mathlib.Core.Bool.{Bool, true, false, not};
+ghost use mathlib.Core.Bool.{not};
 ghost use mathlib.Core.List.{List};
-ghost use Prim.Native.Nat.{ℕ, suc, _+_, _-_, _≤_, _<_};
+ghost use Prim.Native.Nat.{ℕ, _+_, _≤_, _<_};
 ghost use lib.ListN.{length, getD};
 ghost use Rattle.columns.specs.Columns.{written, zeros};
 ghost use Rattle.table.specs.Lts.{lts, Valid};
