@@ -2,7 +2,7 @@
 use Prim.Native.Nat.{ℕ, zero, suc, _≤_, _<_}
 use native.Mathlib.Omega.{arith}
 use native.Mathlib.Nat.{eq-or-lt-of-le}
-use borrow.Author.Tests.{eq-eqb, ltb-true, ltb-false}
+use borrow.Author.Tests.{eq-eqb, ltb-false}
 use mathlib.Core.Bool.{Bool, true, false, cond, _&&_}
 use mathlib.Core.Path.{_≡_, refl, ap, sym, subst, _∙_}
 use mathlib.Core.Logic.{_⊎_, inl, inr, ⊎-elim}
@@ -10,15 +10,15 @@ use mathlib.Core.List.{List}
 use lib.Dec.{eqb, ltb}
 use lib.ListN.{getD}
 use Rattle.closure.specs.Closed.{Marked, homeOf}
-use Rattle.closure.specs.Closure.{silentb, markSource, markInto, goingOn, goesOn, readDown, close}
+use Rattle.closure.specs.Closure.{silentb, markSource, markInto, goesOn, readDown, close}
 use Rattle.columns.proofs.All.{top-or-below}
-use Rattle.columns.proofs.Bools.{and-left, contra}
-use Rattle.partition.specs.Mark.{mark}
+use Rattle.columns.proofs.Bools.{contra}
 use Rattle.partition.specs.Partition.{Partition, Sound}
 use Rattle.table.specs.Lts.{Lts, Valid}
+use Rattle.closure.proofs.Closing.{goes-marked}
 use Rattle.closure.proofs.Growing.{Grown}
 use Rattle.closure.proofs.Marking.{marked-from, from-marked, marks-stay, mark-marks}
-use Rattle.closure.proofs.Steps.{silent-home, source-grown, into-grown, close-grown}
+use Rattle.closure.proofs.Steps.{silent-home, source-grown, into-grown}
 
 -- either part of a test that fails
 either : (a c : Bool) → (a && c) ≡ false → (a ≡ false) ⊎ (c ≡ false)
@@ -111,9 +111,6 @@ module _ (t : Lts) (v : Valid t) (b : ℕ) where
       let r = into-grown t v b u (t .m) p (omega arith) same g in
       go (goesOn p b (suc it)) refl (λ d. read-closed it (markInto t b u (t .m) p) (r .n ∙ same) (r .sound) d)
     where
-      before : goesOn p b (suc it) ≡ true → getD (p .marked-split) b 0 ≤ it
-      before e = omega (arith, ltb-true (getD (p .marked-split) b 0) (suc it) (and-left (ltb (getD (p .marked-split) b 0) (suc it)) (ltb (getD (p .begin) b 0) (getD (p .marked-split) b 0)) e))
-
       stops : goesOn p b (suc it) ≡ false → (suc it ≤ getD (p .marked-split) b 0) ⊎ (getD (p .marked-split) b 0 ≤ getD (p .begin) b 0)
       stops e =
           ⊎-elim (λ (z : ltb (getD (p .marked-split) b 0) (suc it) ≡ false). inl (ltb-false _ _ z))
@@ -123,7 +120,7 @@ module _ (t : Lts) (v : Valid t) (b : ℕ) where
       go : (c : Bool) → goesOn p b (suc it) ≡ c
           → (Done (markInto t b (getD (p .elements) it 0) (t .m) p) it → Closed (readDown t b it (markInto t b (getD (p .elements) it 0) (t .m) p)))
           → Closed (cond c (readDown t b it (markInto t b (getD (p .elements) it 0) (t .m) p)) p)
-      go true e rest = rest (read-more p same g it (before e) d)
+      go true e rest = rest (read-more p same g it (goes-marked p b it e) d)
       go false e rest = stopped p same g (suc it) d (stops e)
 
   pub close-closed : (p : Partition) → p .n ≡ t .n → Sound p → Closed (close t p b)

@@ -1,12 +1,12 @@
 -- What marking states of one block changes: within the block's stretch the unmarked positions are reordered and the split falls; the
 -- marked positions stay, and all other blocks do.
-use Prim.Native.Nat.{ℕ, zero, suc, _-_, _≤_, _<_}
+use Prim.Native.Nat.{ℕ, _-_, _≤_, _<_}
 use native.Mathlib.Omega.{arith}
 use borrow.Author.Tests.{ltb-true}
 use mathlib.Core.Bool.{Bool, true, false, cond}
 use mathlib.Core.Path.{_≡_, refl, ap, sym, subst, _∙_}
 use mathlib.Core.List.{List}
-use lib.ListN.{length, getD, set, length-set}
+use lib.ListN.{length, getD, length-set}
 use lib.Seq.{getD-set-same, getD-set-other}
 use Rattle.columns.proofs.Inverses.{length-swappedInverse, offset-other}
 use Rattle.columns.proofs.Swaps.{length-swapped, swapped-other}
@@ -85,9 +85,6 @@ module _ (p : Partition) (g : Sound p) (s : ℕ) (w : s < p .n) where
 
   abbrev m : ℕ
   m = getD (p .marked-split) b 0
-
-  h : Consistent p
-  h = g .consistent
 
   moved-long : Long (moved p s)
   unfolding moved

@@ -1,20 +1,20 @@
 -- The marks of block b stay within every set that holds them and is closed under incoming hidden steps within the block.
 use Prim.Native.Nat.{ℕ, zero, suc, _≤_, _<_}
 use native.Mathlib.Omega.{arith}
-use borrow.Author.Tests.{eqb-true, ltb-true}
-use mathlib.Core.Bool.{Bool, true, false, cond, _&&_}
+use borrow.Author.Tests.{eqb-true}
+use mathlib.Core.Bool.{Bool, true, false, cond}
 use mathlib.Core.Path.{_≡_, refl, ap, sym, subst, _∙_}
 use mathlib.Core.Logic.{⊎-elim}
 use mathlib.Core.List.{List}
-use lib.Dec.{eqb, ltb}
+use lib.Dec.{eqb}
 use lib.ListN.{getD}
 use Rattle.closure.specs.Closed.{Marked, homeOf}
 use Rattle.closure.specs.Closure.{silentb, markSource, markInto, goesOn, readDown}
-use Rattle.columns.proofs.Bools.{and-left}
 use Rattle.partition.specs.Mark.{mark}
 use Rattle.partition.specs.Partition.{Partition, Sound}
 use Rattle.partition.proofs.Owned.{owned}
 use Rattle.table.specs.Lts.{Lts, Valid}
+use Rattle.closure.proofs.Closing.{goes-marked}
 use Rattle.closure.proofs.Growing.{Grown}
 use Rattle.closure.proofs.Marking.{from-marked, mark-only}
 use Rattle.closure.proofs.Steps.{silent-home, into-grown}
@@ -88,18 +88,10 @@ module _ (t : Lts) (v : Valid t) (b : ℕ) (home : List ℕ) (M : ℕ → Type 0
       go (goesOn p b (suc it)) refl
       (read-inside it q (ours-grown p q o r) (omega (arith, r .count)) (omega (arith, ap (λ (l : List ℕ). getD l b 0) (r .end))))
     where
-      before : goesOn p b (suc it) ≡ true → getD (p .marked-split) b 0 ≤ it
-      before e =
-          omega (
-            arith,
-            ltb-true (getD (p .marked-split) b 0) (suc it)
-                (and-left (ltb (getD (p .marked-split) b 0) (suc it)) (ltb (getD (p .begin) b 0) (getD (p .marked-split) b 0)) e),
-          )
-
       go : (c : Bool) → goesOn p b (suc it) ≡ c
           → (Inside (markInto t b (getD (p .elements) it 0) (t .m) p) → Inside (readDown t b it (markInto t b (getD (p .elements) it 0) (t .m) p)))
           → Inside (cond c (readDown t b it (markInto t b (getD (p .elements) it 0) (t .m) p)) p)
       go true e rest =
-          let k = position p o w it (before e) (omega arith) inside in
+          let k = position p o w it (goes-marked p b it e) (omega arith) inside in
           rest (into-inside (getD (p .elements) it 0) (t .m) p (omega arith) o (k .0) (k .1) inside)
       go false e rest = inside

@@ -1,6 +1,7 @@
 pub mod Growing
 pub mod Steps
 pub mod Reading
+pub mod Closing
 pub mod Answering
 pub mod Marking
 pub mod Closed

@@ -1,24 +1,22 @@
--- The two loops as they stand between two turns: the rows that lead to a state, read one after the other, and the positions of
--- the marked stretch, read from its end down.
-use Prim.Native.Nat.{ℕ, zero, suc, _-_, _≤_, _<_}
+-- The rows that lead to a state, read one after the other, as it stands between two turns.
+use Prim.Native.Nat.{ℕ, zero, suc, _≤_, _<_}
 use native.Mathlib.Omega.{arith}
 use native.Mathlib.Nat.{eq-or-lt-of-le}
-use borrow.Author.Tests.{eq-eqb, ne-eqb, ltb-true}
-use mathlib.Core.Bool.{Bool, true, false, cond, _&&_}
-use mathlib.Core.Path.{_≡_, refl, ap, sym, _∙_}
+use borrow.Author.Tests.{eq-eqb, ne-eqb}
+use mathlib.Core.Bool.{true, false}
+use mathlib.Core.Path.{_≡_, ap, _∙_}
 use mathlib.Core.Logic.{⊎-elim}
 use mathlib.Core.List.{List}
-use lib.Dec.{eqb, ltb}
-use lib.ListN.{length, getD}
-use Rattle.closure.specs.Closure.{silentb, markSource, markInto, goingOn, goesOn, readDown, close}
-use Rattle.columns.proofs.Bools.{and-left, and-right}
+use lib.Dec.{eqb}
+use lib.ListN.{getD}
+use Rattle.closure.specs.Closure.{silentb, markSource, markInto}
 use Rattle.partition.specs.Mark.{mark}
 use Rattle.partition.specs.Partition.{Partition, Sound}
 use Rattle.table.specs.Links.{Linked}
 use Rattle.table.specs.Lts.{Lts, Valid}
 use Rattle.table.specs.Stretch.{nextIncoming}
-use Rattle.table.proofs.Stretches.{Next, next-law}
-use Rattle.closure.proofs.Growing.{Grown, grown-none, grown-more}
+use Rattle.table.proofs.Stretches.{next-law}
+use Rattle.closure.proofs.Growing.{Grown}
 use Rattle.closure.proofs.Steps.{into-grown}
 
 -- ---- one row
@@ -99,61 +97,3 @@ reading-end t b u p q i c h = c .done ∙ ap (λ (k : ℕ). markInto t b u k p) 
 pub reading-grown :
     (t : Lts) → Valid t → (b u : ℕ) (p q : Partition) (i : ℕ) → p .n ≡ t .n → Sound p → Reading t b u p q i → Grown b p q
 reading-grown t v b u p q i same g c = rw (c .done) (into-grown t v b u i p (c .most) same g)
-
--- ---- the marked stretch
-module _ (t : Lts) (b : ℕ) (p : Partition) where
-  pub read-on : (it : ℕ) → goesOn p b (suc it) ≡ true → readDown t b it (markInto t b (getD (p .elements) it 0) (t .m) p) ≡ readDown t b (suc it) p
-  unfolding readDown
-  read-on it e = rw e
-
-  pub read-stop : (it : ℕ) → goesOn p b it ≡ false → readDown t b it p ≡ p
-  unfolding readDown
-  read-stop zero e = refl
-  read-stop (suc it) e = rw e
-
--- the positions from `it` on are read, and reading on gives what is asked for
-pub record Closing (t : Lts) (b : ℕ) (p q : Partition) (it : ℕ) : Type 0 where
-  pub most : it ≤ getD (p .end) b 0
-  pub grown : Grown b p q
-  pub rest : readDown t b it q ≡ close t p b
-
--- what the loop's test says
-module _ (p : Partition) (b x m it : ℕ) (ex : x ≡ getD (p .begin) b 0) (em : m ≡ getD (p .marked-split) b 0) where
-  pub goes : (c : Bool) → goingOn x m it ≡ c → goesOn p b it ≡ c
-  unfolding goesOn
-  goes c e = rw (← ex, ← em) e
-
-pub goes-before : (x m it : ℕ) → goingOn x m it ≡ true → m < it
-unfolding goingOn
-goes-before x m it e = ltb-true m it (and-left (ltb m it) (ltb x m) e)
-
-module _ (t : Lts) (b : ℕ) (p : Partition) (g : Sound p) where
-  pub closing-start : (it : ℕ) → it ≡ getD (p .end) b 0 → Closing t b p p it
-  unfolding close
-  closing-start it e = record { most = omega arith; grown = grown-none b p g; rest = ap (λ (k : ℕ). readDown t b k p) e }
-
-  module _ (q : Partition) (it : ℕ) (c : Closing t b p q it) where
-    -- the position before is a state's
-    pub closing-state : b < p .count → 0 < it → getD (q .elements) (it - 1) 0 < p .n
-    closing-state w h =
-        let s = c .grown .sound .consistent in
-        omega (arith, c .grown .n, c .most, g .consistent .bounds b w .most, s .order .below (it - 1) (omega (arith, c .grown .n, c .most, g .consistent .bounds b w .most)))
-
-    pub closing-more :
-        Valid t → p .n ≡ t .n → 0 < it → goesOn q b it ≡ true → (u : ℕ) → u ≡ getD (q .elements) (it - 1) 0 → (r : Partition) → r ≡ markInto t b u (t .m) q
-        → Closing t b p r (it - 1)
-    closing-more v same h e u eu r f =
-        let k : it ≡ suc (it - 1) = omega arith in
-        let d = into-grown t v b u (t .m) q (omega arith) (c .grown .n ∙ same) (c .grown .sound) in
-        record {
-          most = omega (arith, c .most);
-          grown = rw f (grown-more (c .grown) d);
-          rest =
-              ap (readDown t b (it - 1)) (f ∙ ap (λ (x : ℕ). markInto t b x (t .m) q) eu)
-              ∙ read-on t b q (it - 1) (ap (goesOn q b) (sym k) ∙ e)
-              ∙ ap (λ (x : ℕ). readDown t b x q) (sym k)
-              ∙ c .rest;
-        }
-
-    pub closing-end : goesOn q b it ≡ false → q ≡ close t p b
-    closing-end e = sym (read-stop t b q it e) ∙ c .rest

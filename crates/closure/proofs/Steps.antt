@@ -2,8 +2,8 @@
 use Prim.Native.Nat.{ℕ, zero, suc, _≤_, _<_}
 use native.Mathlib.Omega.{arith}
 use borrow.Author.Tests.{eqb-true}
-use mathlib.Core.Bool.{Bool, true, false, cond, _&&_}
-use mathlib.Core.Path.{_≡_, refl, ap, sym, subst, _∙_}
+use mathlib.Core.Bool.{Bool, true, false, cond}
+use mathlib.Core.Path.{_≡_, refl, subst, _∙_}
 use mathlib.Core.List.{List}
 use lib.Dec.{eqb}
 use lib.ListN.{getD}
@@ -29,9 +29,6 @@ module _ (t : Lts) (v : Valid t) (b : ℕ) where
   unfolding markSource
   source-grown i p h same g = go (silentb t (p .element-to-block) b i) refl
     where
-      s : ℕ
-      s = getD (t .source) i 0
-
       go : (c : Bool) → silentb t (p .element-to-block) b i ≡ c → Grown b p (cond c (mark p (getD (t .source) i 0)) p)
       go true e =
           subst (λ (x : ℕ). Grown x p (mark p (getD (t .source) i 0))) (silent-home t (p .element-to-block) b i e)

@@ -1,6 +1,6 @@
 // The tests that `mark_backward_closure` makes of what it is lent.
 ghost use mathlib.Core.Path.{_≡_};
-ghost use Rattle.closure.specs.Closure.{workb, closureRefusal};
+ghost use Rattle.closure.specs.Closure.{closureRefusal};
 ghost use Rattle.partition.specs.Partition.{parts};
 ghost use Rattle.table.specs.Lts.{lts};
 use columns::answers::Refusal;

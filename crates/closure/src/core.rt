@@ -3,13 +3,16 @@ ghost use mathlib.Core.Path.{_≡_};
 ghost use Prim.Native.Nat.{_≤_, _<_};
 ghost use lib.ListN.{length, getD};
 ghost use Rattle.closure.specs.Closure.{silentb, goingOn, markSource, markInto, close};
+ghost use Rattle.columns.specs.Columns.{zeros};
 ghost use Rattle.partition.specs.Partition.{parts, Sound};
 ghost use Rattle.table.specs.Links.{Linked};
 ghost use Rattle.table.specs.Lts.{lts, Valid};
 use columns::cells::at;
+use columns::cells::clear;
 use partition::core::mark_element;
 use table::Table;
 use table::core::taken;
+use table::links::link_incoming;
 
 // Whether row i is hidden and comes from a state of block b.
 fn is_silent(
@@ -28,11 +31,8 @@ fn is_silent(
         return false;
     }
     let s = at(source, i);
-    if at(element_to_block, s) == b {
-        true
-    } else {
-        false
-    }
+    let home = at(element_to_block, s);
+    if home == b { true } else { false }
 }
 
 // Marks the source of row i, if the row is hidden and comes from block b.
@@ -127,7 +127,7 @@ fn going_on(begin: usize, marked_split: usize, it: usize) -> bool
 }
 
 // Closes the marks of block b under incoming hidden steps within the block.
-pub fn mark_backward_closure(
+fn close_marks(
     table: Table,
     source: &[u16],
     label: &[u16],
@@ -170,4 +170,49 @@ pub fn mark_backward_closure(
             u,
         );
     }
+}
+
+// Links the incoming rows in the two work slices, closes the marks of block b, and clears the work slices.
+pub fn mark_backward_closure(
+    table: Table,
+    source: &[u16],
+    label: &[u16],
+    target: &[u16],
+    head: &mut [u16],
+    link: &mut [u16],
+    elements: &mut [u16],
+    element_offset: &mut [u16],
+    element_to_block: &[u16],
+    begin: &[u16],
+    marked_split: &mut [u16],
+    end: &[u16],
+    count: usize,
+    b: usize,
+)
+    requires { ⌜ Valid (lts table (now source) (now label) (now target)) × (table .n ≤ length (now head)) × (table .m ≤ length (now link)) ⌝ }
+    requires { ⌜ Sound (parts (now elements) (now «element_offset») (now «element_to_block») (now begin) (now «marked_split») (now end) (table .n) count) × (b < count) ⌝ }
+    ensures { λ _. ⌜ parts (now (elements .exit)) (now («element_offset» .exit)) (now («element_to_block» .exit)) (now (begin .exit)) (now («marked_split» .exit)) (now (end .exit)) (table .n) count ≡ close (lts table (now (source .entry)) (now (label .entry)) (now (target .entry))) (parts (now (elements .entry)) (now («element_offset» .entry)) (now («element_to_block» .entry)) (now (begin .entry)) (now («marked_split» .entry)) (now (end .entry)) (table .n) count) b ⌝ }
+    ensures { λ _. ⌜ (now (head .exit) ≡ zeros (length (now (head .entry)))) × (now (link .exit) ≡ zeros (length (now (link .entry)))) ⌝ }
+{
+    let n = table.n as usize;
+    let m = table.m as usize;
+    link_incoming(target, n, m, &mut *head, &mut *link);
+    close_marks(
+        table,
+        source,
+        label,
+        target,
+        &*head,
+        &*link,
+        &mut *elements,
+        &mut *element_offset,
+        element_to_block,
+        begin,
+        &mut *marked_split,
+        end,
+        count,
+        b,
+    );
+    clear(head);
+    clear(link);
 }

@@ -12,9 +12,7 @@ pub mod core;
 use columns::answers::Answer;
 use columns::answers::finished;
 use columns::answers::refusing;
-use columns::cells::clear;
 use table::Table;
-use table::links::link_incoming;
 
 // From end - 1 down, incoming hidden sources in the same block are marked, until nothing is unmarked or the marked stretch is read.
 pub fn mark_backward_closure(
@@ -57,20 +55,13 @@ pub fn mark_backward_closure(
     if number != 0 {
         return refusing(t);
     }
-    link_incoming(
-        target,
-        table.n as usize,
-        table.m as usize,
-        &mut *head,
-        &mut *link,
-    );
     core::mark_backward_closure(
         table,
         source,
         label,
         target,
-        &*head,
-        &*link,
+        &mut *head,
+        &mut *link,
         &mut *elements,
         &mut *element_offset,
         element_to_block,
@@ -80,7 +71,5 @@ pub fn mark_backward_closure(
         k,
         b,
     );
-    clear(head);
-    clear(link);
     finished()
 }

@@ -107,6 +107,25 @@ pub many-hit : (m : ℕ) (f : ℕ → Bool) → f m ≡ true → many (suc m) f 
 unfolding many
 many-hit m f h = rw h (omega arith)
 
+pub many-miss : (m : ℕ) (f : ℕ → Bool) → f m ≡ false → many (suc m) f ≡ many m f
+unfolding many
+many-miss m f h = rw h (omega arith)
+
+-- one more number passes
+pub many-one-more :
+    (n u : ℕ) (f g : ℕ → Bool) → u < n → f u ≡ false → g u ≡ true → ((k : ℕ) → (k ≡ u → ⊥) → g k ≡ f k) → many n g ≡ suc (many n f)
+many-one-more zero u f g h p q e = absurd (omega arith)
+many-one-more (suc n) u f g h p q e =
+    ⊎-elim
+    (λ (i : u ≡ n).
+    many-hit n g (ap g (sym i) ∙ q)
+    ∙ ap suc (many-cong n g f (λ k w. e k (λ j. omega (arith, w, i, j))) ∙ sym (many-miss n f (ap f (sym i) ∙ p))))
+    (λ (l : u < n). go (many-one-more n u f g l p q e) (f n) refl (e n (λ j. omega (arith, l, j)))) (top-or-below h)
+  where
+    go : many n g ≡ suc (many n f) → (b : Bool) → f n ≡ b → g n ≡ f n → many (suc n) g ≡ suc (many (suc n) f)
+    go ih true a d = many-hit n g (d ∙ a) ∙ (ap suc ih ∙ ap suc (sym (many-hit n f a)))
+    go ih false a d = many-miss n g (d ∙ a) ∙ (ih ∙ ap suc (sym (many-miss n f a)))
+
 pub many-up : (m n : ℕ) (f : ℕ → Bool) → m ≤ n → many m f ≤ many n f
 unfolding many
 many-up m zero f h = rw (zero-of h) (omega arith)

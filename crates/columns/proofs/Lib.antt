@@ -13,6 +13,7 @@ pub mod Facts
 pub mod Stable
 pub mod Sums
 pub mod Counting
+pub mod Firsts
 pub mod Stores
 pub mod Swaps
 pub mod Inverses

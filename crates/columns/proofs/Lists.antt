@@ -1,5 +1,5 @@
 -- Lists that a counting loop writes from the front. Assumes nothing.
-use mathlib.Core.Path.{_≡_, refl, sym, ap, _∙_}
+use mathlib.Core.Path.{_≡_, refl, sym, ap, _∙_, ap₂}
 use mathlib.Core.Logic.{⊎-elim}
 use mathlib.Core.List.{List, [], _∷_, _++_, map, map-append, append-nil}
 use Prim.Native.Nat.{ℕ, zero, suc, _+_, _-_, _≤_, _<_}
@@ -88,6 +88,11 @@ pub listed-const : (n v : ℕ) → listed n (λ _. v) ≡ replicate n v
 unfolding listed
 listed-const zero v = refl
 listed-const (suc n) v = ap (λ (t : List ℕ). t ++ (v ∷ [])) (listed-const n v) ∙ replicate-append-replicate n 1 v ∙ ap (λ (k : ℕ). replicate k v) (add-one n)
+
+pub listed-cong : {A : Type 0} (n : ℕ) (f g : ℕ → A) → ((i : ℕ) → i < n → f i ≡ g i) → listed n f ≡ listed n g
+unfolding listed
+listed-cong zero f g h = refl
+listed-cong (suc n) f g h = ap₂ (λ s t. s ++ (t ∷ [])) (listed-cong n f g (λ i w. h i (omega arith))) (h n (omega arith))
 
 pub map-listed : {A B : Type 0} (f : A → B) (n : ℕ) (g : ℕ → A) → map f (listed n g) ≡ listed n (λ k. f (g k))
 unfolding listed

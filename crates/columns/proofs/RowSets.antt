@@ -14,7 +14,7 @@ use Rattle.columns.specs.Columns.{listed, cell, keyOf, before, sortBy}
 use Rattle.columns.specs.Rows.{firstsBy, pickRows, picked, rowsOf, rowSet, firstOf, secondOf, thirdOf}
 use Rattle.columns.proofs.Orders.{row-order}
 use Rattle.columns.proofs.Sorts.{firsts-sort, firsts-length, length-sort}
-use Rattle.columns.proofs.Lists.{getD-any, map-listed, length-listed, take-over}
+use Rattle.columns.proofs.Lists.{getD-any, listed-cong, map-listed, length-listed, take-over}
 
 -- ---- one test after the other
 module _ (a b c : List ℕ) (i j x y : ℕ) (ex : x ≡ cell a i) (ey : y ≡ cell a j) where
@@ -44,11 +44,6 @@ module _ (a b c : List ℕ) (i j x y : ℕ) (ex : x ≡ cell a i) (ey : y ≡ ce
 key-row : (a b c : List ℕ) (i : ℕ) → i < length a → i < length b → i < length c → keyOf a b c i ≡ (getD a i 0, (getD b i 0, getD c i 0))
 unfolding keyOf cell
 key-row a b c i ha hb hc = rw (getD-any a i i 0 ha, getD-any b i i 0 hb, getD-any c i i 0 hc)
-
-listed-cong : {A : Type 0} (n : ℕ) (f g : ℕ → A) → ((i : ℕ) → i < n → f i ≡ g i) → listed n f ≡ listed n g
-unfolding listed
-listed-cong zero f g h = refl
-listed-cong (suc n) f g h = ap₂ (λ s t. s ++ (t ∷ [])) (listed-cong n f g (λ i w. h i (omega arith))) (h n (omega arith))
 
 pub collect-map : {A B C : Type 0} (lt : C → C → Bool) (f : A → B) (g : B → C) (l : List A) → collect lt (λ r. true) (λ r. g (f r)) l ≡ collect lt (λ r. true) g (map f l)
 unfolding collect

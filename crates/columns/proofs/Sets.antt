@@ -13,6 +13,10 @@ use Rattle.columns.proofs.Orders.{Order, asym}
 pub here : {A : Type 0} {x : A} {xs : List A} → Mem x (x ∷ xs)
 here = List·Memᴰ·head refl
 
+pub no-members : {A : Type 0} (l : List A) → ((x : A) → Mem x l → ⊥) → l ≡ []
+no-members [] f = refl
+no-members (x ∷ l) f = absurd (f x here)
+
 module _ {A : Type 0} (lt : A → A → Bool) (o : Order lt) where
   -- ---- insert
   pub insert-new : (x : A) (l : List A) → Mem x (insert lt x l)

@@ -2,6 +2,7 @@
 use Prim.Native.Nat.{ℕ, zero, suc, _+_}
 use mathlib.Core.Bool.{Bool, cond}
 use mathlib.Core.List.{List, [], _∷_, _++_}
+use lib.Dec.{ltb}
 use lib.ListN.{set}
 
 -- f 0 + f 1 + .. + f (n - 1)
@@ -18,6 +19,11 @@ many (suc n) f = many n f + cond (f n) 1 0
 unfoldable pub first : ℕ → (ℕ → Bool) → ℕ
 first zero f = zero
 first (suc n) f = let m = first n f in cond (f m) m (suc m)
+
+-- some number below n passes
+unfoldable pub some : ℕ → (ℕ → Bool) → Bool
+unfolding first
+some n f = ltb (first n f) n
 
 -- for each s below n that passes, from 0 up, cell i s becomes v s
 unfoldable pub stores : (ℕ → Bool) → (ℕ → ℕ) → (ℕ → ℕ) → ℕ → List ℕ → List ℕ

@@ -15,7 +15,7 @@ use Rattle.table.proofs.Rows.{step-row}
 use Rattle.table.proofs.Walks.{edge-step, takes-hidden}
 use Rattle.order.specs.Order.{lastFirst, visit, sweep, behind, placeOf, place, next}
 use Rattle.order.specs.Promise.{LongCycle}
-use Rattle.order.proofs.General.{no-members}
+use Rattle.columns.proofs.Sets.{no-members}
 use Rattle.order.proofs.Lists.{not-isIn, behind-head, behind-tail}
 use Rattle.order.proofs.Successors.{succs-row}
 use Rattle.order.proofs.Topological.{opposite}

@@ -6,14 +6,15 @@ use Prim.Native.Nat.{ℕ, _<_}
 use borrow.Author.Tests.{eq-eqb, ne-eqb, not-true}
 use lib.Dec.{eqb}
 use Rattle.columns.proofs.All.{same-or-not}
+use Rattle.columns.specs.Counting.{some}
+use Rattle.columns.proofs.Firsts.{some-in, some-out}
 use Rattle.columns.proofs.Bools.{contra, and-left, and-right, and-both}
 use Rattle.table.specs.Lts.{Lts, Valid}
 use Rattle.table.specs.Reach.{Walk, stop, along, edge, reaches}
 use Rattle.table.proofs.Walks.{joined, edge-in, reaches-walk}
-use Rattle.order.specs.Order.{next, some, cyclic}
+use Rattle.order.specs.Order.{next, cyclic}
 use Rattle.order.specs.Machine.{arc, Cycle, cycle}
 use Rattle.order.specs.Promise.{LongCycle}
-use Rattle.order.proofs.Lists.{some-at, at-some}
 use Rattle.order.proofs.Successors.{arc-edge, edge-arc}
 
 module _ (t : Lts) (hidden : Bool) where
@@ -60,20 +61,20 @@ module _ (t : Lts) (hidden : Bool) where
     unfolding cyclic
     cyclic-long = (
       λ h.
-          let a = some-at (t .n) (λ s. some (t .n) (through s)) h in
-          let b = some-at (t .n) (through (a .0)) (a .2) in
-          let k = and-left (not (eqb (a .0) (b .0))) (reaches t hidden (a .0) (b .0) && reaches t hidden (b .0) (a .0)) (b .2) in
-          let r = and-right (not (eqb (a .0) (b .0))) (reaches t hidden (a .0) (b .0) && reaches t hidden (b .0) (a .0)) (b .2) in
+          let a = some-out (t .n) (λ s. some (t .n) (through s)) h in
+          let b = some-out (t .n) (through (a .at)) (a .passes) in
+          let k = and-left (not (eqb (a .at) (b .at))) (reaches t hidden (a .at) (b .at) && reaches t hidden (b .at) (a .at)) (b .passes) in
+          let r = and-right (not (eqb (a .at) (b .at))) (reaches t hidden (a .at) (b .at) && reaches t hidden (b .at) (a .at)) (b .passes) in
           record {
-            from = a .0;
-            through = b .0;
-            other = λ e. contra (eq-eqb (a .0) (b .0) e) (not-true (eqb (a .0) (b .0)) k);
-            there = reaches-walk t hidden v (a .0) (b .0) .0 (and-left (reaches t hidden (a .0) (b .0)) (reaches t hidden (b .0) (a .0)) r);
-            back = reaches-walk t hidden v (b .0) (a .0) .0 (and-right (reaches t hidden (a .0) (b .0)) (reaches t hidden (b .0) (a .0)) r);
+            from = a .at;
+            through = b .at;
+            other = λ e. contra (eq-eqb (a .at) (b .at) e) (not-true (eqb (a .at) (b .at)) k);
+            there = reaches-walk t hidden v (a .at) (b .at) .0 (and-left (reaches t hidden (a .at) (b .at)) (reaches t hidden (b .at) (a .at)) r);
+            back = reaches-walk t hidden v (b .at) (a .at) .0 (and-right (reaches t hidden (a .at) (b .at)) (reaches t hidden (b .at) (a .at)) r);
           },
       λ c.
-          at-some (t .n) (λ s. some (t .n) (through s)) (c .from) (walk-end (λ e. c .other (sym e)) (c .back))
-          (at-some (t .n) (through (c .from)) (c .through) (walk-end (c .other) (c .there))
+          some-in (t .n) (λ s. some (t .n) (through s)) (c .from) (walk-end (λ e. c .other (sym e)) (c .back))
+          (some-in (t .n) (through (c .from)) (c .through) (walk-end (c .other) (c .there))
           (and-both (ap not (ne-eqb (c .from) (c .through) (c .other)))
           (and-both (reaches-walk t hidden v (c .from) (c .through) .1 (c .there)) (reaches-walk t hidden v (c .through) (c .from) .1 (c .back))))),
     )

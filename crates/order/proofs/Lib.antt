@@ -1,5 +1,4 @@
 pub mod Examples
-pub mod General
 pub mod Lists
 pub mod Ordered
 pub mod Visits

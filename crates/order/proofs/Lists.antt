@@ -13,7 +13,7 @@ use Rattle.columns.specs.Sets.{Mem}
 use Rattle.columns.proofs.All.{same-or-not}
 use Rattle.columns.proofs.Bools.{cases, contra, fails, or-split, or-left, or-right}
 use Rattle.columns.proofs.Counting.{first-law, first-min}
-use Rattle.order.specs.Order.{isIn, behind, ahead, some, lastFirst}
+use Rattle.order.specs.Order.{isIn, behind, ahead, lastFirst}
 
 pub isIn-mem : (s : ℕ) (l : List ℕ) → isIn s l ≡ true → Mem s l
 unfolding isIn
@@ -77,15 +77,6 @@ places-add s (x ∷ xs) m = go (places-add s xs) (same-or-not s x)
     go : (Mem s xs → suc (behind s xs + ahead s xs) ≡ length xs) → (s ≡ x) ⊎ (s ≡ x → ⊥) → suc (behind s (x ∷ xs) + ahead s (x ∷ xs)) ≡ suc (length xs)
     go ih (inl e) = rw e (omega (arith, behind-head x xs, ahead-head x xs))
     go ih (inr f) = omega (arith, behind-tail s x xs f, ahead-tail s x xs f, ih (other-tail f m))
-
--- ---- some
-pub some-at : (n : ℕ) (p : ℕ → Bool) → some n p ≡ true → (k : ℕ) × (k < n) × (p k ≡ true)
-unfolding some
-some-at n p h = let l : first n p < n = ltb-true (first n p) n h in (first n p, l, first-law n p .hit l)
-
-pub at-some : (n : ℕ) (p : ℕ → Bool) (k : ℕ) → k < n → p k ≡ true → some n p ≡ true
-unfolding some
-at-some n p k l h = lt-ltb (first n p) n (omega (arith, l, first-min n p k h))
 
 -- ---- lastFirst
 pub lastFirst-cong : (v w : ℕ → List ℕ → List ℕ) (l d : List ℕ) → ((t : ℕ) → Mem t l → (d : List ℕ) → v t d ≡ w t d) → lastFirst v l d ≡ lastFirst w l d

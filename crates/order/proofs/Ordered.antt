@@ -11,11 +11,10 @@ use Rattle.columns.specs.Sets.{Mem}
 use Rattle.columns.specs.Counting.{many}
 use Rattle.table.specs.Reach.{Walk, stop, along}
 use Rattle.columns.proofs.All.{top-or-below, same-or-not}
-use Rattle.columns.proofs.Counting.{many-le, many-nothing}
+use Rattle.columns.proofs.Counting.{many-le, many-nothing, many-one-more}
 use Rattle.table.proofs.Stretches.{many-front}
 use Rattle.order.specs.Order.{isIn, behind}
 use Rattle.order.specs.Machine.{arc, Cycle, cycle, Ordered, none, more}
-use Rattle.order.proofs.General.{many-one-more}
 use Rattle.order.proofs.Lists.{isIn-mem, mem-isIn, not-isIn, isIn-other, isIn-head, behind-head, behind-tail, places-add, other-tail}
 
 pub arc-mem : (next : ℕ → List ℕ) (s t : ℕ) → arc next s t ≡ true → Mem t (next s)

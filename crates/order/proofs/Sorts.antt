@@ -6,13 +6,12 @@ use Prim.Native.Nat.{ℕ, _+_, _-_, _≤_, _<_}
 use lib.ListN.{getD}
 use Rattle.columns.specs.Columns.{over, written, zeros}
 use Rattle.columns.proofs.Bools.{fails}
-use Rattle.columns.proofs.Lists.{zeros-at}
+use Rattle.columns.proofs.Lists.{zeros-at, listed-cong}
 use Rattle.table.specs.Lts.{Lts, Valid}
 use Rattle.order.specs.Order.{next, place, cyclic}
 use Rattle.order.specs.Call.{sorted}
 use Rattle.order.specs.Machine.{Idle}
 use Rattle.order.specs.Turn.{Swept, markPlace}
-use Rattle.order.proofs.General.{listed-cong}
 use Rattle.order.proofs.Turns.{idle-start, all-acyclic, mark-low, mark-high, place-reversed, place-forward}
 use Rattle.order.proofs.Successors.{starts, total-rows}
 use Rattle.order.proofs.Cycles.{long-cycle, cycle-long, cyclic-long}

@@ -2,9 +2,9 @@
 use mathlib.Core.Bool.{Bool, false, not, _&&_, _||_, cond}
 use mathlib.Core.List.{List, [], _∷_}
 use Prim.Native.Nat.{ℕ, zero, suc}
-use lib.Dec.{ltb, eqb}
+use lib.Dec.{eqb}
 use lib.ListN.{length}
-use Rattle.columns.specs.Counting.{first}
+use Rattle.columns.specs.Counting.{some}
 use Rattle.columns.specs.Rows.{rowsOf}
 use Rattle.columns.specs.Sets.{Row}
 use Rattle.table.specs.Lts.{Lts, rows}
@@ -72,11 +72,6 @@ next t hidden = succs hidden (rows t)
 unfoldable pub place : Lts → Bool → Bool → ℕ → ℕ
 unfolding placeOf succs rowsOf
 place t hidden reversed s = placeOf (next t hidden) (t .n) reversed s
-
--- some number below n passes
-unfoldable pub some : ℕ → (ℕ → Bool) → Bool
-unfolding first
-some n p = ltb (first n p) n
 
 -- a cycle longer than a self-loop: some state reaches itself through another one
 unfoldable pub cyclic : Lts → Bool → Bool

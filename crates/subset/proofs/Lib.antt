@@ -1,4 +1,3 @@
-pub mod Firsts
 pub mod Risings
 pub mod Refusals
 pub mod Walking

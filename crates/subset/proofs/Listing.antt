@@ -18,7 +18,7 @@ use Rattle.columns.proofs.Counting.{first-law}
 use Rattle.columns.proofs.Orders.{pair-order}
 use Rattle.subset.specs.Pairs.{endOf, pairAt, badPair, badAt, leastBad}
 use Rattle.subset.specs.Lists.{startAt, listAt, badStart, badInLists, listsRefusal, Starts, Lists}
-use Rattle.subset.proofs.Firsts.{NoneBelow, first-hit, first-none, none-of, some-in, some-none}
+use Rattle.columns.proofs.Firsts.{NoneBelow, first-hit, first-none, none-of, some-in, some-none}
 use Rattle.subset.proofs.Refusals.{least-of, least-on, bad-below, bad-past, pair-before, pair-above, above-pair}
 use Rattle.subset.proofs.Risings.{rising-of, ascending-of, of-ascending}
 

@@ -15,8 +15,8 @@ use Rattle.columns.proofs.Bools.{contra, fails, and-left, and-right, and-no-lef
 use Rattle.columns.proofs.Counting.{first-law}
 use Rattle.columns.proofs.Orders.{pair-order}
 use Rattle.columns.proofs.Sets.{pairEq-eq, pairEq-refl}
-use Rattle.subset.specs.Subset.{some}
-use Rattle.subset.proofs.Firsts.{some-in, some-none}
+use Rattle.columns.specs.Counting.{some}
+use Rattle.columns.proofs.Firsts.{some-in, some-none}
 use Rattle.subset.proofs.Risings.{Rising}
 
 -- ---- the pairs that are passed, from i on: those below x

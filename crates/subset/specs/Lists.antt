@@ -6,9 +6,9 @@ use lib.Dec.{ltb}
 use lib.ListN.{getD}
 use Rattle.columns.specs.declared.answers.Refusal.{Refusal}
 use Rattle.columns.specs.Columns.{listed}
+use Rattle.columns.specs.Counting.{some}
 use Rattle.columns.specs.Sets.{Pair, pairLt, Ascending}
 use Rattle.subset.specs.Pairs.{shorter, endOf, pairAt, badPair, leastBad}
-use Rattle.subset.specs.Subset.{some}
 
 abbrev pub startAt : List ℕ → ℕ → ℕ
 startAt starts u = getD starts u 0

@@ -5,15 +5,10 @@ use mathlib.Core.List.{List, [], _∷_}
 use lib.Dec.{ltb, leb}
 use Rattle.columns.specs.declared.answers.Refusal.{Refusal}
 use Rattle.columns.specs.Answers.{Said, none, bit, answering}
-use Rattle.columns.specs.Counting.{first}
+use Rattle.columns.specs.Counting.{first, some}
 use Rattle.columns.specs.Sets.{Pair, pairLt, pairEq}
 use Rattle.columns.specs.Tests.{all}
 use Rattle.subset.specs.Pairs.{shorter, endOf, pairAt, listRefusal}
-
--- some number below n passes
-unfoldable pub some : ℕ → (ℕ → Bool) → Bool
-unfolding first
-some n f = ltb (first n f) n
 
 -- a pair is in a list
 unfoldable pub among : List ℕ → List ℕ → Pair → Bool

@@ -10,7 +10,7 @@ use lib.Seq.{getD-set-same, getD-set-other, length-take-le}
 use Rattle.columns.proofs.All.{same-or-not}
 use Rattle.table.specs.Links.{Linked}
 use Rattle.table.specs.Stretch.{nextIncoming}
-use Rattle.table.proofs.Stretches.{Next, next-law, next-is}
+use Rattle.table.proofs.Stretches.{next-law, next-is}
 
 pub record Linking (target : List ℕ) (n m hs ls : ℕ) (head link : List ℕ) (i : ℕ) : Type 0 where
   pub most : i ≤ m

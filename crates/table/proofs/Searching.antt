@@ -14,7 +14,7 @@ use Rattle.columns.specs.Columns.{listed, zeros}
 use Rattle.columns.specs.Counting.{many}
 use Rattle.columns.proofs.All.{top-or-below, same-or-not}
 use Rattle.columns.proofs.Bools.{contra, bool-ext, and-left, and-right, and-both}
-use Rattle.columns.proofs.Counting.{many-hit, many-cong, many-le, many-nothing}
+use Rattle.columns.proofs.Counting.{many-one-more, many-hit, many-cong, many-le, many-nothing}
 use Rattle.columns.proofs.Lists.{length-listed, listed-at, zeros-at}
 use Rattle.table.specs.Lts.{Lts, Valid}
 use Rattle.table.specs.Checks.{roomb}
@@ -22,23 +22,8 @@ use Rattle.table.specs.Reach.{Walk, stop, along, takes, edge, reaches, r
 use Rattle.table.specs.Search.{Search, freshb}
 use Rattle.table.specs.Stretch.{firstRow}
 use Rattle.table.proofs.Refusals.{checked-of, room-of}
-use Rattle.table.proofs.Stretches.{many-miss, rising, stretch, first-row-most}
+use Rattle.table.proofs.Stretches.{rising, stretch, first-row-most}
 use Rattle.table.proofs.Walks.{joined, edge-row, row-edge, reaches-walk}
-
--- one more number passes
-many-one-more :
-    (n u : ℕ) (f g : ℕ → Bool) → u < n → f u ≡ false → g u ≡ true → ((k : ℕ) → (k ≡ u → ⊥) → g k ≡ f k) → many n g ≡ suc (many n f)
-many-one-more zero u f g h p q e = absurd (omega arith)
-many-one-more (suc n) u f g h p q e =
-    ⊎-elim
-    (λ (i : u ≡ n).
-    many-hit n g (ap g (sym i) ∙ q)
-    ∙ ap suc (many-cong n g f (λ k w. e k (λ j. omega (arith, w, i, j))) ∙ sym (many-miss f n (ap f (sym i) ∙ p))))
-    (λ (l : u < n). go (many-one-more n u f g l p q e) (f n) refl (e n (λ j. omega (arith, l, j)))) (top-or-below h)
-  where
-    go : many n g ≡ suc (many n f) → (b : Bool) → f n ≡ b → g n ≡ f n → many (suc n) g ≡ suc (many (suc n) f)
-    go ih true a d = many-hit n g (d ∙ a) ∙ (ap suc ih ∙ ap suc (sym (many-hit n f a)))
-    go ih false a d = many-miss g n (d ∙ a) ∙ (ih ∙ ap suc (sym (many-miss f n a)))
 
 -- ---- one cell of a list set
 set-here : (l : List ℕ) (i x k : ℕ) → i < length l → k ≡ i → getD (set l i x) k 0 ≡ x

@@ -13,7 +13,7 @@ use Rattle.columns.specs.Counting.{many}
 use Rattle.columns.specs.Sets.{Pair, rowLt, pairLt}
 use Rattle.columns.proofs.All.{not-below}
 use Rattle.columns.proofs.Bools.{contra}
-use Rattle.columns.proofs.Counting.{many-none, many-hit, many-up, many-le, many-mono, first-law}
+use Rattle.columns.proofs.Counting.{many-none, many-hit, many-miss, many-up, many-le, many-mono, first-law}
 use Rattle.columns.proofs.Orders.{lex-split, lex-first, lex-second, ltb-order, pair-order}
 use Rattle.table.specs.Lts.{Lts, rowIn, rowAt, Valid, Rising}
 use Rattle.table.specs.Stretch.{firstRow, nextIncoming}
@@ -24,10 +24,6 @@ module _ (f : ℕ → Bool) where
   many-all zero h = many-none f
   many-all (suc r) h = many-hit r f (h r (omega arith)) ∙ ap suc (many-all r (λ i l. h i (omega arith)))
 
-  pub many-miss : (m : ℕ) → f m ≡ false → many (suc m) f ≡ many m f
-  unfolding many
-  many-miss m e = rw e (omega arith)
-
   many-rest : (m r : ℕ) → r ≤ m → ((i : ℕ) → r ≤ i → i < m → f i ≡ false) → many m f ≡ many r f
   many-rest zero r h g = ap (λ (k : ℕ). many k f) (zero-is h)
     where
@@ -35,7 +31,7 @@ module _ (f : ℕ → Bool) where
       zero-is h = omega arith
   many-rest (suc m) r h g =
       ⊎-elim (λ (e : r ≡ suc m). ap (λ (k : ℕ). many k f) (sym e))
-      (λ (l : r < suc m). many-miss m (g m (omega arith) (omega arith)) ∙ many-rest m r (omega arith) (λ i a b. g i a (omega arith)))
+      (λ (l : r < suc m). many-miss m f (g m (omega arith) (omega arith)) ∙ many-rest m r (omega arith) (λ i a b. g i a (omega arith)))
       (eq-or-lt-of-le h)
 
   pub many-front : (m r : ℕ) → r ≤ m → ((i : ℕ) → i < r → f i ≡ true) → ((i : ℕ) → r ≤ i → i < m → f i ≡ false) → r ≡ many m f

@@ -6,7 +6,7 @@ use mathlib.Core.Bool.{Bool, not}
 use mathlib.Core.Path.{sym, ap, _∙_}
 use Rattle.subset.specs.Pairs.{pairAt}
 use Rattle.subset.specs.Subset.{notBelow}
-use Rattle.subset.proofs.Firsts.{NoneBelow, none-more, first-hit, first-past}
+use Rattle.columns.proofs.Firsts.{NoneBelow, none-more, first-hit, first-past}
 use Rattle.subset.proofs.Walking.{stays, stays-before, stays-here}
 use Prim.Native.Nat.{_≤_, _-_}
 use mathlib.Core.Bool.{not}

@@ -3,7 +3,7 @@ use native.Mathlib.Omega.{arith}
 use Prim.Native.Nat.{_≤_, _-_}
 use mathlib.Core.Path.{sym, _∙_}
 use Rattle.subset.specs.Lists.{badStart}
-use Rattle.subset.proofs.Firsts.{NoneBelow, none-more, first-hit, first-past}
+use Rattle.columns.proofs.Firsts.{NoneBelow, none-more, first-hit, first-past}
 use Rattle.subset.proofs.lists.first_bad_start.Statement.{statement}
 use Rattle.subset.proofs.lists.first_bad_start.Tie as tie
 

@@ -6,11 +6,10 @@ use borrow.Author.Tests.{ltb-true, lt-ltb}
 use mathlib.Core.Bool.{Bool, true, false}
 use mathlib.Core.Path.{_≡_, ap, _∙_}
 use mathlib.Core.Logic.{⊎-elim}
-use Rattle.columns.specs.Counting.{first}
+use Rattle.columns.specs.Counting.{first, some}
 use Rattle.columns.proofs.All.{not-below, top-or-below}
 use Rattle.columns.proofs.Bools.{contra, fails}
 use Rattle.columns.proofs.Counting.{First, Found, first-law, first-min}
-use Rattle.subset.specs.Subset.{some}
 
 module _ (f : ℕ → Bool) where
   -- no number below k passes
