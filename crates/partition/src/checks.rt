@@ -145,7 +145,7 @@ fn length_sum(begin: &[u16], end: &[u16], count: usize) -> usize
 }
 
 // Whether the six columns hold a partition of n states into count blocks.
-fn consistent(
+pub fn consistent(
     elements: &[u16],
     element_offset: &[u16],
     element_to_block: &[u16],
@@ -179,7 +179,7 @@ fn consistent(
 }
 
 // Whether each of six lengths is at least n.
-fn long(n: usize, a: usize, b: usize, c: usize, d: usize, e: usize, f: usize) -> bool
+pub fn long(n: usize, a: usize, b: usize, c: usize, d: usize, e: usize, f: usize) -> bool
     ensures { λ r. ⌜ r ≡ sixLong n a b c d e f ⌝ }
 {
     if a < n {
