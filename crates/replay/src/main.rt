@@ -25,6 +25,7 @@ fn replay(line: Line, buffer: &mut Buffer, out: &mut Buffer, used: usize) -> Ans
         names::SPLITS => split_cases::replay(line, buffer, out, used),
         names::TABLES => table_cases::replay(line, buffer, out, used),
         names::CLOSURES => closure_cases::replay(line, buffer, out, used),
+        names::ORDERS => order_cases::replay(line, buffer, out, used),
         _ => bad_case(line.input.skip_line(buffer), out, used),
     }
 }

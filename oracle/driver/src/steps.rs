@@ -35,7 +35,7 @@ fn mark_backward_closure(line: &mut Line) -> Result<String, Stop> {
 
 fn sort_topological(line: &mut Line) -> Result<String, Stop> {
     let (table, hidden, reversed) = (Table::read(line)?, line.flag()?, line.flag()?);
-    let mut places = line.column()?;
+    let mut places = line.rows()?;
     let mut work = [line.work()?, line.work()?];
     line.end()?;
     table.accept()?;
