@@ -58,7 +58,7 @@ def of_sound(operation):
 
 
 def closing(operation, rows, blocks):
-    v = {**tables.given(5, 2, rows, 4), **laid_out([4, 2, 0, 3, 1], blocks, X), 'block': 0}
+    v = {**tables.given(5, 2, sorted(rows), 4), **laid_out([4, 2, 0, 3, 1], blocks, X), 'block': 0}
     return {**v, **lent(operation, v)}
 
 

@@ -4,6 +4,7 @@ ghost use Rattle.io.specs.Counts.{Counts};
 
 pub mod tables;
 
+use crate::tables::read_table;
 use columns::answers::NumberAnswer;
 use lines::answers::number;
 use lines::input::Buffer;
@@ -20,7 +21,6 @@ use lines::rooms::Work;
 use table::Table;
 use table::incoming::incoming;
 use table::reach::reachable;
-use crate::tables::read_table;
 
 // What `reachable` takes between the table and the result, and the place after it.
 struct Start {
