@@ -5,7 +5,7 @@ WRONG_WORDS = ('65536', '131071', '4294967296', '18446744073709551616', 'x', '-1
 
 
 def lines(operation, example):
-    """Made of a sound case: a word too few, a word too many, a wrong word, another name, a flag of 2, a slice too long."""
+    """Made of a sound case: a word too few or too many, a wrong word, another name, a flag of 2, a slice too long."""
     right = written(operation, example)
     words = right.split(' ')
     yield ' '.join(words[:-1])

@@ -172,5 +172,5 @@ def example(operation):
 
 
 def cases(operation, rng, number):
-    made = values_of_new(operation, rng, number) if 'count' not in operation.parameters else values(operation, rng, number)
-    return (Case(operation, v) for v in made)
+    made = values if 'count' in operation.parameters else values_of_new
+    return (Case(operation, v) for v in made(operation, rng, number))

@@ -4,9 +4,9 @@ from itertools import chain, product
 import partitions
 import splits
 from cases_partition import every_changed_cell, every_short_column, good_arguments, large, small_size, sound
-from faults import damaged, every_length, several, shorten
+from faults import damage, damaged, every_length, outside, several, shorten
 from operations import COLUMN_ROOM, Case
-from partitions import DAMAGES, LARGEST, laid_out, lengthen, random_partition, random_split
+from partitions import LARGEST, laid_out, lengthen, random_partition, random_split
 from refusals import COLUMNS, MOST_STATES, WORK, marked
 from splits import junk_bytes, junk_cells, put
 
@@ -112,14 +112,10 @@ def at_room(operation, rng):
     yield {**v, names[-1]: v[names[-1]][:MOST_STATES if names[-1] in WORK else MOST_STATES - 1]}
 
 
-def damage(rng, v):
-    rng.choice(DAMAGES)(rng, v)
-
-
 def faults_of(operation):
     """What makes each refusal due, in an order in which all can be done."""
     numbers = [splits.make_gap, splits.unmark] if 'numbers' in operation.parameters else []
-    return [*numbers, splits.block_outside, damage, shorten(operation), partitions.n_outside]
+    return [*numbers, outside('block', 'count'), damage, shorten(operation), partitions.n_outside]
 
 
 def some_sound(operation, rng):

@@ -5,9 +5,9 @@ import partitions
 import splits
 import tables
 from cases_partition import small_size
-from faults import damaged, every_length, several, shorten
-from operations import FLAGS, TABLE, Case
-from partitions import DAMAGES, LARGEST, random_partition
+from faults import damage, damaged, every_length, outside, several, shorten
+from operations import FLAGS, Case
+from partitions import LARGEST, random_partition
 from refusals import COLUMNS, MOST_LABELS, MOST_ROWS, MOST_STATES, ROWS
 from splits import junk_cells, more
 
@@ -18,6 +18,11 @@ def takes_partition(operation):
     return 'count' in operation.parameters
 
 
+def argument_names(operation):
+    """The flags and the start state."""
+    return [name for name in operation.parameters if name in FLAGS + ('state',)]
+
+
 def slices_besides(operation):
     """The result and work slices."""
     return [name for name in operation.needs if name not in ROWS + COLUMNS]
@@ -25,7 +30,8 @@ def slices_besides(operation):
 
 def lent(operation, rng, v):
     """Result and work slices for these values: mostly exact, with junk."""
-    return {name: junk_cells(rng, v['n'], operation.needs[name](v) + more(rng, 0)) for name in slices_besides(operation)}
+    needed = {name: operation.needs[name](v) for name in slices_besides(operation)}
+    return {name: junk_cells(rng, v['n'], cells + more(rng, 0)) for name, cells in needed.items()}
 
 
 def orderly_partitions(n):
@@ -37,10 +43,8 @@ def every_argument(operation, n):
     """Every flag, start state, partition and block."""
     if takes_partition(operation):
         return [{**v, 'block': block} for v in orderly_partitions(n) for block in range(v['count'])]
-    flags = [name for name in operation.parameters if name in FLAGS]
-    names = flags + ['state'] * ('state' in operation.parameters)
-    every = product(*[(0, 1)] * len(flags), *[range(n)] * (len(names) - len(flags)))
-    return [dict(zip(names, chosen)) for chosen in every]
+    choices = {name: range(n) if name == 'state' else (0, 1) for name in argument_names(operation)}
+    return [dict(zip(choices, chosen)) for chosen in product(*choices.values())]
 
 
 def every_small(operation, rng):
@@ -77,8 +81,12 @@ def sound(operation, rng):
 def headers(operation, rng):
     """Each number of the header around its limits, alone and together."""
     v = completed(operation, rng, tables.given(3, 2, [(0, 0, 1), (1, 1, 2)]))
-    numbers = {'n': (0, 1, 3, MOST_STATES, MOST_STATES + 1, LARGEST), 'labels': (0, 1, 2, MOST_LABELS, MOST_LABELS + 1, LARGEST),
-               'm': (0, 1, 2, 3, MOST_ROWS, MOST_ROWS + 1, LARGEST), 'initial': (0, 2, 3, MOST_STATES, LARGEST)}
+    numbers = {
+        'n': (0, 1, 3, MOST_STATES, MOST_STATES + 1, LARGEST),
+        'labels': (0, 1, 2, MOST_LABELS, MOST_LABELS + 1, LARGEST),
+        'm': (0, 1, 2, 3, MOST_ROWS, MOST_ROWS + 1, LARGEST),
+        'initial': (0, 2, 3, MOST_STATES, LARGEST),
+    }
     for chosen in product(*numbers.values()):
         yield {**v, **dict(zip(numbers, chosen))}
 
@@ -108,12 +116,11 @@ def large(rng):
 def many_arguments(operation, rng, v):
     """Arguments for a large table: every flag, the first and the last state; one block with little marked, and any."""
     if not takes_partition(operation):
-        return [{**{name: state for name in ('state',) if name in operation.parameters}, **dict(zip(FLAGS, flags))}
-                for flags in product((0, 1), repeat=2) for state in (0, v['n'] - 1)]
-    order = list(range(v['n']))
+        choices = {name: (0, v['n'] - 1) if name == 'state' else (0, 1) for name in argument_names(operation)}
+        return [dict(zip(choices, chosen)) for chosen in product(*choices.values())]
+    order, cuts = list(range(v['n'])), sorted({max(v['n'] - 1, 0), 0, v['n'], v['n'] // 2})
     rng.shuffle(order)
-    splits_tried = {max(v['n'] - 1, 0), 0, v['n'], v['n'] // 2}
-    whole = [{**partitions.laid_out(order, [(0, split, v['n'])]), 'block': 0} for split in splits_tried]
+    whole = [{**partitions.laid_out(order, [(0, split, v['n'])]), 'block': 0} for split in cuts]
     return whole + [arguments(operation, rng, v) for _ in range(3)]
 
 
@@ -144,21 +151,17 @@ def every_changed_field(operation, rng):
         yield {**v, column: [*v[column][:place], number, *v[column][place + 1:]]}
 
 
-def state_outside(rng, v):
-    v['state'] = rng.choice((v['n'], min(v['n'] + 1, LARGEST), LARGEST))
-
-
-def damage(rng, v):
-    rng.choice(DAMAGES)(rng, v)
-
-
 def faults_of(operation):
     """What makes each refusal due, in an order in which all can be done."""
-    of_rows = [tables.order_broken, tables.field_outside, shorten(operation), tables.initial_outside]
-    of_header = [tables.rows_outside, tables.labels_outside, partitions.n_outside]
-    special = {'reachable': [state_outside], 'mark_backward_closure': [splits.block_outside, damage],
-               'sort_topological': [tables.make_cycle]}
-    return [*special.get(operation.name, ()), *of_rows, *of_header]
+    own = {
+        'incoming': [],
+        'reachable': [outside('state', 'n')],
+        'mark_backward_closure': [outside('block', 'count'), damage],
+        'sort_topological': [tables.make_cycle],
+    }
+    of_rows = [tables.order_broken, tables.field_outside, shorten(operation)]
+    of_header = [outside('initial', 'n'), tables.rows_outside, tables.labels_outside, partitions.n_outside]
+    return [*own[operation.name], *of_rows, *of_header]
 
 
 def values(operation, rng, number):

@@ -1,7 +1,7 @@
 """Faulty cases: a sound case with one fault, or with several at once. A fault changes the values of a case."""
 from itertools import chain, combinations, product
 
-from partitions import copied
+from partitions import DAMAGES, LARGEST, copied
 
 
 def faulty(sound, rng, wrong):
@@ -25,6 +25,18 @@ def damaged(sound, rng, faults, number):
         first, second = rng.sample(range(len(faults)), 2)
         both = [faults[place] for place in sorted((first, second))]
         yield faulty(sound, rng, both if rng.random() < 0.2 else [faults[first]])
+
+
+def outside(argument, bound):
+    """A state or block argument at its bound, past it, or far past it."""
+    def fault(rng, v):
+        v[argument] = rng.choice((v[bound], min(v[bound] + 1, LARGEST), LARGEST))
+    return fault
+
+
+def damage(rng, v):
+    """14: any damage of the partition."""
+    rng.choice(DAMAGES)(rng, v)
 
 
 def shorten(operation):

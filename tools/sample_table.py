@@ -4,9 +4,9 @@ from itertools import product
 import cases_bad
 import cases_table
 import tables
-from operations import BY_NAME, FLAGS, Case
+from operations import BY_NAME, FLAGS, Case, written
 from partitions import LARGEST, laid_out
-from refusals import COLUMNS, MOST_ROWS, MOST_STATES, ROWS
+from refusals import MOST_LABELS, MOST_ROWS, MOST_STATES
 
 OPERATIONS = ('incoming', 'reachable', 'mark_backward_closure', 'sort_topological')
 # Stands where nothing is read.
@@ -37,7 +37,8 @@ CLOSED = (
     ('a hidden self-loop, and a source that is marked already', [(1, 0, 1), (3, 0, 1)], [(0, 3, 5)]),
     ('a hidden cycle', [(0, 0, 1), (1, 0, 0), (4, 0, 0)], [(0, 4, 5)]),
     ('a visible row between', [(0, 0, 1), (2, 1, 0), (4, 0, 2)], [(0, 4, 5)]),
-    ('a path that leaves the block and returns', [(0, 0, 3), (2, 0, 0), (3, 0, 2), (4, 0, 3)], [(1, 2, 3), (3, 3, 5), (0, 1, 1)]),
+    ('a path that leaves the block and returns', [(0, 0, 3), (2, 0, 0), (3, 0, 2), (4, 0, 3)],
+     [(1, 2, 3), (3, 3, 5), (0, 1, 1)]),
     ('a source of another block', [(3, 0, 2), (4, 0, 0)], [(0, 2, 3), (3, 5, 5)]),
     ('a block of one state', [(1, 0, 1), (3, 0, 1)], [(4, 4, 5), (0, 4, 4)]),
 )
@@ -45,8 +46,8 @@ CLOSED = (
 
 def lent(operation, v):
     """Result and work slices of exact length, with other content."""
-    fill = {'incoming': 9, 'reached': 9, 'places': X, 'spare': 1, 'queue': X, 'head': 7, 'link': 0, 'marks': 2, 'stack': 5}
-    return {name: [fill[name]] * operation.needs[name](v) for name in cases_table.slices_besides(operation)}
+    slices = cases_table.slices_besides(operation)
+    return {name: [fill] * operation.needs[name](v) for name, fill in zip(slices, (9, X, 1))}
 
 
 def of_sound(operation):
@@ -85,7 +86,9 @@ def of_length(operation, v):
 
 def of_header(operation, v):
     yield f'# {operation.name}: the header out of range'
-    for name, numbers in (('n', (0, MOST_STATES + 1, X)), ('labels', (0, 1025, X)), ('m', (MOST_ROWS + 1, X)), ('initial', (3, X))):
+    outside = {'n': (0, MOST_STATES + 1, X), 'labels': (0, MOST_LABELS + 1, X), 'm': (MOST_ROWS + 1, X),
+               'initial': (3, X)}
+    for name, numbers in outside.items():
         yield from (Case(operation, {**v, name: number}) for number in numbers)
 
 
@@ -121,7 +124,8 @@ def of_order(operation, v):
 def of_partition(operation, v):
     """14 and 8."""
     yield f'# {operation.name}: a damaged partition, a block out of range'
-    broken = {'elements': [2, 2, 1], 'element_offset': [0, 1, 2], 'end': [4, 3, 3], 'marked_split': [4, 3, 3], 'begin': [3, 0, 0]}
+    broken = {'elements': [2, 2, 1], 'element_offset': [0, 1, 2], 'element_to_block': [0, 1, 0], 'begin': [3, 0, 0],
+              'marked_split': [4, 3, 3], 'end': [4, 3, 3]}
     yield from (Case(operation, {**v, column: cells}) for column, cells in broken.items())
     yield from (Case(operation, {**v, 'count': count}) for count in (0, 4, X))
     yield from (Case(operation, {**v, 'block': block}) for block in (1, 3, X))
@@ -153,6 +157,7 @@ def of_size():
 def of_no_case():
     """A word too few, a word too many, a flag of 2, and a cell that is too large in the last slice."""
     for name in OPERATIONS:
-        lines = list(cases_bad.cases(BY_NAME[name], cases_table.example(BY_NAME[name])))
-        flags = [line for line in lines if len(line.line) < 300][20:] if name != 'incoming' else []
-        yield from (lines[0], lines[2], *flags[:2], lines[-1])
+        operation, example = BY_NAME[name], cases_table.example(BY_NAME[name])
+        lines = list(cases_bad.cases(operation, example))
+        flags = [Case(operation, None, written(operation, {**example, flag: 2})) for flag in FLAGS if flag in example]
+        yield from (lines[0], lines[2], *flags, lines[-1])

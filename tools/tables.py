@@ -3,7 +3,7 @@ from itertools import compress, product
 
 import plain
 from partitions import LARGEST, junk
-from refusals import MOST_LABELS, MOST_ROWS, MOST_STATES, ROWS
+from refusals import MOST_LABELS, MOST_ROWS, ROWS
 
 
 def given(n, labels, rows, initial=0):
@@ -106,10 +106,6 @@ def any_field(rng, v):
 
 def order_broken(rng, v):
     rng.choice((row_again, rows_swapped, any_field))(rng, v)
-
-
-def initial_outside(rng, v):
-    v['initial'] = rng.choice((v['n'], min(v['n'] + 1, LARGEST), LARGEST))
 
 
 def rows_outside(rng, v):
