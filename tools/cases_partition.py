@@ -3,9 +3,9 @@ from itertools import product
 
 import partitions
 import splits
-from faults import every_length, shorten
+from faults import damage, every_length, shorten
 from operations import BOUNDS, COLUMN_ROOM, TEXT_ROOM, Case
-from partitions import DAMAGES, LARGEST, copied, laid_out, lengthen, random_partition
+from partitions import LARGEST, copied, laid_out, lengthen, random_partition
 from refusals import COLUMNS, MOST_STATES, shown
 
 
@@ -125,7 +125,7 @@ def damaged(operation, rng, number):
         if 'arguments' in wrong:
             chosen = bad_arguments(rng, operation, v, chosen)
         if 'damage' in wrong:
-            rng.choice(DAMAGES)(rng, v)
+            damage(rng, v)
         if 'short' in wrong:
             shorten(operation)(rng, v)
         if 'n' in wrong:

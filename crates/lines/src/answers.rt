@@ -1,4 +1,11 @@
 // Answers as numbers.
+ghost use mathlib.Core.Path.{_≡_};
+ghost use mathlib.Core.List.{[], _∷_};
+ghost use lib.ListN.{take};
+ghost use Rattle.columns.specs.Answers.{done as doneWith, refused as refusedWith, said, saidNumber, saidFlag};
+ghost use Rattle.lines.specs.Told.{told};
+ghost use Rattle.partition.specs.Block.{saidBlock};
+ghost use Rattle.partition.specs.Fresh.{saidPartition};
 use columns::answers::Answer;
 use columns::answers::FlagAnswer;
 use columns::answers::FlagOutcome;
@@ -19,7 +26,9 @@ pub struct Said {
 }
 
 // What is done, with the first `count` of three numbers.
-pub fn done(count: usize, a: u64, b: u64, c: u64) -> Said {
+pub fn done(count: usize, a: u64, b: u64, c: u64) -> Said
+    ensures { λ r. ⌜ told r ≡ doneWith (take count (a ∷ b ∷ c ∷ 0 ∷ 0 ∷ 0 ∷ [])) ⌝ }
+{
     let numbers = [a, b, c, 0, 0, 0];
     Said {
         refused: false,
@@ -29,7 +38,9 @@ pub fn done(count: usize, a: u64, b: u64, c: u64) -> Said {
 }
 
 // What is refused.
-pub fn refused(refusal: Refusal) -> Said {
+pub fn refused(refusal: Refusal) -> Said
+    ensures { λ r. ⌜ told r ≡ refusedWith (refusal .number) (refusal .place) ⌝ }
+{
     let numbers = [refusal.number, refusal.place, 0, 0, 0, 0];
     Said {
         refused: true,
@@ -38,7 +49,9 @@ pub fn refused(refusal: Refusal) -> Said {
     }
 }
 
-pub fn plain(answer: Answer) -> Said {
+pub fn plain(answer: Answer) -> Said
+    ensures { λ r. ⌜ told r ≡ said answer ⌝ }
+{
     let outcome = answer.outcome;
     match outcome {
         Outcome::Done => done(0, 0, 0, 0),
@@ -46,7 +59,9 @@ pub fn plain(answer: Answer) -> Said {
     }
 }
 
-pub fn number(answer: NumberAnswer) -> Said {
+pub fn number(answer: NumberAnswer) -> Said
+    ensures { λ r. ⌜ told r ≡ saidNumber answer ⌝ }
+{
     let outcome = answer.outcome;
     match outcome {
         NumberOutcome::Done(value) => done(1, value, 0, 0),
@@ -54,7 +69,9 @@ pub fn number(answer: NumberAnswer) -> Said {
     }
 }
 
-pub fn flag(answer: FlagAnswer) -> Said {
+pub fn flag(answer: FlagAnswer) -> Said
+    ensures { λ r. ⌜ told r ≡ saidFlag answer ⌝ }
+{
     let outcome = answer.outcome;
     match outcome {
         FlagOutcome::Done(value) => done(1, value as u64, 0, 0),
@@ -62,7 +79,9 @@ pub fn flag(answer: FlagAnswer) -> Said {
     }
 }
 
-pub fn block(answer: BlockAnswer) -> Said {
+pub fn block(answer: BlockAnswer) -> Said
+    ensures { λ r. ⌜ told r ≡ saidBlock answer ⌝ }
+{
     let outcome = answer.outcome;
     match outcome {
         BlockOutcome::Done(block) => done(
@@ -75,7 +94,9 @@ pub fn block(answer: BlockAnswer) -> Said {
     }
 }
 
-pub fn partition(answer: PartitionAnswer) -> Said {
+pub fn partition(answer: PartitionAnswer) -> Said
+    ensures { λ r. ⌜ told r ≡ saidPartition answer ⌝ }
+{
     let outcome = answer.outcome;
     match outcome {
         PartitionOutcome::Done(partition) => {
