@@ -37,6 +37,7 @@ class Operation(NamedTuple):
         return WORK_ROOM if slice in self.work() else ROWS_ROOM
 
 
+# The longest slices that `replay` takes.
 COLUMN_ROOM = 5000
 ROWS_ROOM = 8400
 WORK_ROOM = 12600
@@ -91,8 +92,7 @@ ALL = (
     on_partition('num_of_blocks'),
     on_partition('len'),
     on_partition('iter_block', ('block',), answers_part=True),
-    on_partition('iter_block_refusal', ('block',), has_rust=False,
-                 computed=plain.iter_block_refusal),
+    on_partition('iter_block_refusal', ('block',), has_rust=False, computed=plain.iter_block_refusal),
     on_partition('display', ('text',), ('text',), (refusals.room,)),
     on_partition('mark_element', ('element',), ('elements', 'element_offset', 'marked_split')),
     on_partition('swap_blocks', ('left', 'right'), ('element_to_block', 'begin', 'marked_split', 'end')),

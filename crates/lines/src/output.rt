@@ -1,4 +1,6 @@
 // Standard output, byte by byte through a lent buffer, of which the first `used` cells are not written yet.
+ghost use mathlib.Core.Path.{_≡_};
+ghost use Rattle.lines.specs.Text.{put};
 use crate::answers::Said;
 use crate::input::Buffer;
 use crate::rooms::Text;
@@ -11,7 +13,10 @@ pub fn flush(out: &[u8], used: usize) {
     }
 }
 
-pub fn byte(out: &mut Buffer, used: usize, byte: u8) -> usize {
+// One byte more. A full buffer is written first.
+pub fn byte(out: &mut Buffer, used: usize, byte: u8) -> usize
+    ensures { λ r. ⌜ (r, now (out .exit)) ≡ put (now (out .entry)) used byte ⌝ }
+{
     if used < 65536 {
         out[used] = byte;
         return used + 1;
