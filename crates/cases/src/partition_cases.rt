@@ -1,6 +1,7 @@
 // The operations on a partition. Its columns `elements`, `element_offset`, `element_to_block`, `begin`, `marked_split`
 // and `end` are called a, b, c, d, e and f here.
 ghost use Rattle.io.specs.Counts.{Counts};
+use block_partition::BlockPartition;
 use lines::answers::block;
 use lines::answers::flag;
 use lines::answers::number;
@@ -17,7 +18,6 @@ use lines::output::column;
 use lines::output::part;
 use lines::output::said;
 use lines::rooms::Column;
-use partition::BlockPartition;
 
 // How many cells of each column are lent.
 pub struct Lengths {

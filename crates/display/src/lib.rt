@@ -7,12 +7,12 @@ ghost use Rattle.columns.specs.Answers.{saidNumber};
 ghost use Rattle.partition.specs.Partition.{parts};
 ghost use Rattle.display.specs.Display.{displayRefusal, displayed};
 use crate::writers::write_blocks;
+use block_partition::BlockPartition;
 use columns::answers::NumberAnswer;
 use columns::answers::Refusal;
 use columns::answers::number;
 use columns::answers::refuse;
 use columns::answers::refusing_number;
-use partition::BlockPartition;
 use partition::checks::check;
 
 // 1, 7, 14, or 16 where the text is longer than `room`: the first that is due.

@@ -14,7 +14,8 @@ use Rattle.columns.proofs.All.{same-or-not, lt-or-le}
 use Rattle.columns.proofs.Bools.{cases, contra}
 use Rattle.columns.proofs.Inverses.{other-way}
 use Rattle.columns.proofs.Stores.{stores-hit, stores-miss, length-stores}
-use Rattle.division.specs.Divide.{homeBy, start, place, unmarkedIn, home, divided}
+use Rattle.passes.specs.Passes.{homeBy}
+use Rattle.division.specs.Divide.{start, place, unmarkedIn, home, divided}
 use Rattle.division.specs.Marked.{markedIn, missing, denseb}
 use Rattle.partition.specs.Partition.{Partition, Consistent, Long, Within, Lies}
 use Rattle.division.proofs.Marked.{marked-of, start-mono, start-zero, start-less, dense-below, place-only, marked-there, start-most, start-last, place-from, place-to, place-least, place-most}

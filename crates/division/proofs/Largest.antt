@@ -10,7 +10,8 @@ use lib.ListN.{getD}
 use lib.Dec.{leb}
 use Rattle.columns.specs.Counting.{first}
 use Rattle.columns.proofs.All.{top-or-below}
-use Rattle.division.specs.Divide.{largestIn, largest}
+use Rattle.passes.specs.Passes.{largestIn}
+use Rattle.division.specs.Divide.{largest}
 use Rattle.division.specs.Marked.{lenAt}
 use Rattle.partition.specs.Partition.{Partition}
 

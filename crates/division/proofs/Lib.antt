@@ -1,7 +1,7 @@
 pub mod Marked
 pub mod Largest
 pub mod Divided
-pub mod PassLaws
+pub mod Noting
 pub mod DivideLaws
 pub mod PartitionMarked
 pub mod Others

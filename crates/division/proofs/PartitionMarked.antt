@@ -13,8 +13,9 @@ use Rattle.columns.specs.Counting.{first}
 use Rattle.columns.specs.Tests.{all}
 use Rattle.columns.proofs.All.{same-or-not}
 use Rattle.columns.proofs.Bools.{cases, contra}
-use Rattle.division.specs.Divide.{home, divided, largestIn, largest, largestOf, unmarked, partitionMarked}
-use Rattle.division.specs.Marked.{markedIn, missing, denseb, lengthIn, lenAt, Ready}
+use Rattle.division.specs.Divide.{home, divided, largest, largestOf, unmarked, partitionMarked}
+use Rattle.passes.specs.Passes.{largestIn, lengthIn}
+use Rattle.division.specs.Marked.{markedIn, missing, denseb, lenAt, Ready}
 use Rattle.partition.specs.Partition.{Partition, parts, Consistent, Long}
 use Rattle.partition.specs.SwapBlocks.{exchange, swap}
 use Rattle.division.proofs.Divided.{home-only, home-where, home-end, divided-consistent, divided-long, count-more, unmarked-there, divided-unmarked, block-kept, block-marked}

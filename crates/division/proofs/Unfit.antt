@@ -14,8 +14,8 @@ use Rattle.columns.specs.Tests.{all}
 use Rattle.columns.proofs.Bools.{cases, and-left, and-right, fails}
 use Rattle.partition.specs.Partition.{Partition}
 use Rattle.partition.proofs.Refusals.{checked-of, one}
-use Rattle.division.specs.Marked.{chosen, markedIn, numbered, absent, missing, denseb, lengthIn, lenAt, Ready}
-use Rattle.division.specs.Passes.{held}
+use Rattle.division.specs.Marked.{chosen, markedIn, numbered, absent, missing, denseb, lenAt, Ready}
+use Rattle.passes.specs.Passes.{lengthIn, held}
 use Rattle.division.specs.Division.{unfit, roomb, Work, refusalFor, divisionRefusal}
 
 -- the other slices are long enough

@@ -1,4 +1,4 @@
 pub mod Marked
 pub mod Divide
-pub mod Passes
+pub mod Steps
 pub mod Division

@@ -8,6 +8,7 @@ use lib.Dec.{ltb, leb, eqb}
 use Rattle.columns.specs.Tests.{all}
 use Rattle.columns.specs.Counting.{many, first}
 use Rattle.partition.specs.Partition.{Partition, Sound}
+use Rattle.passes.specs.Passes.{lengthIn}
 
 -- state s is in block b, at position m or after it
 unfoldable pub chosen : List ℕ → List ℕ → ℕ → ℕ → ℕ → Bool
@@ -35,10 +36,6 @@ missing p b v = first (p .n) (absent p b v)
 -- the numbers of the marked states are dense: none is above the least missing one
 unfoldable pub denseb : Partition → ℕ → List ℕ → Bool
 denseb p b v = all (p .n) (λ s. cond (markedIn p b s) (ltb (getD v s 0) (missing p b v)) true)
-
--- the length of block b
-unfoldable pub lengthIn : List ℕ → List ℕ → ℕ → ℕ
-lengthIn begin end b = getD end b 0 - getD begin b 0
 
 unfoldable pub lenAt : Partition → ℕ → ℕ
 unfolding lengthIn

@@ -8,7 +8,7 @@ ghost use Rattle.columns.specs.Counting.{first};
 ghost use Rattle.columns.specs.Tests.{all};
 ghost use Rattle.partition.specs.Partition.{parts};
 ghost use Rattle.division.specs.Marked.{chosen};
-ghost use Rattle.division.specs.Passes.{held};
+ghost use Rattle.passes.specs.Passes.{held};
 ghost use Rattle.division.specs.Division.{roomb, unfit, refusalFor};
 use columns::answers::Refusal;
 use columns::answers::refuse;

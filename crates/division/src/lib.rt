@@ -7,12 +7,11 @@ ghost use Rattle.division.specs.Division.{saidDivision, countAfter, work
 
 pub mod checks;
 pub mod core;
-pub mod passes;
 
 use crate::checks::division_refusal;
+use block_partition::BlockPartition;
 use columns::answers::Refusal;
 use columns::cells::clear;
-use partition::BlockPartition;
 
 // The outcome: the old index, and the run of new blocks from `first` to before `count`, the block count now.
 pub enum DivisionOutcome {

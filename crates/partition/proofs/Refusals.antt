@@ -96,6 +96,10 @@ pub one : (a : Bool) (i x : ℕ) (next : Refusal) → (i ≡ 0 → ⊥) → unle
 one true i x next n e = (refl, e)
 one false i x next n e = absurd (n e)
 
+-- what the checks answered is t
+passed : (r t : Refusal) → t ≡ r → t .number ≡ 0 → r .number ≡ 0
+passed r t e z = sym (ap (λ (r : Refusal). r .number) e) ∙ z
+
 pub partition-sound : (p : Partition) → partitionRefusal p .number ≡ 0 → Sound p
 unfolding partitionRefusal
 partition-sound p e = checked-of p true none e .sound
@@ -104,20 +108,22 @@ pub record StateReady (p : Partition) (s : ℕ) : Type 0 where
   pub sound : Sound p
   pub known : s < p .n
 
-pub state-ready : (p : Partition) (s : ℕ) → stateRefusal p s .number ≡ 0 → StateReady p s
+pub state-ready : (p : Partition) (s : ℕ) (t : Refusal) → t ≡ stateRefusal p s → t .number ≡ 0 → StateReady p s
 unfolding stateRefusal
-state-ready p s e =
-    let c = checked-of p true (unless (ltb s (p .n)) (refusal 8 s) none) e in
+state-ready p s t e z =
+    let f = passed (stateRefusal p s) t e z in
+    let c = checked-of p true (unless (ltb s (p .n)) (refusal 8 s) none) f in
     record { sound = c .sound; known = ltb-true _ _ (one (ltb s (p .n)) 8 s none (λ q. omega arith) (c .rest) .0) }
 
 pub record BlockReady (p : Partition) (b : ℕ) : Type 0 where
   pub sound : Sound p
   pub known : b < p .count
 
-pub block-ready : (p : Partition) (b : ℕ) → blockRefusal p b .number ≡ 0 → BlockReady p b
+pub block-ready : (p : Partition) (b : ℕ) (t : Refusal) → t ≡ blockRefusal p b → t .number ≡ 0 → BlockReady p b
 unfolding blockRefusal
-block-ready p b e =
-    let c = checked-of p true (unless (ltb b (p .count)) (refusal 8 b) none) e in
+block-ready p b t e z =
+    let f = passed (blockRefusal p b) t e z in
+    let c = checked-of p true (unless (ltb b (p .count)) (refusal 8 b) none) f in
     record { sound = c .sound; known = ltb-true _ _ (one (ltb b (p .count)) 8 b none (λ q. omega arith) (c .rest) .0) }
 
 pub record BlocksReady (p : Partition) (l r : ℕ) : Type 0 where
@@ -125,10 +131,11 @@ pub record BlocksReady (p : Partition) (l r : ℕ) : Type 0 where
   pub left : l < p .count
   pub right : r < p .count
 
-pub blocks-ready : (p : Partition) (l r : ℕ) → blocksRefusal p l r .number ≡ 0 → BlocksReady p l r
+pub blocks-ready : (p : Partition) (l r : ℕ) (t : Refusal) → t ≡ blocksRefusal p l r → t .number ≡ 0 → BlocksReady p l r
 unfolding blocksRefusal
-blocks-ready p l r e =
-    let c = checked-of p true (unless (ltb l (p .count)) (refusal 8 l) (unless (ltb r (p .count)) (refusal 8 r) none)) e in
+blocks-ready p l r t e z =
+    let f = passed (blocksRefusal p l r) t e z in
+    let c = checked-of p true (unless (ltb l (p .count)) (refusal 8 l) (unless (ltb r (p .count)) (refusal 8 r) none)) f in
     let a = one (ltb l (p .count)) 8 l (unless (ltb r (p .count)) (refusal 8 r) none) (λ q. omega arith) (c .rest) in
     let d = one (ltb r (p .count)) 8 r none (λ q. omega arith) (a .1) in
     record { sound = c .sound; left = ltb-true _ _ (a .0); right = ltb-true _ _ (d .0) }
@@ -138,10 +145,11 @@ pub record NewReady (p : Partition) : Type 0 where
   pub small : p .n ≤ 4096
   pub long : Long p
 
-pub new-ready : (p : Partition) → newRefusal p .number ≡ 0 → NewReady p
+pub new-ready : (p : Partition) (t : Refusal) → t ≡ newRefusal p → t .number ≡ 0 → NewReady p
 unfolding newRefusal
-new-ready p e =
-    let a = one (sizeb (p .n)) 1 0 (unless (longb p) (refusal 7 0) none) (λ q. omega arith) e in
+new-ready p t e z =
+    let f = passed (newRefusal p) t e z in
+    let a = one (sizeb (p .n)) 1 0 (unless (longb p) (refusal 7 0) none) (λ q. omega arith) f in
     let b = one (longb p) 7 0 none (λ q. omega arith) (a .1) in
     let s = size-of (p .n) (a .0) in
     record { some = s .0; small = s .1; long = long-of p (b .0) }

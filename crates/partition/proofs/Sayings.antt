@@ -1,4 +1,4 @@
--- What an answer that holds a block or a partition says determines it.
+-- What an answer that holds a block says determines it.
 use mathlib.Core.Path.{_≡_, ap, sym}
 use native.Mathlib.Omega.{arith}
 use Prim.Native.Nat.{ℕ}
@@ -9,12 +9,7 @@ use Rattle.partition.specs.declared.block.Block.{Block}
 use Rattle.partition.specs.declared.block.BlockAnswer.{BlockAnswer}
 use Rattle.partition.specs.declared.block.BlockOutcome.{BlockOutcome}
 use Rattle.partition.specs.declared.block.BlockOutcome.the-variants as B
-use Rattle.partition.specs.declared.BlockPartition.{BlockPartition}
-use Rattle.partition.specs.declared.PartitionAnswer.{PartitionAnswer}
-use Rattle.partition.specs.declared.PartitionOutcome.{PartitionOutcome}
-use Rattle.partition.specs.declared.PartitionOutcome.the-variants as P
 use Rattle.partition.specs.Block.{blockValues, saidBlock, saidBlockOutcome}
-use Rattle.partition.specs.Fresh.{saidPartition, saidPartitionOutcome}
 
 same-values : (a b : Block) → done (blockValues a) ≡ done (blockValues b) → a ≡ b
 same-values a b e =
@@ -31,18 +26,3 @@ same-block-outcome (B.Refused r) (B.Refused q) e = ap B.Refused (same-refusal r 
 
 pub same-block : (a b : BlockAnswer) → saidBlock a ≡ saidBlock b → a ≡ b
 same-block a b e = λ i. record { outcome = same-block-outcome (a .outcome) (b .outcome) e i }
-
-same-numbers : (a b : BlockPartition) → done (a .n ∷ a .count ∷ []) ≡ done (b .n ∷ b .count ∷ []) → a ≡ b
-same-numbers a b e =
-    let n : a .n ≡ b .n = cc in
-    let c : a .count ≡ b .count = cc in
-    λ i. record { n = n i; count = c i }
-
-same-partition-outcome : (a b : PartitionOutcome) → saidPartitionOutcome a ≡ saidPartitionOutcome b → a ≡ b
-same-partition-outcome (P.Done a) (P.Done b) e = ap P.Done (same-numbers a b e)
-same-partition-outcome (P.Done a) (P.Refused q) e = absurd (apart _ _ _ e)
-same-partition-outcome (P.Refused r) (P.Done b) e = absurd (apart _ _ _ (sym e))
-same-partition-outcome (P.Refused r) (P.Refused q) e = ap P.Refused (same-refusal r q e)
-
-pub same-partition : (a b : PartitionAnswer) → saidPartition a ≡ saidPartition b → a ≡ b
-same-partition a b e = λ i. record { outcome = same-partition-outcome (a .outcome) (b .outcome) e i }

@@ -27,7 +27,7 @@ module _ (p : Partition) (b : ℕ) where
   pub iter-some : blockRefusal p b .number ≡ 0 → 0 < length (iterBlock p b)
   unfolding iterBlock stretch
   iter-some e =
-      let q = block-ready p b e in
+      let q = block-ready p b (blockRefusal p b) refl e in
       let w = q .sound .consistent .bounds b (q .known) in
       let x = getD (p .begin) b 0 in
       let z = getD (p .end) b 0 in

@@ -3,20 +3,10 @@ use Prim.Native.Nat.{ℕ}
 use mathlib.Core.List.{List, [], _∷_}
 use lib.ListN.{set}
 use Rattle.columns.specs.declared.answers.Refusal.{Refusal}
-use Rattle.columns.specs.Answers.{Said, done, refused, refusal, none, unless, leaving}
+use Rattle.columns.specs.Answers.{Said, refusal, none, unless, leaving}
 use Rattle.columns.specs.Columns.{written, wiped}
 use Rattle.partition.specs.Partition.{Partition, longb}
 use Rattle.partition.specs.Checks.{sizeb}
-use Rattle.partition.specs.declared.PartitionAnswer.{PartitionAnswer}
-use Rattle.partition.specs.declared.PartitionOutcome.{PartitionOutcome}
-use Rattle.partition.specs.declared.PartitionOutcome.the-variants as P
-
-abbrev pub saidPartitionOutcome : PartitionOutcome → Said
-saidPartitionOutcome (P.Done p) = done (p .n ∷ p .count ∷ [])
-saidPartitionOutcome (P.Refused r) = refused (r .number) (r .place)
-
-abbrev pub saidPartition : PartitionAnswer → Said
-saidPartition a = saidPartitionOutcome (a .outcome)
 
 unfoldable pub fresh : Partition → Partition
 unfolding written wiped

@@ -7,10 +7,10 @@ ghost use Rattle.split.specs.Split.{splitMarked, countAfter};
 pub mod checks;
 pub mod core;
 
+use block_partition::BlockPartition;
 use columns::answers::NumberAnswer;
 use columns::answers::number;
 use columns::answers::refusing_number;
-use partition::BlockPartition;
 
 // Splits a block by the choice, a byte for each state: 0 no, others yes. The chosen ones among its marked states become a new last
 // block, and both are unmarked; if nothing is chosen, or the whole block is, only the swaps made stay. Answers the block count.

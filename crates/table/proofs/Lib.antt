@@ -5,3 +5,4 @@ pub mod Strictly
 pub mod Incomings
 pub mod Walks
 pub mod Searching
+pub mod Linking

@@ -3,6 +3,7 @@
 pub mod checks;
 pub mod core;
 pub mod incoming;
+pub mod links;
 pub mod reach;
 
 // The numbers that travel with the columns: n states, labels, m rows and the initial state. Label 0 is hidden.

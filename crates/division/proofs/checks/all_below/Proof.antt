@@ -6,12 +6,11 @@ use mathlib.Core.Path.{_≡_, refl, ap, sym, subst, _∙_}
 use mathlib.Core.Logic.{_⊎_, inl, inr, ⊎-elim}
 use mathlib.Core.List.{List}
 use lib.ListN.{length, getD, set, length-set}
-use lib.Dec.{eqb}
+use lib.Dec.{eqb, ltb}
 use Rattle.columns.specs.Tests.{all}
 use Rattle.columns.proofs.All.{all-none, all-more, all-fails, all-done}
 use Rattle.division.specs.Marked.{chosen}
 use borrow.Author.Tests.{eq-eqb, ne-eqb, not-true, not-false, lt-ltb, le-ltb}
-use lib.Dec.{ltb}
 use Rattle.division.proofs.checks.all_below.Statement.{statement}
 use Rattle.division.proofs.checks.all_below.Tie as tie
 

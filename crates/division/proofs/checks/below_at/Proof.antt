@@ -5,10 +5,9 @@ use mathlib.Core.Path.{_≡_, refl, ap, sym, subst, _∙_}
 use mathlib.Core.Logic.{_⊎_, inl, inr, ⊎-elim}
 use mathlib.Core.List.{List}
 use lib.ListN.{length, getD, set, length-set}
-use lib.Dec.{eqb}
-use Rattle.division.proofs.PassLaws.{below-free, below-yes, below-no}
+use lib.Dec.{eqb, ltb}
+use Rattle.division.proofs.Noting.{below-free, below-yes, below-no}
 use borrow.Author.Tests.{eq-eqb, ne-eqb, not-true, not-false, lt-ltb, le-ltb}
-use lib.Dec.{ltb}
 use borrow.Author.Needs.{needs}
 use Rattle.division.proofs.checks.below_at.Statement.{statement}
 use Rattle.division.proofs.checks.below_at.Tie as tie

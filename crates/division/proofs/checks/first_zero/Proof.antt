@@ -7,10 +7,9 @@ use mathlib.Core.Path.{_≡_, refl, ap, sym, subst, _∙_}
 use mathlib.Core.Logic.{_⊎_, inl, inr, ⊎-elim}
 use mathlib.Core.List.{List}
 use lib.ListN.{length, getD, set, length-set}
-use lib.Dec.{eqb}
-use Rattle.division.proofs.PassLaws.{first-is}
+use lib.Dec.{eqb, ltb}
+use Rattle.passes.proofs.PassLaws.{first-is}
 use borrow.Author.Tests.{eq-eqb, ne-eqb, not-true, not-false, lt-ltb, le-ltb}
-use lib.Dec.{ltb}
 use Rattle.division.proofs.checks.first_zero.Statement.{statement}
 use Rattle.division.proofs.checks.first_zero.Tie as tie
 

@@ -6,7 +6,7 @@ use mathlib.Core.Logic.{_⊎_, inl, inr, ⊎-elim}
 use mathlib.Core.List.{List}
 use lib.ListN.{length, getD, set, length-set}
 use lib.Dec.{eqb}
-use Rattle.division.proofs.PassLaws.{other-block, too-early, is-one}
+use Rattle.division.proofs.Noting.{other-block, too-early, is-one}
 use borrow.Author.Needs.{needs}
 use Rattle.division.proofs.checks.is_chosen.Statement.{statement}
 use Rattle.division.proofs.checks.is_chosen.Tie as tie

@@ -6,12 +6,11 @@ use mathlib.Core.Path.{_≡_, refl, ap, sym, subst, _∙_}
 use mathlib.Core.Logic.{_⊎_, inl, inr, ⊎-elim}
 use mathlib.Core.List.{List}
 use lib.ListN.{length, getD, set, length-set}
-use lib.Dec.{eqb}
+use lib.Dec.{eqb, ltb}
 use Rattle.division.specs.Marked.{chosen}
-use Rattle.division.specs.Passes.{held}
-use Rattle.division.proofs.PassLaws.{noted-none, noted-pass, noted-more}
+use Rattle.passes.specs.Passes.{held}
+use Rattle.division.proofs.Noting.{noted-none, noted-pass, noted-more}
 use borrow.Author.Tests.{eq-eqb, ne-eqb, not-true, not-false, lt-ltb, le-ltb}
-use lib.Dec.{ltb}
 use Rattle.division.proofs.checks.note.Statement.{statement}
 use Rattle.division.proofs.checks.note.Tie as tie
 

@@ -1,0 +1,9 @@
+pub mod Growing
+pub mod Steps
+pub mod Reading
+pub mod Answering
+pub mod Marking
+pub mod Closed
+pub mod Least
+pub mod Laws
+pub mod Examples

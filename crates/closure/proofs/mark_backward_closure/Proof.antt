@@ -1,0 +1,101 @@
+-- `mark_backward_closure` meets its contract.
+use native.Mathlib.Omega.{arith}
+use mathlib.Core.Path.{refl, ap, _∙_}
+use lib.ListN.{length}
+use Rattle.columns.specs.Columns.{zeros}
+use Rattle.partition.specs.Partition.{Partition, parts}
+use Rattle.table.specs.Lts.{Lts, lts}
+use Rattle.closure.proofs.Answering.{closure-ready, closure-refused, closure-answered}
+use borrow.Author.Needs.{needs}
+use Rattle.closure.proofs.mark_backward_closure.Statement.{statement}
+use Rattle.closure.proofs.mark_backward_closure.Tie as tie
+
+-- the table and the partition that are lent
+abbrev L : tie.Start → Lts
+L a = lts (a .args .table) (a .args .source .now) (a .args .label .now) (a .args .target .now)
+
+abbrev P : tie.Start → Partition
+P a =
+    parts (a .args .elements .now) (a .args .element-offset .now) (a .args .element-to-block .now) (a .args .begin .now)
+    (a .args .marked-split .now) (a .args .end .now) (a .args .table .n) (a .args .count)
+
+closure-refusal-requires : tie.Need-closure-refusal-requires
+closure-refusal-requires c κs = search needs
+
+refusing-requires : tie.Need-refusing-requires
+refusing-requires c κs = search needs
+
+same-length : tie.Need-same-length
+same-length c = search needs
+
+same-length-2 : tie.Need-same-length-2
+same-length-2 c = search needs
+
+same-length-3 : tie.Need-same-length-3
+same-length-3 c = search needs
+
+returns : tie.Need-returns
+returns c = let a = c .before .before .before .before .before .before .before .before .before .before .before .before .before .before .before .before .before in closure-refused (L a) (P a) (a .args .block-index) (a .args .head .now) (a .args .link .now) _ (c .before .before .closure-refusal .ensures) _ (c .before .if1 .taken) (c .refusing .ensures)
+
+cast-link-incoming : tie.Need-cast-link-incoming
+cast-link-incoming c = search needs
+
+cast-link-incoming-2 : tie.Need-cast-link-incoming-2
+cast-link-incoming-2 c = search needs
+
+link-incoming-requires : tie.Need-link-incoming-requires
+link-incoming-requires c κs = let a = c .before .before .before .before .before .before .before .before .before .before .before .before .before .before .before .before .before .before .before .before in let q = closure-ready (L a) (P a) refl (a .args .block-index) (length (a .args .head .now)) (length (a .args .link .now)) _ (c .before .before .before .before .before .closure-refusal .ensures) (c .before .before .before .before .if1 .left) in ((q .valid .long .target, omega (arith, q .heads), omega (arith, q .links), omega (arith, q .valid .few-rows)), λ i h. q .valid .fields i h .target)
+
+mark-backward-closure-requires : tie.Need-mark-backward-closure-requires
+mark-backward-closure-requires c κs = let a = c .before .before .before .before .before .before .before .before .before .before .before .before .before .before .before .before .before .before .before .before .before .before .before .before .before .before .before .before .before .before in let q = closure-ready (L a) (P a) refl (a .args .block-index) (length (a .args .head .now)) (length (a .args .link .now)) _ (c .before .before .before .before .before .before .before .before .before .before .before .before .before .before .before .closure-refusal .ensures) (c .before .before .before .before .before .before .before .before .before .before .before .before .before .before .if1 .left) in ((q .valid, c .before .before .before .before .before .before .before .before .before .link-incoming .ensures), (q .sound, q .known))
+
+clear-requires : tie.Need-clear-requires
+clear-requires c κs = search needs
+
+clear-requires-2 : tie.Need-clear-requires-2
+clear-requires-2 c κs = search needs
+
+finished-requires : tie.Need-finished-requires
+finished-requires c κs = search needs
+
+same-length-4 : tie.Need-same-length-4
+same-length-4 c = search needs
+
+same-length-5 : tie.Need-same-length-5
+same-length-5 c = search needs
+
+same-length-6 : tie.Need-same-length-6
+same-length-6 c = search needs
+
+same-length-7 : tie.Need-same-length-7
+same-length-7 c = search needs
+
+same-length-8 : tie.Need-same-length-8
+same-length-8 c = search needs
+
+returns-2 : tie.Need-returns-2
+returns-2 c = let a = c .before .before .before .before .before .before .before .before .before .before .before .before .before .before .before .before .before .before .before .before .before .before .before .before .before .before .before .before .before .before .before .before .before .before .before .before .before .before .before .before .before .before .before .before .before .before in closure-answered (L a) (P a) (a .args .block-index) (a .args .head .now) (a .args .link .now) _ (c .before .before .before .before .before .before .before .before .before .before .before .before .before .before .before .before .before .before .before .before .before .before .before .before .before .before .before .before .before .before .before .closure-refusal .ensures) _ (c .before .before .before .before .before .before .before .before .before .before .before .before .before .before .before .before .before .before .before .before .before .before .before .before .before .before .before .before .before .before .if1 .left) (c .finished .ensures) _ (c .before .before .before .before .before .before .before .before .before .before .before .before .before .before .before .mark-backward-closure .ensures) _ _ (c .before .before .before .before .before .before .before .clear .ensures ∙ ap zeros (c .before .before .before .before .before .before .before .before .before .before .before .before .before .before .before .before .before .before .before .before .before .before .before .before .before .link-incoming .kept .1 .1 .1 .0)) (c .before .before .before .clear2 .ensures ∙ ap zeros (c .before .before .before .before .before .before .before .before .before .before .before .before .before .before .before .before .before .before .before .before .before .before .before .before .before .link-incoming .kept .1 .1 .1 .1 .0))
+
+pub mark-backward-closure-spec : {M : Type 1} → statement M
+mark-backward-closure-spec =
+    tie.close
+    (tie.spec
+    closure-refusal-requires
+    refusing-requires
+    same-length
+    same-length-2
+    same-length-3
+    returns
+    cast-link-incoming
+    cast-link-incoming-2
+    link-incoming-requires
+    mark-backward-closure-requires
+    clear-requires
+    clear-requires-2
+    finished-requires
+    same-length-4
+    same-length-5
+    same-length-6
+    same-length-7
+    same-length-8
+    returns-2)
