@@ -1,0 +1,17 @@
+pub mod Examples
+pub mod General
+pub mod Lists
+pub mod Ordered
+pub mod Visits
+pub mod Machine
+pub mod Turns
+pub mod Successors
+pub mod Rows
+pub mod Cycles
+pub mod Topological
+pub mod Steps
+pub mod Searches
+pub mod Sorts
+pub mod Calls
+pub mod Absences
+pub mod Bounds

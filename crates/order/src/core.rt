@@ -1,0 +1,272 @@
+// What other crates call once a table is checked. No entry points: each says what it requires.
+ghost use mathlib.Core.Path.{_≡_};
+ghost use mathlib.Core.Bool.{not};
+ghost use mathlib.Core.List.{List};
+ghost use Prim.Native.Nat.{ℕ, _+_, _≤_, _<_};
+ghost use lib.ListN.{length, getD};
+ghost use Rattle.columns.specs.Columns.{written, zeros};
+ghost use Rattle.table.specs.Lts.{lts, Valid};
+ghost use Rattle.order.specs.Order.{next, cyclic};
+ghost use Rattle.order.specs.Call.{sorted};
+ghost use Rattle.order.specs.Machine.{stackOf, Machine, Idle};
+ghost use Rattle.order.specs.Turn.{seenOf, Pushed, Standing, Turned, Searched, Swept, markPlace};
+use columns::cells::at;
+use columns::cells::clear;
+use table::Table;
+use table::core::first_row;
+use table::core::taken;
+
+// The mark of the target of row i, a row of s; 2 if the row is not accepted, and for a self-loop.
+fn seen(label: &[u16], target: &[u16], hidden: bool, s: usize, i: usize, marks: &[u16]) -> usize
+    requires { ⌜ (i < length (now label)) × (i < length (now target)) × (getD (now target) i 0 < length (now marks)) ⌝ }
+    ensures { λ r. ⌜ r ≡ seenOf hidden s (now (marks .entry)) (getD (now (label .entry)) i 0) (getD (now (target .entry)) i 0) ⌝ }
+{
+    if !taken(label, hidden, i) {
+        return 2;
+    }
+    let u = at(target, i);
+    let mark = at(marks, u);
+    if u == s { 2 } else { mark }
+}
+
+// Pushes the successors of s that are not yet visited, in listed order. Returns the new top, or 0 if a successor is on the way.
+fn push_successors(
+    table: Table,
+    source: &[u16],
+    label: &[u16],
+    target: &[u16],
+    hidden: bool,
+    s: usize,
+    marks: &[u16],
+    stack: &mut [u16],
+    top: usize,
+) -> usize
+    requires { ⌜ Valid (lts table (now source) (now label) (now target)) ⌝ }
+    requires { ⌜ (s < table .n) × (table .n ≤ length (now marks)) × (0 < top) × (top + length (next (lts table (now source) (now label) (now target)) hidden s) ≤ length (now stack)) ⌝ }
+    ensures { λ r. ⌜ Pushed (next (lts table (now (source .entry)) (now (label .entry)) (now (target .entry))) hidden s) (now (marks .entry)) (now (stack .entry)) (now (stack .exit)) top r ⌝ }
+{
+    let m = table.m as usize;
+    let mut i = first_row(source, m, s);
+    let end = first_row(source, m, s + 1);
+    let mut high = top;
+    while i < end {
+        let k = seen(label, target, hidden, s, i, marks);
+        if k == 1 {
+            return 0;
+        }
+        if k == 0 {
+            stack[high] = target[i];
+            high += 1;
+            i += 1;
+        } else {
+            i += 1;
+        }
+    }
+    high
+}
+
+// A turn's end: the new top, the number of finished states, and whether a cycle was met.
+struct Next {
+    top: usize,
+    count: usize,
+    cyclic: bool,
+}
+
+// Takes the top entry off: a new state is visited and pushed again under its new successors, one on the way is finished, a
+// finished one dropped.
+fn turn(
+    table: Table,
+    source: &[u16],
+    label: &[u16],
+    target: &[u16],
+    hidden: bool,
+    marks: &mut [u16],
+    stack: &mut [u16],
+    top: usize,
+    count: usize,
+) -> Next
+    requires { ⌜ Valid (lts table (now source) (now label) (now target)) ⌝ }
+    requires { ⌜ (table .n ≤ length (now marks)) × (table .m + 1 ≤ length (now stack)) × (0 < top) ⌝ }
+    requires { ⌜ Standing (next (lts table (now source) (now label) (now target)) hidden) (table .n) (table .m) (now marks) (stackOf top (now stack)) count ⌝ }
+    ensures { λ r. ⌜ ((bound : ℕ) → (goal : List ℕ) → Machine (next (lts table (now (source .entry)) (now (label .entry)) (now (target .entry))) hidden) (table .n) (table .m) bound goal (now (marks .entry)) (stackOf top (now (stack .entry))) count → Turned (next (lts table (now (source .entry)) (now (label .entry)) (now (target .entry))) hidden) (table .n) (table .m) bound goal (now (marks .entry)) (stackOf top (now (stack .entry))) (now (marks .exit)) (stackOf (r .top) (now (stack .exit))) (r .count) (r .cyclic)) ⌝ }
+{
+    let last = top - 1;
+    let s = at(&*stack, last);
+    let k = at(&*marks, s);
+    if k == 1 {
+        marks[s] = (count + 2) as u16;
+        return Next {
+            top: last,
+            count: count + 1,
+            cyclic: false,
+        };
+    }
+    if k != 0 {
+        return Next {
+            top: last,
+            count,
+            cyclic: false,
+        };
+    }
+    marks[s] = 1;
+    let high = push_successors(
+        table,
+        source,
+        label,
+        target,
+        hidden,
+        s,
+        &*marks,
+        &mut *stack,
+        top,
+    );
+    Next {
+        top: high,
+        count,
+        cyclic: high == 0,
+    }
+}
+
+// All that root leads to is finished. Returns how many states are finished in all, and n + 1 for a cycle.
+fn search_from(
+    table: Table,
+    source: &[u16],
+    label: &[u16],
+    target: &[u16],
+    hidden: bool,
+    marks: &mut [u16],
+    stack: &mut [u16],
+    root: usize,
+    count: usize,
+) -> usize
+    requires { ⌜ Valid (lts table (now source) (now label) (now target)) ⌝ }
+    requires { ⌜ (table .n ≤ length (now marks)) × (table .m + 1 ≤ length (now stack)) × (root < table .n) ⌝ }
+    requires { ⌜ Idle (next (lts table (now source) (now label) (now target)) hidden) (table .n) (table .m) root (now marks) count ⌝ }
+    ensures { λ r. ⌜ Searched (next (lts table (now (source .entry)) (now (label .entry)) (now (target .entry))) hidden) (table .n) (table .m) (root + 1) (now (marks .exit)) r ⌝ }
+{
+    if at(&*marks, root) != 0 {
+        return count;
+    }
+    stack[0] = root as u16;
+    let mut top = 1;
+    let mut k = count;
+    while 0 < top {
+        let t = turn(
+            table,
+            source,
+            label,
+            target,
+            hidden,
+            &mut *marks,
+            &mut *stack,
+            top,
+            k,
+        );
+        if t.cyclic {
+            return table.n as usize + 1;
+        }
+        top = t.top;
+        k = t.count;
+    }
+    k
+}
+
+// The searches from 0 upward. Returns whether there is no cycle.
+fn sweep_all(
+    table: Table,
+    source: &[u16],
+    label: &[u16],
+    target: &[u16],
+    hidden: bool,
+    marks: &mut [u16],
+    stack: &mut [u16],
+) -> bool
+    requires { ⌜ Valid (lts table (now source) (now label) (now target)) ⌝ }
+    requires { ⌜ (table .n ≤ length (now marks)) × (table .m + 1 ≤ length (now stack)) ⌝ }
+    requires { ⌜ Idle (next (lts table (now source) (now label) (now target)) hidden) (table .n) (table .m) 0 (now marks) 0 ⌝ }
+    ensures { λ r. ⌜ Swept (next (lts table (now (source .entry)) (now (label .entry)) (now (target .entry))) hidden) (table .n) (table .m) (now (marks .exit)) r ⌝ }
+{
+    let n = table.n as usize;
+    let mut root = 0;
+    let mut count = 0;
+    while root < n {
+        count = search_from(
+            table,
+            source,
+            label,
+            target,
+            hidden,
+            &mut *marks,
+            &mut *stack,
+            root,
+            count,
+        );
+        if n < count {
+            return false;
+        }
+        root += 1;
+    }
+    true
+}
+
+// The place that a mark says.
+fn mark_place(n: usize, reversed: bool, k: usize) -> usize
+    requires { ⌜ (2 ≤ k) × (k ≤ n + 1) × (n ≤ 4096) ⌝ }
+    ensures { λ r. ⌜ (r ≡ markPlace n reversed k) × (r < 65536) ⌝ }
+{
+    if reversed {
+        return k - 2;
+    }
+    n + 1 - k
+}
+
+// The places that the marks say, over the first n cells.
+fn write_places(marks: &[u16], n: usize, reversed: bool, places: &mut [u16])
+    requires { ⌜ (n ≤ length (now marks)) × (n ≤ length (now places)) × (n ≤ 4096) ⌝ }
+    requires { ⌜ ((s : ℕ) → s < n → (2 ≤ getD (now marks) s 0) × (getD (now marks) s 0 ≤ n + 1)) ⌝ }
+    ensures { λ _. ⌜ now (places .exit) ≡ written n (λ s. markPlace n reversed (getD (now (marks .entry)) s 0)) (now (places .entry)) ⌝ }
+{
+    let mut s = 0;
+    while s < n {
+        places[s] = mark_place(n, reversed, at(marks, s)) as u16;
+        s += 1;
+    }
+}
+
+// Each state's place, over the first n cells of `places`, in the order of finishing if reversed and in its opposite otherwise.
+// Returns whether there is no cycle longer than a self-loop; a cycle leaves `places` as it was. The work slices, of n and of
+// m + 1 cells, may hold anything, and are zero then.
+pub fn sort_topological(
+    table: Table,
+    source: &[u16],
+    label: &[u16],
+    target: &[u16],
+    hidden: bool,
+    reversed: bool,
+    places: &mut [u16],
+    marks: &mut [u16],
+    stack: &mut [u16],
+) -> bool
+    requires { ⌜ Valid (lts table (now source) (now label) (now target)) ⌝ }
+    requires { ⌜ (table .n ≤ length (now places)) × (table .n ≤ length (now marks)) × (table .m + 1 ≤ length (now stack)) ⌝ }
+    ensures { λ r. ⌜ r ≡ not (cyclic (lts table (now (source .entry)) (now (label .entry)) (now (target .entry))) hidden) ⌝ }
+    ensures { λ _. ⌜ now (places .exit) ≡ sorted (lts table (now (source .entry)) (now (label .entry)) (now (target .entry))) hidden reversed (now (places .entry)) ⌝ }
+    ensures { λ _. ⌜ (now (marks .exit) ≡ zeros (length (now (marks .entry)))) × (now (stack .exit) ≡ zeros (length (now (stack .entry)))) ⌝ }
+{
+    clear(&mut *marks);
+    let free = sweep_all(
+        table,
+        source,
+        label,
+        target,
+        hidden,
+        &mut *marks,
+        &mut *stack,
+    );
+    if free {
+        write_places(&*marks, table.n as usize, reversed, &mut *places);
+    }
+    clear(&mut *marks);
+    clear(&mut *stack);
+    free
+}

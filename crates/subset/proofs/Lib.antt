@@ -1,0 +1,7 @@
+pub mod Firsts
+pub mod Risings
+pub mod Refusals
+pub mod Walking
+pub mod Subsets
+pub mod Listing
+pub mod Examples
