@@ -1,11 +1,11 @@
 """Lines that are no case."""
-from operations import BYTES, COLUMN_ROOM, TEXT_ROOM, Case, written
+from operations import BYTES, FLAGS, Case, written
 
 WRONG_WORDS = ('65536', '131071', '4294967296', '18446744073709551616', 'x', '-1', '1x', '|')
 
 
 def lines(operation, example):
-    """Made of a sound case: a word too few, a word too many, a wrong word, another name, a slice that is too long."""
+    """Made of a sound case: a word too few or too many, a wrong word, another name, a flag of 2, a slice too long."""
     right = written(operation, example)
     words = right.split(' ')
     yield ' '.join(words[:-1])
@@ -18,9 +18,10 @@ def lines(operation, example):
         yield ' '.join([words[0], word, *words[2:]])
         yield ' '.join([*words[:-1], word])
     for name, value in example.items():
+        if name in FLAGS:
+            yield written(operation, {**example, name: 2})
         if isinstance(value, list):
-            room = TEXT_ROOM if name == 'text' else COLUMN_ROOM
-            yield written(operation, {**example, name: [0] * (room + 1)})
+            yield written(operation, {**example, name: [0] * (operation.room(name) + 1)})
             yield written(operation, {**example, name: [*value[:-1], '256' if name in BYTES else '65536']})
 
 

@@ -3,8 +3,9 @@ from itertools import product
 
 import partitions
 import splits
+from faults import damage, every_length, shorten
 from operations import BOUNDS, COLUMN_ROOM, TEXT_ROOM, Case
-from partitions import DAMAGES, LARGEST, copied, laid_out, lengthen, random_partition
+from partitions import LARGEST, copied, laid_out, lengthen, random_partition
 from refusals import COLUMNS, MOST_STATES, shown
 
 
@@ -80,12 +81,9 @@ def every_changed_cell(operation, rng):
 
 
 def every_short_column(operation, rng):
-    """A partition with each column one short, empty, or one longer, in all combinations."""
+    """A partition with its columns at every length."""
     v = laid_out([1, 0], [(0, 1, 2)])
-    chosen = good_arguments(rng, operation, v)
-    for lengths in product((2, 1, 0, 3), repeat=6):
-        columns = {column: (v[column] + [LARGEST])[:length] for column, length in zip(COLUMNS, lengths)}
-        yield {**v, **columns, **chosen}
+    return every_length(operation, {**v, **good_arguments(rng, operation, v)}, COLUMNS)
 
 
 def large(operation, rng):
@@ -127,9 +125,9 @@ def damaged(operation, rng, number):
         if 'arguments' in wrong:
             chosen = bad_arguments(rng, operation, v, chosen)
         if 'damage' in wrong:
-            rng.choice(DAMAGES)(rng, v)
+            damage(rng, v)
         if 'short' in wrong:
-            partitions.shorten(rng, v)
+            shorten(operation)(rng, v)
         if 'n' in wrong:
             partitions.n_outside(rng, v)
         yield {**v, **chosen}
@@ -144,7 +142,7 @@ def values(operation, rng, number):
     yield from damaged(operation, rng, number // 2)
 
 
-def values_of_new(rng, number):
+def values_of_new(operation, rng, number):
     """`BlockPartition::new`: n and columns of any content."""
     for n, lengths in product((0, 1, 2), product((0, 1, 2, 3), repeat=6)):
         yield {'n': n, **{column: [LARGEST] * length for column, length in zip(COLUMNS, lengths)}}
@@ -156,7 +154,7 @@ def values_of_new(rng, number):
         v = {'n': n, **{column: [junk_cell(rng) for _ in range(n)] for column in COLUMNS}}
         lengthen(rng, v)
         if index >= number:
-            rng.choice((partitions.shorten, partitions.shorten, partitions.n_outside))(rng, v)
+            rng.choice((shorten(operation), shorten(operation), partitions.n_outside))(rng, v)
         if index >= number and rng.random() < 0.2:
             partitions.n_outside(rng, v)
         yield v
@@ -174,5 +172,5 @@ def example(operation):
 
 
 def cases(operation, rng, number):
-    made = values_of_new(rng, number) if 'count' not in operation.parameters else values(operation, rng, number)
-    return (Case(operation, v) for v in made)
+    made = values if 'count' in operation.parameters else values_of_new
+    return (Case(operation, v) for v in made(operation, rng, number))

@@ -1,11 +1,12 @@
 """Cases of the operations that split a block: every small one, equal sizes, the limits, random ones, faulty ones."""
-from itertools import chain, combinations, product
+from itertools import chain, product
 
 import partitions
 import splits
 from cases_partition import every_changed_cell, every_short_column, good_arguments, large, small_size, sound
+from faults import damage, damaged, every_length, outside, several, shorten
 from operations import COLUMN_ROOM, Case
-from partitions import DAMAGES, LARGEST, copied, laid_out, lengthen, random_partition, random_split
+from partitions import LARGEST, laid_out, lengthen, random_partition, random_split
 from refusals import COLUMNS, MOST_STATES, WORK, marked
 from splits import junk_bytes, junk_cells, put
 
@@ -80,14 +81,10 @@ def among_blocks(rng, unmarked, size):
 
 
 def every_short_slice(operation, rng):
-    """The slices besides the columns exact, one short, empty, or one longer, in all combinations."""
+    """The slices besides the columns at every length."""
     v = laid_out([1, 0], [(0, 1, 2)])
-    chosen = good_arguments(rng, operation, v)
-    names = [name for name in splits.SLICES if name in chosen]
-    for changes in product((0, -1, None, 1), repeat=len(names)):
-        needed = {name: v['n'] + (name in WORK) for name in names}
-        lengths = {name: 0 if change is None else needed[name] + change for name, change in zip(names, changes)}
-        yield {**v, **chosen, **{name: (chosen[name] + [1, 1])[:length] for name, length in lengths.items()}}
+    v |= good_arguments(rng, operation, v)
+    return every_length(operation, v, [name for name in splits.SLICES if name in v])
 
 
 def at_limit(operation, rng):
@@ -115,53 +112,17 @@ def at_room(operation, rng):
     yield {**v, names[-1]: v[names[-1]][:MOST_STATES if names[-1] in WORK else MOST_STATES - 1]}
 
 
-def shorten(rng, v):
-    """One slice, or several: one short, empty, or anything between."""
-    names = [name for name in COLUMNS + splits.SLICES if name in v]
-    for name in rng.sample(names, rng.choice((1, 1, 1, 2, len(names)))):
-        needed = max(v['n'] + (name in WORK), 1)
-        del v[name][rng.choice((needed - 1, 0, rng.randrange(needed))):]
-
-
-def damage(rng, v):
-    rng.choice(DAMAGES)(rng, v)
-
-
-# What makes each refusal due, in an order in which all can be done.
-FAULTS = {
-    10: splits.make_gap, 9: splits.unmark, 8: splits.block_outside, 14: damage, 7: shorten, 1: partitions.n_outside,
-}
-
-
 def faults_of(operation):
-    return [fault for number, fault in FAULTS.items() if 'numbers' in operation.parameters or number not in (9, 10)]
+    """What makes each refusal due, in an order in which all can be done."""
+    numbers = [splits.make_gap, splits.unmark] if 'numbers' in operation.parameters else []
+    return [*numbers, outside('block', 'count'), damage, shorten(operation), partitions.n_outside]
 
 
-def faulty(operation, rng, wrong):
-    """A random case with these faults."""
+def some_sound(operation, rng):
+    """A random sound case."""
     v = random_partition(rng, small_size(rng))
     v = lengthen(rng, v) if rng.random() < 0.5 else v
-    v = copied({**v, **good_arguments(rng, operation, v)})
-    for fault in wrong:
-        fault(rng, v)
-    return v
-
-
-def several_faults(operation, rng):
-    """Every set of faults, thirty times."""
-    faults = faults_of(operation)
-    sets = chain.from_iterable(combinations(faults, size) for size in range(len(faults) + 1))
-    for wrong, _ in product(sets, range(30)):
-        yield faulty(operation, rng, wrong)
-
-
-def damaged(operation, rng, number):
-    """Random cases with one fault, or with two."""
-    faults = faults_of(operation)
-    for _ in range(number):
-        first, second = rng.sample(range(len(faults)), 2)
-        both = [faults[place] for place in sorted((first, second))]
-        yield faulty(operation, rng, both if rng.random() < 0.2 else [faults[first]])
+    return {**v, **good_arguments(rng, operation, v)}
 
 
 def values(operation, rng, number):
@@ -175,8 +136,9 @@ def values(operation, rng, number):
     yield from at_limit(operation, rng)
     yield from at_room(operation, rng)
     yield from sound(operation, rng, number)
-    yield from several_faults(operation, rng)
-    yield from damaged(operation, rng, number // 2)
+    faults, faultless = faults_of(operation), lambda: some_sound(operation, rng)
+    yield from several(faultless, rng, faults)
+    yield from damaged(faultless, rng, faults, number // 2)
 
 
 def example(operation):

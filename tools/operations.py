@@ -1,8 +1,9 @@
 """The operations of docs/REPLAY.md, and a case of one."""
-from typing import NamedTuple
+from typing import Callable, NamedTuple
 
+import plain
 import refusals
-from refusals import COLUMNS, WORK, below, cell_for_each_state
+from refusals import COLUMNS, ROWS, WORK, WORKED, a_row, a_state, below, worked
 
 
 class Operation(NamedTuple):
@@ -10,7 +11,9 @@ class Operation(NamedTuple):
     parameters: tuple
     tests: tuple  # 01's refusals in 01's order
     changed: tuple = ()  # the parameters that are `&mut` slices
+    needs: dict = {}  # for a slice that has a length in 01, the cells needed
     has_rust: bool = True
+    computed: Callable = None  # a plain computation of the answer
     answers_part: bool = False
 
     def refusal(self, values):
@@ -21,24 +24,57 @@ class Operation(NamedTuple):
                 return found
         return None
 
+    def work(self):
+        """The work slices."""
+        return [slice for slice, cells in self.needs.items() if cells is worked]
+
+    def room(self, slice):
+        """The longest slice that `replay` takes here."""
+        if slice == 'text':
+            return TEXT_ROOM
+        if slice in COLUMNS or 'm' not in self.parameters:
+            return COLUMN_ROOM
+        return WORK_ROOM if slice in self.work() else ROWS_ROOM
+
 
 # The longest slices that `replay` takes.
 COLUMN_ROOM = 5000
+ROWS_ROOM = 8400
+WORK_ROOM = 12600
 TEXT_ROOM = 70000
 # The slices of bytes; every other one is of u16.
 BYTES = ('text', 'choice')
+FLAGS = ('hidden', 'reversed')
 
 PARTITION = ('n', 'count') + COLUMNS
+TABLE = ('n', 'labels', 'm', 'initial') + ROWS
 BLOCK = ('begin', 'marked_split', 'end')
+EACH_STATE = dict.fromkeys(COLUMNS, a_state)
+# The slices that have a length in 01 and stand beside a partition's columns.
+BESIDES = ('numbers', 'choice') + WORK
 # A state or block argument, and the number that it lies below.
-BOUNDS = {'element': 'n', 'block': 'count', 'left': 'count', 'right': 'count'}
+BOUNDS = {'element': 'n', 'state': 'n', 'block': 'count', 'left': 'count', 'right': 'count'}
 
 
-def on_partition(name, arguments=(), changed=(), tests=(), lengths=(), **more):
+def ranges(arguments):
+    """The tests of the arguments in their order."""
+    return tuple(below(argument, BOUNDS[argument]) for argument in arguments if argument in BOUNDS)
+
+
+def on_partition(name, arguments=(), changed=(), tests=(), **more):
     """An operation on a lent partition: n, lengths, the partition, then the arguments in their order, then the rest."""
-    ranges = (below(argument, BOUNDS[argument]) for argument in arguments if argument in BOUNDS)
-    chain = (refusals.states, refusals.columns, *lengths, refusals.partition, *ranges, *tests)
-    return Operation(name, PARTITION + arguments, chain, changed, **more)
+    besides = {slice: worked if slice in WORK else a_state for slice in arguments if slice in BESIDES}
+    needs = {**EACH_STATE, **besides}
+    chain = (refusals.states, refusals.short(needs), refusals.partition, *ranges(arguments), *tests)
+    return Operation(name, PARTITION + arguments, chain, changed, needs, **more)
+
+
+def on_table(name, arguments, needs, changed, tests=(), **more):
+    """An operation on a lent table: its header, lengths, the rows, then the rest."""
+    needs = {**dict.fromkeys(ROWS, a_row), **needs}
+    header = (refusals.states, refusals.labels, refusals.rows, refusals.initial)
+    chain = (*header, refusals.short(needs), refusals.each_row, *tests, *ranges(arguments))
+    return Operation(name, TABLE + arguments, chain, changed, needs, **more)
 
 
 ALL = (
@@ -48,20 +84,31 @@ ALL = (
     Operation('Block::len_marked', BLOCK, (refusals.block,)),
     Operation('Block::has_marked', BLOCK, (refusals.block,)),
     Operation('Block::has_unmarked', BLOCK, (refusals.block,)),
-    Operation('BlockPartition::new', ('n',) + COLUMNS, (refusals.states, refusals.columns), COLUMNS),
+    Operation('BlockPartition::new', ('n',) + COLUMNS, (refusals.states, refusals.short(EACH_STATE)), COLUMNS,
+              EACH_STATE),
     on_partition('block_number', ('element',)),
     on_partition('is_element_marked', ('element',)),
     on_partition('read_block', ('block',)),
     on_partition('num_of_blocks'),
     on_partition('len'),
     on_partition('iter_block', ('block',), answers_part=True),
-    on_partition('iter_block_refusal', ('block',), has_rust=False),
+    on_partition('iter_block_refusal', ('block',), has_rust=False, computed=plain.iter_block_refusal),
     on_partition('display', ('text',), ('text',), (refusals.room,)),
     on_partition('mark_element', ('element',), ('elements', 'element_offset', 'marked_split')),
     on_partition('swap_blocks', ('left', 'right'), ('element_to_block', 'begin', 'marked_split', 'end')),
     on_partition('partition_marked_with', ('block', 'numbers') + WORK, COLUMNS + WORK,
-                 (refusals.nothing_marked, refusals.not_dense), (cell_for_each_state('numbers'), refusals.work)),
-    on_partition('split_marked', ('block', 'choice'), COLUMNS, lengths=(cell_for_each_state('choice'),)),
+                 (refusals.nothing_marked, refusals.not_dense)),
+    on_partition('split_marked', ('block', 'choice'), COLUMNS),
+    on_table('incoming', ('incoming', 'spare'), {'incoming': a_row, 'spare': worked}, ('incoming', 'spare'),
+             has_rust=False, computed=plain.incoming),
+    on_table('reachable', ('hidden', 'state', 'reached', 'queue'), {'reached': a_state, 'queue': worked},
+             ('reached', 'queue'), has_rust=False, computed=plain.reachable),
+    on_table('mark_backward_closure', COLUMNS + ('count', 'block', 'head', 'link'),
+             {**EACH_STATE, 'head': worked, 'link': worked},
+             ('elements', 'element_offset', 'marked_split', 'head', 'link'), (refusals.partition,),
+             computed=plain.mark_backward_closure),
+    on_table('sort_topological', ('hidden', 'reversed', 'places', 'marks', 'stack'),
+             {'places': a_state, 'marks': worked, 'stack': worked}, ('places', 'marks', 'stack'), (refusals.cycle,)),
 )
 BY_NAME = {operation.name: operation for operation in ALL}
 
@@ -81,7 +128,7 @@ class Case:
             return 'no case'
         if self.refused:
             return f'refused {self.refused[0]}'
-        return 'Rust' if self.operation.has_rust else 'rules'
+        return 'Rust' if self.operation.has_rust else 'plain'
 
 
 def cells(slice):
@@ -100,9 +147,44 @@ def written(operation, values):
     return ' '.join(words)
 
 
+def answer_line(operation, values, words, slices):
+    """The words, and the `&mut` slices at return: those given here, and the others as they came in."""
+    return words + ''.join(f' |{cells(slices.get(slice, values[slice]))}' for slice in operation.changed)
+
+
+def cleared(operation, values):
+    """The work slices, all zero."""
+    return {slice: [0] * len(values[slice]) for slice in operation.work()}
+
+
 def refusal_line(operation, values, refused):
-    """The answer to a refused case: no `&mut` slice changes."""
+    """The answer to a refused case: no `&mut` slice changes, but for work that was used."""
     if operation.answers_part:
         return 'part 0'
-    unchanged = ''.join(f' |{cells(values[slice])}' for slice in operation.changed)
-    return f'refused {refused[0]} {refused[1]}{unchanged}'
+    slices = cleared(operation, values) if refused[0] in WORKED else {}
+    return answer_line(operation, values, f'refused {refused[0]} {refused[1]}', slices)
+
+
+def computed_line(operation, values):
+    """The answer to an accepted case that is computed plainly."""
+    numbers, slices = operation.computed(values)
+    return answer_line(operation, values, 'done' + cells(numbers), {**cleared(operation, values), **slices})
+
+
+def slices_of(line):
+    """The slices at return that an answer shows."""
+    return [[int(cell) for cell in slice.split()] for slice in line.split('|')[1:]]
+
+
+def marks_alike(values, line, other):
+    """Whether two answers to `mark_backward_closure` mark the same states and are the same outside the block."""
+    return line.startswith('done') and marked_set(values, line) == marked_set(values, other)
+
+
+def marked_set(values, line):
+    """The block's states as a set, its marked ones, what is outside the block, and whether offsets are the inverse."""
+    elements, offsets, splits, *work = slices_of(line)
+    begin, end = values['begin'][values['block']], values['end'][values['block']]
+    inverse = all(offsets[elements[place]] == place for place in range(values['n']))
+    states, marked = set(elements[begin:end]), set(elements[splits[values['block']]:end])
+    return states, marked, elements[:begin], elements[end:], offsets[values['n']:], splits, work, inverse

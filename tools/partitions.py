@@ -197,12 +197,6 @@ DAMAGES = (
 )
 
 
-def shorten(rng, v):
-    """One column, or several, below n cells: one short, empty, or anything between."""
-    for column in rng.sample(COLUMNS, rng.choice((1, 1, 1, 2, 6))):
-        del v[column][rng.choice((max(v['n'], 1) - 1, 0, rng.randrange(max(v['n'], 1)))):]
-
-
 def n_outside(rng, v):
     v['n'] = rng.choice((0, MOST_STATES + 1, LARGEST, rng.randint(MOST_STATES + 1, LARGEST)))
 

@@ -2,12 +2,18 @@
 
 A test reads the values of a case, by the names of the operation's parameters. It is written from 01 alone.
 """
+import plain
 
 COLUMNS = ('elements', 'element_offset', 'element_to_block', 'begin', 'marked_split', 'end')
+ROWS = ('source', 'label', 'target')
 WORK = ('old_elements', 'block_sizes', 'spare')
 MOST_STATES = 4096
+MOST_LABELS = 1024
+MOST_ROWS = 8192
 # The order in which 01 ranks its refusals.
 ORDER = (13, 1, 2, 3, 4, 7, 5, 6, 14, 8, 15, 9, 10, 16, 11, 12)
+# Those after which the work slices are all zero.
+WORKED = (11, 12, 16)
 
 
 def states(v):
@@ -15,19 +21,56 @@ def states(v):
     return None if 1 <= v['n'] <= MOST_STATES else (1, 0)
 
 
-def columns(v):
-    """7: a state or block column below n cells."""
-    return (7, 0) if any(len(v[column]) < v['n'] for column in COLUMNS) else None
+def labels(v):
+    """2: L outside its range."""
+    return None if 1 <= v['labels'] <= MOST_LABELS else (2, 0)
 
 
-def cell_for_each_state(slice):
-    """7: a slice with a cell for each state is below n cells."""
-    return lambda v: (7, 0) if len(v[slice]) < v['n'] else None
+def rows(v):
+    """3: m outside its range."""
+    return None if v['m'] <= MOST_ROWS else (3, 0)
 
 
-def work(v):
-    """7: a work slice below n + 1 cells."""
-    return (7, 0) if any(len(v[slice]) < v['n'] + 1 for slice in WORK) else None
+def initial(v):
+    """4: the initial state not below n."""
+    return None if v['initial'] < v['n'] else (4, 0)
+
+
+def a_state(v):
+    """The cells of a state or block column."""
+    return v['n']
+
+
+def a_row(v):
+    """The cells of a column of rows."""
+    return v['m']
+
+
+def worked(v):
+    """The cells of a work slice."""
+    return v['n'] + v.get('m', 0) + 1
+
+
+def short(needs):
+    """7: a slice below the cells that 01 names for it."""
+    return lambda v: (7, 0) if any(len(v[slice]) < cells(v) for slice, cells in needs.items()) else None
+
+
+def each_row(v):
+    """5 or 6 for the lowest row that is wrong: a field out of range, or not above the one before."""
+    before = None
+    for place, row in enumerate(plain.rows(v)):
+        if row[0] >= v['n'] or row[1] >= v['labels'] or row[2] >= v['n']:
+            return (5, place)
+        if before is not None and row <= before:
+            return (6, place)
+        before = row
+    return None
+
+
+def cycle(v):
+    """11: the accepted rows hold a cycle longer than a self-loop."""
+    return (11, 0) if plain.has_cycle(v) else None
 
 
 def blocks_in_bounds(v):

@@ -8,6 +8,7 @@ import cases_bad
 import cases_block
 import cases_partition
 import sample_split
+import sample_table
 from operations import ALL, BOUNDS, BY_NAME, Case
 from partitions import LARGEST, copied, laid_out, wrapped_sum
 from refusals import COLUMNS, MOST_STATES, shown
@@ -164,6 +165,7 @@ def of_no_case():
     yield next(case for case in cases if len(case.line) > 5000)
     yield Case(operation, None, 'no_such_operation 1')
     yield from sample_split.of_no_case()
+    yield from sample_table.of_no_case()
 
 
 def entries():
@@ -179,9 +181,12 @@ def entries():
             yield from sample_split.of_divide()
         elif operation.name == 'split_marked':
             yield from sample_split.of_split()
+        elif operation.name in sample_table.OPERATIONS:
+            yield from sample_table.of(operation.name)
         else:
             yield from of_partition(operation, DAMAGED if operation.name in everything else DAMAGED[index % 3::3])
     yield ''
     yield from of_limits()
     yield from sample_split.of_size()
+    yield from sample_table.of_size()
     yield from of_no_case()

@@ -86,10 +86,6 @@ def good_argument(rng, v, name):
     return random_choice(rng, v) if name == 'choice' else random_work(rng, v)
 
 
-def block_outside(rng, v):
-    v['block'] = rng.choice((v['count'], min(v['count'] + 1, LARGEST), LARGEST))
-
-
 def unmark(rng, v):
     v['marked_split'][v['block']] = v['end'][v['block']]
 

@@ -25,21 +25,16 @@ pub fn replay(line: Line, buffer: &mut Buffer, out: &mut Buffer, used: usize) ->
         return bad_case(rest, out, used);
     }
     let p = case.partition;
-    let to_a = case.a;
-    let to_b = case.b;
-    let to_c = case.c;
-    let to_d = case.d;
-    let to_e = case.e;
-    let to_f = case.f;
+    let to = case.lengths;
     let count = room.count;
     let answer = display::display(
         p,
-        &a[..to_a],
-        &b[..to_b],
-        &c[..to_c],
-        &d[..to_d],
-        &e[..to_e],
-        &f[..to_f],
+        &a[..to.a],
+        &b[..to.b],
+        &c[..to.c],
+        &d[..to.d],
+        &e[..to.e],
+        &f[..to.f],
         &mut text[..count],
     );
     let answered = said(out, used, number(answer));

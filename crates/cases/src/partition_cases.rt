@@ -17,21 +17,29 @@ use lines::names;
 use lines::output::column;
 use lines::output::part;
 use lines::output::said;
+use lines::rooms::Column;
 
-// What a column is read into.
-pub type Column = [u16; 5000];
-
-// A line: the operation, the partition, how many cells of each column are lent, the numbers x and y that follow the
-// columns, and the place after them.
-pub struct Case {
-    pub operation: usize,
-    pub partition: BlockPartition,
+// How many cells of each column are lent.
+pub struct Lengths {
     pub a: usize,
     pub b: usize,
     pub c: usize,
     pub d: usize,
     pub e: usize,
     pub f: usize,
+}
+
+// Columns that are read, and the place after them.
+pub struct Columns {
+    pub lengths: Lengths,
+    pub input: Input,
+}
+
+// A line: the operation, the partition, its columns, the numbers x and y that follow the columns, and the place after them.
+pub struct Case {
+    pub operation: usize,
+    pub partition: BlockPartition,
+    pub lengths: Lengths,
     pub x: u16,
     pub y: u16,
     pub input: Input,
@@ -86,6 +94,37 @@ fn read_tail(operation: usize, input: Input, buffer: &mut Buffer) -> Tail {
     }
 }
 
+// Reads the six columns.
+pub fn read_columns(
+    first: Input,
+    buffer: &mut Buffer,
+    a: &mut Column,
+    b: &mut Column,
+    c: &mut Column,
+    d: &mut Column,
+    e: &mut Column,
+    f: &mut Column,
+) -> Columns
+    ensures { λ r. ⌜ Counts (r .lengths .a) (now (a .exit)) × Counts (r .lengths .b) (now (b .exit)) × Counts (r .lengths .c) (now (c .exit)) × Counts (r .lengths .d) (now (d .exit)) × Counts (r .lengths .e) (now (e .exit)) × Counts (r .lengths .f) (now (f .exit)) ⌝ }
+{
+    let to_a = first.column(buffer, a);
+    let to_b = to_a.input.column(buffer, b);
+    let to_c = to_b.input.column(buffer, c);
+    let to_d = to_c.input.column(buffer, d);
+    let to_e = to_d.input.column(buffer, e);
+    let to_f = to_e.input.column(buffer, f);
+    let input = to_f.input;
+    let lengths = Lengths {
+        a: to_a.count,
+        b: to_b.count,
+        c: to_c.count,
+        d: to_d.count,
+        e: to_e.count,
+        f: to_f.count,
+    };
+    Columns { lengths, input }
+}
+
 pub fn read_case(
     line: Line,
     buffer: &mut Buffer,
@@ -96,27 +135,18 @@ pub fn read_case(
     e: &mut Column,
     f: &mut Column,
 ) -> Case
-    ensures { λ r. ⌜ Counts (r .a) (now (a .exit)) × Counts (r .b) (now (b .exit)) × Counts (r .c) (now (c .exit)) × Counts (r .d) (now (d .exit)) × Counts (r .e) (now (e .exit)) × Counts (r .f) (now (f .exit)) ⌝ }
+    ensures { λ r. ⌜ Counts (r .lengths .a) (now (a .exit)) × Counts (r .lengths .b) (now (b .exit)) × Counts (r .lengths .c) (now (c .exit)) × Counts (r .lengths .d) (now (d .exit)) × Counts (r .lengths .e) (now (e .exit)) × Counts (r .lengths .f) (now (f .exit)) ⌝ }
 {
     let head = read_head(line, buffer);
-    let to_a = head.input.column(buffer, a);
-    let to_b = to_a.input.column(buffer, b);
-    let to_c = to_b.input.column(buffer, c);
-    let to_d = to_c.input.column(buffer, d);
-    let to_e = to_d.input.column(buffer, e);
-    let to_f = to_e.input.column(buffer, f);
-    let tail = read_tail(line.operation, to_f.input, buffer);
+    let columns = read_columns(head.input, buffer, a, b, c, d, e, f);
+    let tail = read_tail(line.operation, columns.input, buffer);
     let partition = head.partition;
+    let lengths = columns.lengths;
     let input = tail.input;
     Case {
         operation: line.operation,
         partition,
-        a: to_a.count,
-        b: to_b.count,
-        c: to_c.count,
-        d: to_d.count,
-        e: to_e.count,
-        f: to_f.count,
+        lengths,
         x: tail.x,
         y: tail.y,
         input,
@@ -175,6 +205,53 @@ fn act(
     }
 }
 
+// The columns that marking may change, at return.
+pub fn show_marked(
+    lengths: Lengths,
+    a: &Column,
+    b: &Column,
+    e: &Column,
+    out: &mut Buffer,
+    used: usize,
+) -> usize {
+    let after_a = column(out, used, a, lengths.a);
+    let after_b = column(out, after_a, b, lengths.b);
+    column(out, after_b, e, lengths.e)
+}
+
+// The columns that swapping blocks may change, at return.
+fn show_swapped(
+    lengths: Lengths,
+    c: &Column,
+    d: &Column,
+    e: &Column,
+    f: &Column,
+    out: &mut Buffer,
+    used: usize,
+) -> usize {
+    let after_c = column(out, used, c, lengths.c);
+    let after_d = column(out, after_c, d, lengths.d);
+    let after_e = column(out, after_d, e, lengths.e);
+    column(out, after_e, f, lengths.f)
+}
+
+// The six columns at return.
+pub fn show_all(
+    lengths: Lengths,
+    a: &Column,
+    b: &Column,
+    c: &Column,
+    d: &Column,
+    e: &Column,
+    f: &Column,
+    out: &mut Buffer,
+    used: usize,
+) -> usize {
+    let after_a = column(out, used, a, lengths.a);
+    let after_b = column(out, after_a, b, lengths.b);
+    show_swapped(lengths, c, d, e, f, out, after_b)
+}
+
 // The columns that an operation may change, at return.
 fn show(
     case: Case,
@@ -187,35 +264,14 @@ fn show(
     out: &mut Buffer,
     used: usize,
 ) -> usize {
-    let new = case.operation == names::NEW;
-    let mark = case.operation == names::MARK_ELEMENT;
-    let swap = case.operation == names::SWAP_BLOCKS;
-    let after_a = column(out, used, new | mark, a, case.a);
-    let after_b = column(out, after_a, new | mark, b, case.b);
-    let after_c = column(out, after_b, new | swap, c, case.c);
-    let after_d = column(out, after_c, new | swap, d, case.d);
-    let after_e = column(out, after_d, new | mark | swap, e, case.e);
-    column(out, after_e, new | swap, f, case.f)
-}
-
-// The six columns at return.
-pub fn show_all(
-    case: Case,
-    a: &Column,
-    b: &Column,
-    c: &Column,
-    d: &Column,
-    e: &Column,
-    f: &Column,
-    out: &mut Buffer,
-    used: usize,
-) -> usize {
-    let after_a = column(out, used, true, a, case.a);
-    let after_b = column(out, after_a, true, b, case.b);
-    let after_c = column(out, after_b, true, c, case.c);
-    let after_d = column(out, after_c, true, d, case.d);
-    let after_e = column(out, after_d, true, e, case.e);
-    column(out, after_e, true, f, case.f)
+    let lengths = case.lengths;
+    let operation = case.operation;
+    match operation {
+        names::NEW => show_all(lengths, a, b, c, d, e, f, out, used),
+        names::MARK_ELEMENT => show_marked(lengths, a, b, e, out, used),
+        names::SWAP_BLOCKS => show_swapped(lengths, c, d, e, f, out, used),
+        _ => used,
+    }
 }
 
 // The rest of a line, and its answer.
@@ -231,20 +287,15 @@ pub fn replay(line: Line, buffer: &mut Buffer, out: &mut Buffer, used: usize) ->
     if !rest.good {
         return bad_case(rest, out, used);
     }
-    let to_a = case.a;
-    let to_b = case.b;
-    let to_c = case.c;
-    let to_d = case.d;
-    let to_e = case.e;
-    let to_f = case.f;
+    let to = case.lengths;
     let answered = act(
         case,
-        &mut a[..to_a],
-        &mut b[..to_b],
-        &mut c[..to_c],
-        &mut d[..to_d],
-        &mut e[..to_e],
-        &mut f[..to_f],
+        &mut a[..to.a],
+        &mut b[..to.b],
+        &mut c[..to.c],
+        &mut d[..to.d],
+        &mut e[..to.e],
+        &mut f[..to.f],
         out,
         used,
     );

@@ -1,4 +1,5 @@
 // Standard input, byte by byte out of a lent buffer, and where its lines end.
+ghost use mathlib.Core.Path.{_≡_};
 use libc::STDIN_FILENO;
 
 // What is read at once, and what is written at once.
@@ -70,7 +71,9 @@ impl Input {
     }
 
     // The same place, on a line that is good or not.
-    pub fn judged(self, good: bool) -> Input {
+    pub fn judged(self, good: bool) -> Input
+        ensures { λ r. ⌜ (r .good ≡ good) × (r .at ≡ self .at) × (r .end ≡ self .end) × (r .byte ≡ self .byte) ⌝ }
+    {
         Input {
             at: self.at,
             end: self.end,

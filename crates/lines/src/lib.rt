@@ -5,3 +5,4 @@ pub mod lines;
 pub mod names;
 pub mod numbers;
 pub mod output;
+pub mod rooms;

@@ -1,6 +1,8 @@
 // From one line to the next.
+ghost use mathlib.Core.Path.{_≡_};
 ghost use Prim.Native.Nat.{_≤_};
 ghost use lib.ListN.{length};
+ghost use Rattle.lines.specs.Text.{put};
 use crate::input::BLANK;
 use crate::input::Buffer;
 use crate::input::END;
@@ -92,7 +94,9 @@ pub fn next_line(rest: Input, buffer: &mut Buffer) -> Line {
 }
 
 // A line that is no case.
-pub fn bad_case(rest: Input, out: &mut Buffer, used: usize) -> Answered {
+pub fn bad_case(rest: Input, out: &mut Buffer, used: usize) -> Answered
+    ensures { λ r. ⌜ r .rest ≡ rest ⌝ }
+{
     Answered {
         rest,
         used: word(out, used, b"bad\n"),
@@ -100,7 +104,9 @@ pub fn bad_case(rest: Input, out: &mut Buffer, used: usize) -> Answered {
 }
 
 // A line whose answer is written up to its end.
-pub fn end_case(rest: Input, out: &mut Buffer, used: usize) -> Answered {
+pub fn end_case(rest: Input, out: &mut Buffer, used: usize) -> Answered
+    ensures { λ r. ⌜ (r .rest ≡ rest) × ((r .used, now (out .exit)) ≡ put (now (out .entry)) used 10) ⌝ }
+{
     Answered {
         rest,
         used: byte(out, used, b'\n'),

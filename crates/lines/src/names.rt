@@ -1,5 +1,6 @@
 // Which operation a line names. An operation is a number, the hundreds of which are its family.
-ghost use Prim.Native.Nat.{_≤_};
+ghost use mathlib.Core.Path.{_≡_};
+ghost use Prim.Native.Nat.{_*_, _/_, _≤_};
 
 // No further line.
 pub const END: usize = 0;
@@ -52,6 +53,17 @@ pub const DIVISIONS: usize = 400;
 
 pub const SPLITS: usize = 500;
 
+// The operations that take a table: alone, with a partition, and with an order.
+pub const TABLES: usize = 600;
+
+pub const INCOMING: usize = 601;
+
+pub const REACHABLE: usize = 602;
+
+pub const CLOSURES: usize = 700;
+
+pub const ORDERS: usize = 800;
+
 // The operation with this name. The names of a family stand in the order of their numbers, each with a blank after it.
 pub fn operation(name: &[u8]) -> usize {
     let block = place(
@@ -85,11 +97,28 @@ fn larger(name: &[u8]) -> usize {
     if place(name, b"split_marked ") != 0 {
         return SPLITS;
     }
+    on_table(name)
+}
+
+// The operation with this name among those that take a table.
+fn on_table(name: &[u8]) -> usize {
+    let table = place(name, b"incoming reachable ");
+    if table != 0 {
+        return TABLES + table;
+    }
+    if place(name, b"mark_backward_closure ") != 0 {
+        return CLOSURES;
+    }
+    if place(name, b"sort_topological ") != 0 {
+        return ORDERS;
+    }
     UNKNOWN
 }
 
 // The family of an operation.
-pub fn family(operation: usize) -> usize {
+pub fn family(operation: usize) -> usize
+    ensures { λ r. ⌜ r ≡ operation / 100 * 100 ⌝ }
+{
     operation / 100 * 100
 }
 

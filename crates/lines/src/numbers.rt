@@ -25,6 +25,12 @@ pub struct Small {
     pub value: u16,
 }
 
+// A flag, and the place after it.
+pub struct Flag {
+    pub input: Input,
+    pub value: bool,
+}
+
 // How many cells are read into a lent slice, and the place after them.
 pub struct Cells {
     pub input: Input,
@@ -111,6 +117,16 @@ impl Input {
         Small {
             input: self,
             value: 0,
+        }
+    }
+
+    // A blank and a flag, 0 or 1.
+    pub fn flag(self, buffer: &mut Buffer) -> Flag {
+        let read = self.number(buffer, 1);
+        let input = read.input;
+        Flag {
+            input,
+            value: read.value == 1,
         }
     }
 

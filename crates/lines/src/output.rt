@@ -1,6 +1,9 @@
 // Standard output, byte by byte through a lent buffer, of which the first `used` cells are not written yet.
+ghost use mathlib.Core.Path.{_≡_};
+ghost use Rattle.lines.specs.Text.{put};
 use crate::answers::Said;
 use crate::input::Buffer;
+use crate::rooms::Text;
 use libc::STDOUT_FILENO;
 
 // Writes what is not written yet.
@@ -10,7 +13,10 @@ pub fn flush(out: &[u8], used: usize) {
     }
 }
 
-pub fn byte(out: &mut Buffer, used: usize, byte: u8) -> usize {
+// One byte more. A full buffer is written first.
+pub fn byte(out: &mut Buffer, used: usize, byte: u8) -> usize
+    ensures { λ r. ⌜ (r, now (out .exit)) ≡ put (now (out .entry)) used byte ⌝ }
+{
     if used < 65536 {
         out[used] = byte;
         return used + 1;
@@ -83,11 +89,8 @@ pub fn cells(out: &mut Buffer, used: usize, cells: &[u16], count: usize) -> usiz
     at
 }
 
-// A column at return, if the operation may change it.
-pub fn column(out: &mut Buffer, used: usize, changed: bool, column: &[u16], count: usize) -> usize {
-    if !changed {
-        return used;
-    }
+// The first `count` cells of a slice at return.
+pub fn column(out: &mut Buffer, used: usize, column: &[u16], count: usize) -> usize {
     let at = word(out, used, b" |");
     cells(out, at, column, count)
 }
@@ -95,9 +98,6 @@ pub fn column(out: &mut Buffer, used: usize, changed: bool, column: &[u16], coun
 fn widest(byte: u8) -> u64 {
     byte as u64
 }
-
-// What text is read into.
-pub type Text = [u8; 70000];
 
 // The first `count` bytes of text at return.
 pub fn bytes(out: &mut Buffer, used: usize, text: &Text, count: usize) -> usize {

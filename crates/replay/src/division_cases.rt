@@ -1,6 +1,5 @@
 // `partition_marked_with`. Its slice of numbers is called v here, and its work slices g, h and k.
 ghost use Rattle.io.specs.Counts.{Counts};
-use cases::partition_cases::Column;
 use cases::partition_cases::read_case;
 use cases::partition_cases::show_all;
 use division::DivisionAnswer;
@@ -16,6 +15,7 @@ use lines::lines::bad_case;
 use lines::lines::end_case;
 use lines::output::column;
 use lines::output::said;
+use lines::rooms::Column;
 
 // The answer as numbers.
 fn answered_by(answer: DivisionAnswer) -> Said {
@@ -72,9 +72,9 @@ fn show_work(
     out: &mut Buffer,
     used: usize,
 ) -> usize {
-    let after_g = column(out, used, true, g, work.g);
-    let after_h = column(out, after_g, true, h, work.h);
-    column(out, after_h, true, k, work.k)
+    let after_g = column(out, used, g, work.g);
+    let after_h = column(out, after_g, h, work.h);
+    column(out, after_h, k, work.k)
 }
 
 // The rest of a line, and its answer.
@@ -97,32 +97,23 @@ pub fn replay(line: Line, buffer: &mut Buffer, out: &mut Buffer, used: usize) ->
     }
     let p = case.partition;
     let x = case.x;
-    let to_a = case.a;
-    let to_b = case.b;
-    let to_c = case.c;
-    let to_d = case.d;
-    let to_e = case.e;
-    let to_f = case.f;
-    let to_v = work.v;
-    let to_g = work.g;
-    let to_h = work.h;
-    let to_k = work.k;
+    let to = case.lengths;
     let answer = division::partition_marked_with(
         p,
-        &mut a[..to_a],
-        &mut b[..to_b],
-        &mut c[..to_c],
-        &mut d[..to_d],
-        &mut e[..to_e],
-        &mut f[..to_f],
+        &mut a[..to.a],
+        &mut b[..to.b],
+        &mut c[..to.c],
+        &mut d[..to.d],
+        &mut e[..to.e],
+        &mut f[..to.f],
         x,
-        &v[..to_v],
-        &mut g[..to_g],
-        &mut h[..to_h],
-        &mut k[..to_k],
+        &v[..work.v],
+        &mut g[..work.g],
+        &mut h[..work.h],
+        &mut k[..work.k],
     );
     let answered = said(out, used, answered_by(answer));
-    let shown = show_all(case, &a, &b, &c, &d, &e, &f, out, answered);
+    let shown = show_all(to, &a, &b, &c, &d, &e, &f, out, answered);
     let worked = show_work(work, &g, &h, &k, out, shown);
     end_case(rest, out, worked)
 }

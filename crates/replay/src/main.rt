@@ -23,6 +23,9 @@ fn replay(line: Line, buffer: &mut Buffer, out: &mut Buffer, used: usize) -> Ans
         names::TEXTS => display_cases::replay(line, buffer, out, used),
         names::DIVISIONS => division_cases::replay(line, buffer, out, used),
         names::SPLITS => split_cases::replay(line, buffer, out, used),
+        names::TABLES => table_cases::replay(line, buffer, out, used),
+        names::CLOSURES => closure_cases::replay(line, buffer, out, used),
+        names::ORDERS => order_cases::replay(line, buffer, out, used),
         _ => bad_case(line.input.skip_line(buffer), out, used),
     }
 }

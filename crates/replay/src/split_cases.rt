@@ -26,25 +26,20 @@ pub fn replay(line: Line, buffer: &mut Buffer, out: &mut Buffer, used: usize) ->
     }
     let p = case.partition;
     let x = case.x;
-    let to_a = case.a;
-    let to_b = case.b;
-    let to_c = case.c;
-    let to_d = case.d;
-    let to_e = case.e;
-    let to_f = case.f;
+    let to = case.lengths;
     let count = chosen.count;
     let answer = split::split_marked(
         p,
-        &mut a[..to_a],
-        &mut b[..to_b],
-        &mut c[..to_c],
-        &mut d[..to_d],
-        &mut e[..to_e],
-        &mut f[..to_f],
+        &mut a[..to.a],
+        &mut b[..to.b],
+        &mut c[..to.c],
+        &mut d[..to.d],
+        &mut e[..to.e],
+        &mut f[..to.f],
         x,
         &choice[..count],
     );
     let answered = said(out, used, number(answer));
-    let shown = show_all(case, &a, &b, &c, &d, &e, &f, out, answered);
+    let shown = show_all(to, &a, &b, &c, &d, &e, &f, out, answered);
     end_case(rest, out, shown)
 }

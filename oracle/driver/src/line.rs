@@ -7,12 +7,17 @@ pub enum Stop {
     NoCase,
     /// Document 01 refuses the case.
     Refused,
+    /// The Rust returned an error.
+    Failed,
     /// The Rust panicked.
     Panicked,
 }
 
-/// Cells of the longest column that may be lent.
+/// Cells of the longest column that may be lent, with a cell for each state or block, and for each row.
 const COLUMN_ROOM: usize = 5_000;
+const ROWS_ROOM: usize = 8_400;
+/// Cells of the longest work slice of an operation on a table.
+const WORK_ROOM: usize = 12_600;
 /// Bytes of the longest text that may be lent.
 const TEXT_ROOM: usize = 70_000;
 
@@ -54,6 +59,21 @@ impl<'a> Line<'a> {
     /// A slice of numbers: its length and its cells.
     pub fn column(&mut self) -> Result<Vec<usize>, Stop> {
         self.slice(COLUMN_ROOM, u16::MAX.into())
+    }
+
+    /// A slice with a number for each row of a table.
+    pub fn rows(&mut self) -> Result<Vec<usize>, Stop> {
+        self.slice(ROWS_ROOM, u16::MAX.into())
+    }
+
+    /// A work slice of an operation on a table.
+    pub fn work(&mut self) -> Result<Vec<usize>, Stop> {
+        self.slice(WORK_ROOM, u16::MAX.into())
+    }
+
+    /// A flag, 0 or 1.
+    pub fn flag(&mut self) -> Result<bool, Stop> {
+        Ok(self.up_to(1)? == 1)
     }
 
     /// A byte for each state: the length and the bytes as numbers.

@@ -1,6 +1,7 @@
 //! Reads cases from standard input and writes the answer line of the Rust for each; docs/REPLAY.md has both forms.
 //!
-//! A case that document 01 refuses is answered `none`, one where the Rust panics `panic`, a line that is no case `bad`.
+//! A case that document 01 refuses is answered `none`, one where the Rust panics `panic`, one where it returns an error
+//! `error`, a line that is no case `bad`.
 
 mod accept;
 mod answer;
@@ -10,6 +11,8 @@ mod line;
 mod partition;
 mod run;
 mod split;
+mod steps;
+mod table;
 
 use std::io::{self, BufRead, BufWriter, Write};
 
@@ -17,7 +20,8 @@ use line::{Line, Stop};
 use run::Operation;
 
 /// The operations, a table for each file that holds some.
-const TABLES: &[&[(&str, Operation)]] = &[block::OPERATIONS, partition::OPERATIONS, split::OPERATIONS];
+const TABLES: &[&[(&str, Operation)]] =
+    &[block::OPERATIONS, partition::OPERATIONS, split::OPERATIONS, steps::OPERATIONS];
 
 fn case(text: &str) -> Result<String, Stop> {
     let mut line = Line::new(text);
@@ -32,6 +36,7 @@ fn answer(text: &str) -> String {
         let word = match stop {
             Stop::NoCase => "bad",
             Stop::Refused => "none",
+            Stop::Failed => "error",
             Stop::Panicked => "panic",
         };
         word.to_string()

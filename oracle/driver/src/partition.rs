@@ -19,7 +19,6 @@ pub const OPERATIONS: &[(&str, Operation)] = &[
     ("num_of_blocks", num_of_blocks),
     ("len", len),
     ("iter_block", iter_block),
-    ("iter_block_refusal", iter_block_refusal),
     ("display", display),
     ("mark_element", mark_element),
     ("swap_blocks", swap_blocks),
@@ -100,12 +99,6 @@ fn iter_block(line: &mut Line) -> Result<String, Stop> {
     let partition = lent.partition();
     let states = rust(|| partition.iter_block(block).collect::<Vec<_>>())?;
     Ok(part(&states.iter().map(StateIndex::value).collect::<Vec<_>>()))
-}
-
-/// The Rust has no such call: only what 01 says of it is answered.
-fn iter_block_refusal(line: &mut Line) -> Result<String, Stop> {
-    lent_with_block(line)?;
-    Ok(done(&[], &[]))
 }
 
 fn display(line: &mut Line) -> Result<String, Stop> {

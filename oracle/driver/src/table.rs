@@ -1,0 +1,62 @@
+//! A lent transition table: its header, and three columns of rows that may be longer than they need be.
+
+use merc_lts::{LabelIndex, LabelledTransitionSystem, StateIndex};
+
+use crate::accept::{self, accept};
+use crate::line::{Line, Stop};
+
+/// The most labels and the most rows of a table.
+const MOST_LABELS: usize = 1_024;
+const MOST_ROWS: usize = 8_192;
+
+/// A table as an operation takes it.
+pub struct Table {
+    pub n: usize,
+    labels: usize,
+    m: usize,
+    initial: usize,
+    source: Vec<usize>,
+    label: Vec<usize>,
+    target: Vec<usize>,
+}
+
+impl Table {
+    pub fn read(line: &mut Line) -> Result<Table, Stop> {
+        Ok(Table {
+            n: line.number()?,
+            labels: line.number()?,
+            m: line.number()?,
+            initial: line.number()?,
+            source: line.rows()?,
+            label: line.rows()?,
+            target: line.rows()?,
+        })
+    }
+
+    /// What 01 asks of a lent table: the header in range, the columns long enough, the rows in range and ascending.
+    pub fn accept(&self) -> Result<(), Stop> {
+        accept::states(self.n)?;
+        accept((1..=MOST_LABELS).contains(&self.labels) && self.m <= MOST_ROWS && self.initial < self.n)?;
+        accept([&self.source, &self.label, &self.target].iter().all(|column| column.len() >= self.m))?;
+        let rows: Vec<_> = self.rows().collect();
+        accept(rows.iter().all(|row| row.0 < self.n && row.1 < self.labels && row.2 < self.n))?;
+        accept(rows.windows(2).all(|pair| pair[0] < pair[1]))
+    }
+
+    /// A work slice has a cell for each state, for each row, and one more.
+    pub fn accept_work(&self, slice: &[usize]) -> Result<(), Stop> {
+        accept(slice.len() > self.n + self.m)
+    }
+
+    fn rows(&self) -> impl Iterator<Item = (usize, usize, usize)> + '_ {
+        (0..self.m).map(|row| (self.source[row], self.label[row], self.target[row]))
+    }
+
+    /// The Rust's transition system, with label 0 hidden.
+    pub fn system(&self) -> LabelledTransitionSystem<String> {
+        let row = |(source, label, target)| (StateIndex::new(source), LabelIndex::new(label), StateIndex::new(target));
+        let labels = (0..self.labels).map(|label| format!("a{label}")).collect();
+        let rows: Vec<_> = self.rows().map(row).collect();
+        LabelledTransitionSystem::from_rows(StateIndex::new(self.initial), self.n, labels, &rows)
+    }
+}

@@ -1,0 +1,191 @@
+"""Cases of the operations on a table: every small one, the limits, large ones, random ones, faulty ones."""
+from itertools import product
+
+import partitions
+import splits
+import tables
+from cases_partition import small_size
+from faults import damage, damaged, every_length, outside, several, shorten
+from operations import FLAGS, Case
+from partitions import LARGEST, random_partition
+from refusals import COLUMNS, MOST_LABELS, MOST_ROWS, MOST_STATES, ROWS
+from splits import junk_cells, more
+
+SMALL = ((1, 1), (1, 2), (2, 1), (2, 2), (3, 1))
+
+
+def takes_partition(operation):
+    return 'count' in operation.parameters
+
+
+def argument_names(operation):
+    """The flags and the start state."""
+    return [name for name in operation.parameters if name in FLAGS + ('state',)]
+
+
+def slices_besides(operation):
+    """The result and work slices."""
+    return [name for name in operation.needs if name not in ROWS + COLUMNS]
+
+
+def lent(operation, rng, v):
+    """Result and work slices for these values: mostly exact, with junk."""
+    needed = {name: operation.needs[name](v) for name in slices_besides(operation)}
+    return {name: junk_cells(rng, v['n'], cells + more(rng, 0)) for name, cells in needed.items()}
+
+
+def orderly_partitions(n):
+    """Every partition whose blocks stand in the order of their positions."""
+    return [v for v in partitions.every(n) if v['begin'][:v['count']] == sorted(v['begin'][:v['count']])]
+
+
+def every_argument(operation, n):
+    """Every flag, start state, partition and block."""
+    if takes_partition(operation):
+        return [{**v, 'block': block} for v in orderly_partitions(n) for block in range(v['count'])]
+    choices = {name: range(n) if name == 'state' else (0, 1) for name in argument_names(operation)}
+    return [dict(zip(choices, chosen)) for chosen in product(*choices.values())]
+
+
+def every_small(operation, rng):
+    """Every table of a few states with every argument."""
+    for n, labels in SMALL:
+        arguments = every_argument(operation, n)
+        for v, chosen in product(tables.every(n, labels), arguments):
+            yield {**v, **chosen, **lent(operation, rng, v)}
+
+
+def arguments(operation, rng, v):
+    """Flags, a start state, a partition and a block, all in range."""
+    chosen = {name: rng.randrange(2) for name in operation.parameters if name in FLAGS}
+    if 'state' in operation.parameters:
+        chosen['state'] = rng.choice((0, v['initial'], rng.randrange(v['n'])))
+    if takes_partition(operation):
+        chosen |= random_partition(rng, v['n'], rng.choice((None, min(2, v['n']), 1)))
+        chosen |= {'block': splits.a_block(rng, chosen)}
+    return chosen
+
+
+def completed(operation, rng, v):
+    """A sound case with this table."""
+    return {**v, **arguments(operation, rng, v), **lent(operation, rng, v)}
+
+
+def sound(operation, rng):
+    """A random sound case; columns exact or longer."""
+    v = completed(operation, rng, tables.random_table(rng, small_size(rng)))
+    tables.lengthen(rng, v)
+    return partitions.lengthen(rng, v) if takes_partition(operation) else v
+
+
+def headers(operation, rng):
+    """Each number of the header around its limits, alone and together."""
+    v = completed(operation, rng, tables.given(3, 2, [(0, 0, 1), (1, 1, 2)]))
+    numbers = {
+        'n': (0, 1, 3, MOST_STATES, MOST_STATES + 1, LARGEST),
+        'labels': (0, 1, 2, MOST_LABELS, MOST_LABELS + 1, LARGEST),
+        'm': (0, 1, 2, 3, MOST_ROWS, MOST_ROWS + 1, LARGEST),
+        'initial': (0, 2, 3, MOST_STATES, LARGEST),
+    }
+    for chosen in product(*numbers.values()):
+        yield {**v, **dict(zip(numbers, chosen))}
+
+
+def limits(rng):
+    """Tables at the limits: no rows, as many as may be and one more, labels up to the last, the last initial state."""
+    for n, labels in product((1, MOST_STATES), (1, MOST_LABELS)):
+        yield tables.given(n, labels, [], n - 1)
+        yield tables.given(n, labels, [(n - 1, labels - 1, n - 1)], 0)
+    yield tables.full(rng, MOST_STATES)
+    yield tables.full(rng, 100)
+    over = tables.full(rng, MOST_STATES)
+    tables.add_row(over, MOST_ROWS, (LARGEST, 0, 0))
+    yield over
+    yield {**tables.given(MOST_STATES, 1, []), 'n': MOST_STATES + 1}
+    yield {**tables.given(MOST_STATES, 1, []), 'initial': MOST_STATES}
+
+
+def large(rng):
+    """Chains and stars of the greatest n, and random tables."""
+    yield from (tables.chain(MOST_STATES, label, rising) for label, rising in product((0, 1), (True, False)))
+    yield from (tables.star(MOST_STATES, labels, centre) for labels, centre in product((1, 2), (0, 7, MOST_STATES - 1)))
+    for n in (700, 3000, MOST_STATES):
+        yield from (tables.random_table(rng, n, number) for number in (n // 2, n, 2 * n))
+
+
+def many_arguments(operation, rng, v):
+    """Arguments for a large table: every flag, the first and the last state; one block with little marked, and any."""
+    if not takes_partition(operation):
+        choices = {name: (0, v['n'] - 1) if name == 'state' else (0, 1) for name in argument_names(operation)}
+        return [dict(zip(choices, chosen)) for chosen in product(*choices.values())]
+    order, cuts = list(range(v['n'])), sorted({max(v['n'] - 1, 0), 0, v['n'], v['n'] // 2})
+    rng.shuffle(order)
+    whole = [{**partitions.laid_out(order, [(0, split, v['n'])]), 'block': 0} for split in cuts]
+    return whole + [arguments(operation, rng, v) for _ in range(3)]
+
+
+def of_size(operation, rng):
+    """The limits and the large tables."""
+    for v in (*limits(rng), *large(rng)):
+        chosen = many_arguments(operation, rng, v)
+        yield from ({**v, **one, **lent(operation, rng, v)} for one in chosen)
+
+
+def at_room(operation, rng):
+    """The largest table with every slice as long as `replay` takes it, and with each slice one short."""
+    v = completed(operation, rng, tables.full(rng, MOST_STATES))
+    yield {**v, **{name: v[name] + [1] * (operation.room(name) - len(v[name])) for name in operation.needs}}
+    yield from ({**v, name: v[name][:needed(v) - 1]} for name, needed in operation.needs.items())
+
+
+def every_short_slice(operation, rng):
+    """The columns of rows and the slices besides at every length."""
+    v = completed(operation, rng, tables.given(2, 1, [(0, 0, 1), (1, 0, 1)]))
+    yield from every_length(operation, v, [*ROWS, *slices_besides(operation)])
+
+
+def every_changed_field(operation, rng):
+    """A table of three rows with each field changed to each small number and the largest."""
+    v = completed(operation, rng, tables.given(3, 2, [(0, 0, 1), (0, 1, 0), (1, 0, 2)]))
+    for column, place, number in product(ROWS, range(3), (0, 1, 2, 3, LARGEST)):
+        yield {**v, column: [*v[column][:place], number, *v[column][place + 1:]]}
+
+
+def faults_of(operation):
+    """What makes each refusal due, in an order in which all can be done."""
+    own = {
+        'incoming': [],
+        'reachable': [outside('state', 'n')],
+        'mark_backward_closure': [outside('block', 'count'), damage],
+        'sort_topological': [tables.make_cycle],
+    }
+    of_rows = [tables.order_broken, tables.field_outside, shorten(operation)]
+    of_header = [outside('initial', 'n'), tables.rows_outside, tables.labels_outside, partitions.n_outside]
+    return [*own[operation.name], *of_rows, *of_header]
+
+
+def values(operation, rng, number):
+    yield from every_small(operation, rng)
+    yield from headers(operation, rng)
+    yield from of_size(operation, rng)
+    yield from at_room(operation, rng)
+    yield from every_short_slice(operation, rng)
+    yield from every_changed_field(operation, rng)
+    yield from (sound(operation, rng) for _ in range(number))
+    faults, faultless = faults_of(operation), lambda: sound(operation, rng)
+    yield from several(faultless, rng, faults, 20)
+    yield from damaged(faultless, rng, faults, number // 2)
+
+
+def example(operation):
+    """A sound case of the operation."""
+    v = {**tables.given(4, 2, [(0, 0, 1), (1, 1, 2), (2, 0, 3)], 3), **dict.fromkeys(FLAGS, 1), 'state': 2}
+    v |= {**partitions.laid_out([2, 3, 0, 1], [(0, 1, 3), (3, 4, 4)]), 'block': 0}
+    v |= {name: [7] * operation.needs[name](v) for name in slices_besides(operation)}
+    return {name: v[name] for name in operation.parameters}
+
+
+def cases(operation, rng, number):
+    """A table's order is tried with more random cases than the rest."""
+    number = number * 3 if operation.name == 'sort_topological' else number
+    return (Case(operation, v) for v in values(operation, rng, number))

@@ -1,0 +1,57 @@
+"""Faulty cases: a sound case with one fault, or with several at once. A fault changes the values of a case."""
+from itertools import chain, combinations, product
+
+from partitions import DAMAGES, LARGEST, copied
+
+
+def faulty(sound, rng, wrong):
+    """A sound case with these faults."""
+    v = copied(sound())
+    for fault in wrong:
+        fault(rng, v)
+    return v
+
+
+def several(sound, rng, faults, times=30):
+    """Every set of faults, so many times. The faults stand in an order in which all can be done."""
+    sets = chain.from_iterable(combinations(faults, size) for size in range(len(faults) + 1))
+    for wrong, _ in product(sets, range(times)):
+        yield faulty(sound, rng, wrong)
+
+
+def damaged(sound, rng, faults, number):
+    """Random cases with one fault, or with two."""
+    for _ in range(number):
+        first, second = rng.sample(range(len(faults)), 2)
+        both = [faults[place] for place in sorted((first, second))]
+        yield faulty(sound, rng, both if rng.random() < 0.2 else [faults[first]])
+
+
+def outside(argument, bound):
+    """A state or block argument at its bound, past it, or far past it."""
+    def fault(rng, v):
+        v[argument] = rng.choice((v[bound], min(v[bound] + 1, LARGEST), LARGEST))
+    return fault
+
+
+def damage(rng, v):
+    """14: any damage of the partition."""
+    rng.choice(DAMAGES)(rng, v)
+
+
+def shorten(operation):
+    """7: one slice, or several, one short, empty, or anything between."""
+    def fault(rng, v):
+        names = list(operation.needs)
+        for name in rng.sample(names, rng.choice((1, 1, 1, 2, len(names)))):
+            needed = max(operation.needs[name](v), 1)
+            del v[name][rng.choice((needed - 1, 0, rng.randrange(needed))):]
+    return fault
+
+
+def every_length(operation, v, names):
+    """These slices exact, one short, empty, or one longer, in all combinations."""
+    for changes in product((0, -1, None, 1), repeat=len(names)):
+        needed = {name: operation.needs[name](v) for name in names}
+        lengths = {name: 0 if change is None else needed[name] + change for name, change in zip(names, changes)}
+        yield {**v, **{name: (v[name] + [1])[:length] for name, length in lengths.items()}}

@@ -1,0 +1,87 @@
+"""Operations on a table computed plainly from document 01, to hold answers to: numbers, and the slices at return."""
+
+
+def rows(v):
+    """The rows of a table."""
+    return list(zip(v['source'], v['label'], v['target']))[:v['m']]
+
+
+def steps(v):
+    """The steps of the accepted rows, hidden ones alone or all: pairs of states."""
+    return [(source, target) for source, label, target in rows(v) if not v['hidden'] or label == 0]
+
+
+def over(cells, column):
+    """A column with these cells in its first places."""
+    return list(cells) + column[len(cells):]
+
+
+def incoming(v):
+    """All row numbers by target, then source, then label."""
+    table = rows(v)
+    order = sorted(range(v['m']), key=lambda row: (table[row][2], table[row][0], table[row][1]))
+    return [v['m']], {'incoming': over(order, v['incoming'])}
+
+
+def reachable(v):
+    """The start, and what some step leads to from what is reached, until there is nothing new."""
+    reached, left = {v['state']}, steps(v)
+    while True:
+        new = {target for source, target in left if source in reached} - reached
+        if not new:
+            return [len(reached)], {'reached': over([int(s in reached) for s in range(v['n'])], v['reached'])}
+        left = [step for step in left if step[0] not in reached]
+        reached |= new
+
+
+def mark(v, elements, offsets, splits, state):
+    """`mark_element`: an unmarked state changes places with the one at marked_split - 1."""
+    block, place = v['element_to_block'][state], offsets[state]
+    if place >= splits[block]:
+        return
+    splits[block] -= 1
+    other = elements[splits[block]]
+    elements[place], elements[splits[block]] = other, state
+    offsets[other], offsets[state] = place, splits[block]
+
+
+def hidden_sources(v):
+    """For each state the sources of its hidden incoming rows, ascending."""
+    sources = [[] for _ in range(v['n'])]
+    for source, label, target in rows(v):
+        if label == 0:
+            sources[target].append(source)
+    return sources
+
+
+def mark_backward_closure(v):
+    """From end - 1 down, incoming hidden sources in the same block are marked, until the marked stretch is read."""
+    elements, offsets, splits = v['elements'][:], v['element_offset'][:], v['marked_split'][:]
+    sources, place = hidden_sources(v), v['end'][v['block']] - 1
+    while place >= splits[v['block']]:
+        for source in sources[elements[place]]:
+            if v['element_to_block'][source] == v['block']:
+                mark(v, elements, offsets, splits, source)
+        place -= 1
+    return [], {'elements': elements, 'element_offset': offsets, 'marked_split': splits}
+
+
+def has_cycle(v):
+    """Whether the accepted rows hold a cycle longer than a self-loop: states that nothing leads to go, one by one."""
+    leading = {(source, target) for source, target in steps(v) if source != target}
+    into, after = [0] * v['n'], [[] for _ in range(v['n'])]
+    for source, target in leading:
+        into[target] += 1
+        after[source].append(target)
+    free = [state for state in range(v['n']) if into[state] == 0]
+    for state in free:
+        for target in after[state]:
+            into[target] -= 1
+            if into[target] == 0:
+                free.append(target)
+    return len(free) < v['n']
+
+
+def iter_block_refusal(v):
+    """Nothing but that it is done."""
+    return [], {}

@@ -1,0 +1,163 @@
+"""The sample's part for the operations on a table: absences, shapes, each refusal, several faults at once."""
+from itertools import product
+
+import cases_bad
+import cases_table
+import tables
+from operations import BY_NAME, FLAGS, Case, written
+from partitions import LARGEST, laid_out
+from refusals import MOST_LABELS, MOST_ROWS, MOST_STATES
+
+OPERATIONS = ('incoming', 'reachable', 'mark_backward_closure', 'sort_topological')
+# Stands where nothing is read.
+X = LARGEST
+
+# Words, and a sound table.
+SOUND = (
+    ('one state, no rows', tables.given(1, 1, [])),
+    ('no rows: nothing leads out of a state, and nothing in', tables.given(3, 2, [], 2)),
+    ('no hidden row', tables.given(3, 3, [(0, 1, 1), (0, 2, 1), (1, 1, 2)], 2)),
+    ('only hidden rows, the initial state last', tables.given(3, 1, [(1, 0, 0), (2, 0, 0), (2, 0, 1)], 2)),
+    ('only self-loops', tables.given(2, 2, [(0, 0, 0), (1, 0, 1), (1, 1, 1)], 1)),
+    ('a state that is met twice', tables.given(4, 1, [(0, 0, 1), (0, 0, 2), (1, 0, 3), (2, 0, 3)], 0)),
+    ('P5: the last listed successor first', tables.given(3, 1, [(0, 0, 1), (0, 0, 2)], 0)),
+    ('a cycle of visible rows', tables.given(3, 2, [(0, 0, 1), (1, 1, 0), (1, 1, 2)], 1)),
+    ('a hidden cycle of two', tables.given(3, 1, [(0, 0, 1), (1, 0, 0), (1, 0, 2)], 0)),
+    ('a hidden cycle that no start reaches', tables.given(4, 2, [(0, 1, 1), (2, 0, 3), (3, 0, 2)], 0)),
+    ('one target under two labels', tables.given(2, 3, [(0, 0, 1), (0, 2, 1), (1, 1, 1)], 1)),
+)
+
+# Words, the rows of a table of five states, and the blocks of its states in the order 4 2 0 3 1; the first is closed.
+CLOSED = (
+    ('nothing marked', [(0, 0, 2), (2, 0, 4)], [(0, 5, 5)]),
+    ('all marked', [(0, 0, 2), (2, 0, 4)], [(0, 0, 5)]),
+    ('no hidden row', [(4, 1, 1), (2, 1, 3)], [(0, 4, 5)]),
+    ('one after the other', [(0, 0, 3), (2, 0, 0), (3, 0, 1), (4, 0, 2)], [(0, 4, 5)]),
+    ('all at once', [(0, 0, 1), (2, 0, 1), (3, 0, 1), (4, 0, 1)], [(0, 4, 5)]),
+    ('a hidden self-loop, and a source that is marked already', [(1, 0, 1), (3, 0, 1)], [(0, 3, 5)]),
+    ('a hidden cycle', [(0, 0, 1), (1, 0, 0), (4, 0, 0)], [(0, 4, 5)]),
+    ('a visible row between', [(0, 0, 1), (2, 1, 0), (4, 0, 2)], [(0, 4, 5)]),
+    ('a path that leaves the block and returns', [(0, 0, 3), (2, 0, 0), (3, 0, 2), (4, 0, 3)],
+     [(1, 2, 3), (3, 3, 5), (0, 1, 1)]),
+    ('a source of another block', [(3, 0, 2), (4, 0, 0)], [(0, 2, 3), (3, 5, 5)]),
+    ('a block of one state', [(1, 0, 1), (3, 0, 1)], [(4, 4, 5), (0, 4, 4)]),
+)
+
+
+def lent(operation, v):
+    """Result and work slices of exact length, with other content."""
+    slices = cases_table.slices_besides(operation)
+    return {name: [fill] * operation.needs[name](v) for name, fill in zip(slices, (9, X, 1))}
+
+
+def of_sound(operation):
+    """Every table with every flag and start state."""
+    for words, v in SOUND:
+        yield f'# {operation.name}: {words}'
+        for chosen in cases_table.every_argument(operation, v['n']):
+            yield Case(operation, {**v, **chosen, **lent(operation, v)})
+
+
+def closing(operation, rows, blocks):
+    v = {**tables.given(5, 2, sorted(rows), 4), **laid_out([4, 2, 0, 3, 1], blocks, X), 'block': 0}
+    return {**v, **lent(operation, v)}
+
+
+def of_closed(operation):
+    for words, rows, blocks in CLOSED:
+        yield f'# {operation.name}: {words}'
+        yield Case(operation, closing(operation, rows, blocks))
+
+
+def a_case(operation):
+    """A sound case with two rows, to be made faulty."""
+    v = {**tables.given(3, 2, [(0, 0, 1), (1, 1, 2)], 2), **dict.fromkeys(FLAGS, 0), 'state': 1}
+    v |= {**laid_out([2, 0, 1], [(0, 2, 3)], X), 'block': 0}
+    return {name: value for name, value in {**v, **lent(operation, v)}.items() if name in operation.parameters}
+
+
+def of_length(operation, v):
+    yield f'# {operation.name}: slices longer, one short, empty'
+    yield Case(operation, {**v, **{name: v[name] + [3, X] for name in operation.needs}})
+    for name, needed in operation.needs.items():
+        yield Case(operation, {**v, name: v[name][:needed(v) - 1]})
+    yield Case(operation, {**v, **dict.fromkeys(operation.needs, [])})
+
+
+def of_header(operation, v):
+    yield f'# {operation.name}: the header out of range'
+    outside = {'n': (0, MOST_STATES + 1, X), 'labels': (0, MOST_LABELS + 1, X), 'm': (MOST_ROWS + 1, X),
+               'initial': (3, X)}
+    for name, numbers in outside.items():
+        yield from (Case(operation, {**v, name: number}) for number in numbers)
+
+
+def of_rows(operation, v):
+    """5 and 6: each field, each way to be out of order, and which comes first."""
+    yield f'# {operation.name}: rows out of range, out of order, both'
+    for rows in ([(0, 0, 1), (3, 0, 0)], [(0, 2, 1), (1, 0, 0)], [(0, 0, 3), (1, 0, 0)], [(0, 0, 1), (0, 0, 1)],
+                 [(0, 1, 0), (0, 0, 1)], [(1, 0, 0), (0, 1, 2)], [(0, 0, 2), (0, 0, 1)], [(1, 0, 0), (0, 2, 0)],
+                 [(0, 0, 1), (0, 0, 0), (3, 0, 0)], [(0, 0, 1), (X, 0, 0), (0, 0, 0)]):
+        table = tables.given(3, 2, rows)
+        yield Case(operation, {**v, **table, **lent(operation, table)})
+
+
+def of_order(operation, v):
+    """Faults in the order in which 01 ranks them, the first taken away each time."""
+    last = cases_table.slices_besides(operation)[-1]
+    faults = [{'n': 0}, {'labels': 0}, {'m': MOST_ROWS + 1}, {'initial': 3}, {last: v[last][:-1]}, {'target': [3, 2]},
+              {'source': [1, 1], 'label': [1, 1], 'target': [2, 1]}]
+    if 'count' in v:
+        faults += [{'count': 0}, {'block': X}]
+    if 'state' in v:
+        faults.append({'state': X})
+    if 'places' in v:
+        faults.append({'source': [0, 1], 'label': [0, 0], 'target': [1, 0]})
+    yield f'# {operation.name}: several faults at once'
+    for first in range(len(faults)):
+        wrong = {}
+        for fault in reversed(faults[first:]):
+            wrong |= fault
+        yield Case(operation, {**v, **wrong})
+
+
+def of_partition(operation, v):
+    """14 and 8."""
+    yield f'# {operation.name}: a damaged partition, a block out of range'
+    broken = {'elements': [2, 2, 1], 'element_offset': [0, 1, 2], 'element_to_block': [0, 1, 0], 'begin': [3, 0, 0],
+              'marked_split': [4, 3, 3], 'end': [4, 3, 3]}
+    yield from (Case(operation, {**v, column: cells}) for column, cells in broken.items())
+    yield from (Case(operation, {**v, 'count': count}) for count in (0, 4, X))
+    yield from (Case(operation, {**v, 'block': block}) for block in (1, 3, X))
+
+
+def of(name):
+    operation = BY_NAME[name]
+    v = a_case(operation)
+    yield from of_closed(operation) if 'count' in v else of_sound(operation)
+    yield from of_header(operation, v)
+    yield from of_length(operation, v)
+    yield from of_rows(operation, v)
+    if 'count' in v:
+        yield from of_partition(operation, v)
+    if 'state' in v:
+        yield f'# {name}: a start out of range'
+        yield from (Case(operation, {**v, 'state': state}) for state in (3, X))
+    yield from of_order(operation, v)
+
+
+def of_size():
+    """More states than a byte counts."""
+    for name, v in product(('reachable', 'sort_topological'), (tables.chain(300), tables.chain(300, 0, False))):
+        operation = BY_NAME[name]
+        yield f'# {name}: a chain of 300 states'
+        yield Case(operation, {**v, 'hidden': 1, 'reversed': 0, 'state': 299, **lent(operation, v)})
+
+
+def of_no_case():
+    """A word too few, a word too many, a flag of 2, and a cell that is too large in the last slice."""
+    for name in OPERATIONS:
+        operation, example = BY_NAME[name], cases_table.example(BY_NAME[name])
+        lines = list(cases_bad.cases(operation, example))
+        flags = [Case(operation, None, written(operation, {**example, flag: 2})) for flag in FLAGS if flag in example]
+        yield from (lines[0], lines[2], *flags, lines[-1])
