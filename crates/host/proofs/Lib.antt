@@ -1,0 +1,6 @@
+pub mod Fields
+pub mod Filling
+pub mod Alike
+pub mod Agreeing
+pub mod Forms
+mod Shared

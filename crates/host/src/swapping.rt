@@ -1,0 +1,108 @@
+// `swap_blocks` (block_partition.rs) on a partition whose block table is a lent list of block records.
+ghost use mathlib.Core.Path.{_≡_};
+ghost use Rattle.columns.specs.Answers.{said};
+ghost use Rattle.host.specs.Records.{swapRecords};
+ghost use Rattle.host.specs.Tables.{shortb, went, swapTable};
+use block_partition::BlockPartition;
+use columns::answers::Answer;
+use columns::answers::Outcome;
+use columns::answers::Refusal;
+use columns::answers::refusing;
+use crate::records::apart;
+use crate::records::at_most;
+use crate::records::copied;
+use crate::records::empty_table;
+use crate::records::exchange_if;
+use partition::block::Block;
+
+// The column form's answer, and whether it was done.
+pub struct Swapped {
+    pub answer: Answer,
+    pub go: bool,
+}
+
+fn answered(answer: Answer) -> Swapped
+    ensures { λ r. ⌜ (r .answer ≡ answer) × (r .go ≡ went (said answer)) ⌝ }
+{
+    let o = answer.outcome;
+    match o {
+        Outcome::Done => Swapped { answer, go: true },
+        Outcome::Refused(_) => Swapped { answer, go: false },
+    }
+}
+
+// Whether a list of records is too short for n states, where n is no number that is refused for itself.
+fn short(n: usize, len: usize) -> bool
+    ensures { λ r. ⌜ r ≡ shortb n len ⌝ }
+{
+    if 4096 < n {
+        return false;
+    }
+    if len < n { true } else { false }
+}
+
+// The column form on the fields of a table that holds the first of len records.
+pub fn swap_table(
+    partition: BlockPartition,
+    elements: &[u16],
+    element_offset: &[u16],
+    element_to_block: &mut [u16],
+    table: [Block; 4096],
+    len: usize,
+    left_index: u16,
+    right_index: u16,
+) -> Swapped
+    ensures { λ r. ⌜ ((said (r .answer), now («element_to_block» .exit)) ≡ swapTable (now (elements .entry)) (now («element_offset» .entry)) (now («element_to_block» .entry)) table len (partition .n) (partition .count) «left_index» «right_index») × (r .go ≡ went (said (r .answer))) ⌝ }
+{
+    if short(partition.n as usize, len) {
+        let answer = refusing(Refusal {
+            number: 7,
+            place: 0,
+        });
+        return answered(answer);
+    }
+    let mut begin = [0u16; 4096];
+    let mut marked_split = [0u16; 4096];
+    let mut end = [0u16; 4096];
+    apart(table, &mut begin, &mut marked_split, &mut end);
+    let answer = partition.swap_blocks(
+        elements,
+        element_offset,
+        &mut *element_to_block,
+        &mut begin,
+        &mut marked_split,
+        &mut end,
+        left_index,
+        right_index,
+    );
+    answered(answer)
+}
+
+// Exchanges two blocks: their records in the lent list, and the numbers of their states.
+pub fn swap_blocks(
+    partition: BlockPartition,
+    elements: &[u16],
+    element_offset: &[u16],
+    element_to_block: &mut [u16],
+    blocks: &mut [Block],
+    left_index: u16,
+    right_index: u16,
+) -> Answer
+    ensures { λ r. ⌜ (said r, (now («element_to_block» .exit), now (blocks .exit))) ≡ swapRecords (now (elements .entry)) (now («element_offset» .entry)) (now («element_to_block» .entry)) (now (blocks .entry)) (partition .n) (partition .count) «left_index» «right_index» ⌝ }
+{
+    let len = blocks.len();
+    let m = at_most(len);
+    let table = copied(&*blocks, empty_table(), m);
+    let s = swap_table(
+        partition,
+        elements,
+        element_offset,
+        element_to_block,
+        table,
+        len,
+        left_index,
+        right_index,
+    );
+    exchange_if(blocks, s.go, left_index as usize, right_index as usize);
+    s.answer
+}
