@@ -136,7 +136,7 @@ went-refused a n p e = ap went e
 
 module _ (q : Refusal) (b c z : List ℕ) (a : Said) (go : Bool) (g : go ≡ went a) where
   abbrev Left : Bool → Type 0
-  Left y = (a, z) ≡ cond y (done [], c) (refused (q .number) (q .place), b)
+  Left y = _≡_ {A = Said × List ℕ} (a, z) (cond y (done [], c) (refused (q .number) (q .place), b))
 
   said-left : (y : Bool) → Left y → (go ≡ y) × (z ≡ cond y c b)
   said-left true e = (g ∙ went-done a (ap (λ (s : Said × List ℕ). s .0) e), ap (λ (s : Said × List ℕ). s .1) e)
@@ -148,11 +148,11 @@ module _ (q : Refusal) (b c z : List ℕ) (a : Said) (go : Bool) (g : go ≡ wen
   none-left e y = eqb-true (q .number) 0 (sym (said-left (eqb (q .number) 0) e .0) ∙ y)
 
   -- a list that changes only where the call was done
-  both-left : (bs ex ws : List Block) → ws ≡ cond go ex bs → (a, z) ≡ leaving q b [] c → (a, (z, ws)) ≡ leaving q (b, bs) [] (c, ex)
+  both-left : (bs ex ws : List Block) → ws ≡ cond go ex bs → (a, z) ≡ leaving q b [] c → _≡_ {A = Said × (List ℕ × List Block)} (a, (z, ws)) (leaving {A = List ℕ × List Block} q (b, bs) [] (c, ex))
   unfolding leaving
   both-left bs ex ws w e = by (eqb (q .number) 0) e
     where
-      by : (y : Bool) → Left y → (a, (z, ws)) ≡ cond y (done [], (c, ex)) (refused (q .number) (q .place), (b, bs))
+      by : (y : Bool) → Left y → _≡_ {A = Said × (List ℕ × List Block)} (a, (z, ws)) (cond y (done [], (c, ex)) (refused (q .number) (q .place), (b, bs)))
       by true e =
           let u : ws ≡ ex = w ∙ ap (λ (y : Bool). cond y ex bs) (said-left true e .0) in
           λ i. (e i .0, (e i .1, u i))

@@ -24,18 +24,20 @@ module _ (e o b : List ℕ) (bs : List Block) (n count l r : ℕ) where
   abbrev after : Said × (List ℕ × List Block) → Partition
   after s = lent e o (s .1 .0) (s .1 .1) n count
 
+  -- what is said and left, as the test for a refusal decides
+  abbrev left : Refusal → Partition → List Block → Bool → Said × (List ℕ × List Block)
+  left q x ex y = cond y (done [], (x .element-to-block, ex)) (refused (q .number) (q .place), (b, bs))
+
   swap-lent : lent e o (swap p l r .element-to-block) (exchanged l r bs) n count ≡ swap p l r
   unfolding swap
   swap-lent = λ i. parts e o (swap p l r .element-to-block) (begins-exchanged l r bs i) (splits-exchanged l r bs i) (ends-exchanged l r bs i) n count
 
-  pub forms-agree : (swapRecords e o b bs n count l r .0, after (swapRecords e o b bs n count l r)) ≡ swapBlocks p l r
+  pub forms-agree : _≡_ {A = Said × Partition} (swapRecords e o b bs n count l r .0, after (swapRecords e o b bs n count l r)) (swapBlocks p l r)
   unfolding swapRecords swapBlocks leaving
   forms-agree = by (blocksRefusal p l r) (swap p l r) (exchanged l r bs) swap-lent (eqb (blocksRefusal p l r .number) 0)
     where
       by : (q : Refusal) (x : Partition) (ex : List Block) → lent e o (x .element-to-block) ex n count ≡ x → (y : Bool)
-          → (cond y (done [], (x .element-to-block, ex)) (refused (q .number) (q .place), (b, bs)) .0,
-            after (cond y (done [], (x .element-to-block, ex)) (refused (q .number) (q .place), (b, bs))))
-          ≡ cond y (done [], x) (refused (q .number) (q .place), p)
+          → _≡_ {A = Said × Partition} (left q x ex y .0, after (left q x ex y)) (cond y (done [], x) (refused (q .number) (q .place), p))
       by q x ex s true = λ i. (done [], s i)
       by q x ex s false = refl
 
@@ -44,7 +46,7 @@ module _ (e o b : List ℕ) (bs : List Block) (n count l r : ℕ) where
   column-consistent h = by (blocksRefusal p l r) refl (eqb (blocksRefusal p l r .number) 0) refl
     where
       by : (q : Refusal) → q ≡ blocksRefusal p l r → (y : Bool) → eqb (q .number) 0 ≡ y
-          → Consistent (cond y (done [], swap p l r) (refused (q .number) (q .place), p) .1)
+          → Consistent (cond {A = Said × Partition} y (done [], swap p l r) (refused (q .number) (q .place), p) .1)
       by q f true t =
           let d = blocks-ready p l r q f (eqb-true (q .number) 0 t) in
           swap-consistent p h (d .sound .long) l r (d .left) (d .right)

@@ -2,5 +2,6 @@ pub mod Fields
 pub mod Filling
 pub mod Alike
 pub mod Agreeing
+pub mod Tabled
 pub mod Forms
 mod Shared
