@@ -43,12 +43,7 @@ pub fn copied(blocks: &[Block], table: [Block; 4096], m: usize) -> [Block; 4096]
 }
 
 // The table's fields, each in a column.
-pub fn apart(
-    table: [Block; 4096],
-    begin: &mut [u16],
-    marked_split: &mut [u16],
-    end: &mut [u16],
-)
+pub fn apart(table: [Block; 4096], begin: &mut [u16], marked_split: &mut [u16], end: &mut [u16])
     requires { ⌜ (length (now begin) ≡ 4096) × (length (now «marked_split») ≡ 4096) × (length (now end) ≡ 4096) ⌝ }
     ensures { λ _. ⌜ (now (begin .exit) ≡ beginsOf table) × (now («marked_split» .exit) ≡ splitsOf table) × (now (end .exit) ≡ endsOf table) ⌝ }
 {

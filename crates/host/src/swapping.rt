@@ -3,16 +3,16 @@ ghost use mathlib.Core.Path.{_≡_};
 ghost use Rattle.columns.specs.Answers.{said};
 ghost use Rattle.host.specs.Records.{swapRecords};
 ghost use Rattle.host.specs.Tables.{shortb, went, swapTable};
-use block_partition::BlockPartition;
-use columns::answers::Answer;
-use columns::answers::Outcome;
-use columns::answers::Refusal;
-use columns::answers::refusing;
 use crate::records::apart;
 use crate::records::at_most;
 use crate::records::copied;
 use crate::records::empty_table;
 use crate::records::exchange_if;
+use block_partition::BlockPartition;
+use columns::answers::Answer;
+use columns::answers::Outcome;
+use columns::answers::Refusal;
+use columns::answers::refusing;
 use partition::block::Block;
 
 // The column form's answer, and whether it was done.

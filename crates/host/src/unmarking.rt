@@ -55,8 +55,5 @@ pub fn unmark_here(block: Block) -> Unmarked
 {
     let mut b = block;
     let answer = unmark_all(&mut b);
-    Unmarked {
-        block: b,
-        answer,
-    }
+    Unmarked { block: b, answer }
 }
