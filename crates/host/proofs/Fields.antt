@@ -19,15 +19,19 @@ map-set f [] i v = refl
 map-set f (x ∷ l) zero v = refl
 map-set {B = B} f (x ∷ l) (suc i) v = ap (λ (t : List B). f x ∷ t) (map-set f l i v)
 
+-- one field, where a record that isn't there has 0
+pub field-at : (f : Block → ℕ) → f noBlock ≡ 0 → (bs : List Block) (k : ℕ) → getD (map f bs) k 0 ≡ f (getD bs k noBlock)
+field-at f e bs k = ap (λ (d : ℕ). getD (map f bs) k d) (sym e) ∙ getD-map f bs k noBlock
+
 -- ---- of a list
 pub begins-at : (bs : List Block) (k : ℕ) → getD (begins bs) k 0 ≡ getD bs k noBlock .begin
-begins-at bs k = getD-map (λ (b : Block). b .begin) bs k noBlock
+begins-at bs k = field-at (λ (b : Block). b .begin) refl bs k
 
 pub splits-at : (bs : List Block) (k : ℕ) → getD (splits bs) k 0 ≡ getD bs k noBlock .«marked_split»
-splits-at bs k = getD-map (λ (b : Block). b .«marked_split») bs k noBlock
+splits-at bs k = field-at (λ (b : Block). b .«marked_split») refl bs k
 
 pub ends-at : (bs : List Block) (k : ℕ) → getD (ends bs) k 0 ≡ getD bs k noBlock .end
-ends-at bs k = getD-map (λ (b : Block). b .end) bs k noBlock
+ends-at bs k = field-at (λ (b : Block). b .end) refl bs k
 
 -- ---- of a table
 pub table-begins-at : (t : List Block) (k : ℕ) → k < 4096 → getD (beginsOf t) k 0 ≡ getD t k noBlock .begin
@@ -60,11 +64,8 @@ unfolding exchanged swapped
 field-exchanged f e i j bs =
     map-set f (set bs i (getD bs j noBlock)) j (getD bs i noBlock)
     ∙ ap (λ (t : List ℕ). set t j (f (getD bs i noBlock))) (map-set f bs i (getD bs j noBlock))
-    ∙ ap (λ (v : ℕ). set (set (map f bs) i v) j (f (getD bs i noBlock))) (cell j)
-    ∙ ap (λ (v : ℕ). set (set (map f bs) i (getD (map f bs) j 0)) j v) (cell i)
-  where
-    cell : (k : ℕ) → f (getD bs k noBlock) ≡ getD (map f bs) k 0
-    cell k = sym (getD-map f bs k noBlock) ∙ ap (λ (d : ℕ). getD (map f bs) k d) e
+    ∙ ap (λ (v : ℕ). set (set (map f bs) i v) j (f (getD bs i noBlock))) (sym (field-at f e bs j))
+    ∙ ap (λ (v : ℕ). set (set (map f bs) i (getD (map f bs) j 0)) j v) (sym (field-at f e bs i))
 
 module _ (i j : ℕ) (bs : List Block) where
   pub begins-exchanged : begins (exchanged i j bs) ≡ swapped i j (begins bs)

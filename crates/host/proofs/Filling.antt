@@ -1,4 +1,4 @@
--- Laws of `filled`: a table with the first records of a list in front.
+-- Laws of `laid` and `filled`: a table with records in front.
 use Prim.Native.Nat.{ℕ, zero, suc, _+_, _≤_, _<_}
 use native.Mathlib.Numerals.{add-one}
 use native.Mathlib.Omega.{arith}
@@ -13,32 +13,32 @@ use lib.Seq.{getD-set-same, getD-set-other}
 use Rattle.columns.proofs.All.{top-or-below}
 use Rattle.partition.specs.declared.block.Block.{Block}
 use Rattle.host.specs.Records.{noBlock}
-use Rattle.host.specs.Tables.{limit, blank, filled}
+use Rattle.host.specs.Tables.{limit, blank, laid, filled}
 
-pub length-filled : (bs : List Block) (m : ℕ) (t : List Block) → length (filled bs m t) ≡ length t
-unfolding filled
-length-filled bs zero t = refl
-length-filled bs (suc m) t = length-set (filled bs m t) m (getD bs m noBlock) ∙ length-filled bs m t
+pub length-laid : (f : ℕ → Block) (m : ℕ) (t : List Block) → length (laid f m t) ≡ length t
+unfolding laid
+length-laid f zero t = refl
+length-laid f (suc m) t = length-set (laid f m t) m (f m) ∙ length-laid f m t
 
-pub filled-none : (bs t : List Block) → t ≡ filled bs 0 t
-unfolding filled
-filled-none bs t = refl
+pub laid-none : (f : ℕ → Block) (t : List Block) → t ≡ laid f 0 t
+unfolding laid
+laid-none f t = refl
 
-pub filled-more : (bs : List Block) (m : ℕ) (t : List Block) → set (filled bs m t) m (getD bs m noBlock) ≡ filled bs (m + 1) t
-unfolding filled
-filled-more bs m t = rw add-one
+pub laid-more : (f : ℕ → Block) (m : ℕ) (t : List Block) → set (laid f m t) m (f m) ≡ laid f (m + 1) t
+unfolding laid
+laid-more f m t = rw add-one
 
--- the first m records of the table are the list's
-filled-at : (bs t : List Block) (m k : ℕ) → m ≤ length t → k < m → getD (filled bs m t) k noBlock ≡ getD bs k noBlock
-unfolding filled
-filled-at bs t zero k h w = absurd (omega arith)
-filled-at bs t (suc m) k h w =
+-- the first m records of the table are f's
+pub laid-at : (f : ℕ → Block) (t : List Block) (m k : ℕ) → m ≤ length t → k < m → getD (laid f m t) k noBlock ≡ f k
+unfolding laid
+laid-at f t zero k h w = absurd (omega arith)
+laid-at f t (suc m) k h w =
     ⊎-elim
     (λ (e : k ≡ m).
-    ap (λ (x : ℕ). getD (set (filled bs m t) m (getD bs m noBlock)) x noBlock) e
-    ∙ getD-set-same (filled bs m t) m (getD bs m noBlock) noBlock (omega (arith, length-filled bs m t))
-    ∙ ap (λ (x : ℕ). getD bs x noBlock) (sym e))
-    (λ (l : k < m). getD-set-other (filled bs m t) m k (getD bs m noBlock) noBlock (λ q. omega arith) ∙ filled-at bs t m k (omega arith) l)
+    ap (λ (x : ℕ). getD (set (laid f m t) m (f m)) x noBlock) e
+    ∙ getD-set-same (laid f m t) m (f m) noBlock (omega (arith, length-laid f m t))
+    ∙ ap f (sym e))
+    (λ (l : k < m). getD-set-other (laid f m t) m k (f m) noBlock (λ q. omega arith) ∙ laid-at f t m k (omega arith) l)
     (top-or-below w)
 
 limit-both : (len n : ℕ) → n ≤ len → n ≤ 4096 → n ≤ limit len
@@ -57,11 +57,11 @@ limit-room len = by (ltb len 4096) refl
     by true e = omega (arith, ltb-true len 4096 e)
     by false e = omega arith
 
-length-blank : length blank ≡ 4096
+pub length-blank : length blank ≡ 4096
 unfolding blank
 length-blank = length-replicate {A = Block} 4096 noBlock
 
 -- where n records fit, the table has the first n of the list
 pub copied-at : (bs : List Block) (n k : ℕ) → n ≤ length bs → n ≤ 4096 → k < n → getD (filled bs (limit (length bs)) blank) k noBlock ≡ getD bs k noBlock
 copied-at bs n k h l w =
-    filled-at bs blank (limit (length bs)) k (omega (arith, limit-room (length bs), length-blank)) (omega (arith, limit-both (length bs) n h l))
+    laid-at (λ k. getD bs k noBlock) blank (limit (length bs)) k (omega (arith, limit-room (length bs), length-blank)) (omega (arith, limit-both (length bs) n h l))

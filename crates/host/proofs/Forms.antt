@@ -5,6 +5,7 @@ use mathlib.Core.Bool.{Bool, true, false, cond}
 use mathlib.Core.Path.{_≡_, refl, ap, sym, subst, _∙_}
 use mathlib.Core.List.{List, []}
 use lib.Dec.{eqb}
+use lib.ListN.{length, getD, set, length-set}
 use Rattle.columns.specs.declared.answers.Refusal.{Refusal}
 use Rattle.columns.specs.Answers.{Said, done, refused, leaving}
 use Rattle.partition.specs.declared.block.Block.{Block}
@@ -13,7 +14,7 @@ use Rattle.partition.specs.Partition.{Partition, parts, Consistent, Sound}
 use Rattle.partition.specs.SwapBlocks.{swap, swapBlocks}
 use Rattle.partition.proofs.Refusals.{blocks-ready}
 use Rattle.partition.proofs.SwapKeeps.{swap-consistent}
-use Rattle.host.specs.Records.{lent, exchanged, swapRecords}
+use Rattle.host.specs.Records.{lent, noBlock, exchanged, swapRecords}
 use Rattle.host.proofs.Fields.{begins-exchanged, splits-exchanged, ends-exchanged}
 
 module _ (e o b : List ℕ) (bs : List Block) (n count l r : ℕ) where
@@ -40,6 +41,15 @@ module _ (e o b : List ℕ) (bs : List Block) (n count l r : ℕ) where
           → _≡_ {A = Said × Partition} (left q x ex y .0, after (left q x ex y)) (cond y (done [], x) (refused (q .number) (q .place), p))
       by q x ex s true = λ i. (done [], s i)
       by q x ex s false = refl
+
+  -- no record comes or goes
+  pub records-kept : length (swapRecords e o b bs n count l r .1 .1) ≡ length bs
+  unfolding swapRecords leaving exchanged
+  records-kept = by (blocksRefusal p l r) (swap p l r) (eqb (blocksRefusal p l r .number) 0)
+    where
+      by : (q : Refusal) (x : Partition) (y : Bool) → length (left q x (set (set bs l (getD bs r noBlock)) r (getD bs l noBlock)) y .1 .1) ≡ length bs
+      by q x true = simp length-set
+      by q x false = refl
 
   column-consistent : Consistent p → Consistent (swapBlocks p l r .1)
   unfolding swapBlocks leaving

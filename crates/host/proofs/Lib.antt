@@ -4,4 +4,5 @@ pub mod Alike
 pub mod Agreeing
 pub mod Tabled
 pub mod Forms
+pub mod Spreads
 mod Shared

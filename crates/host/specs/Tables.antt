@@ -20,20 +20,34 @@ limit len = cond (ltb len 4096) len 4096
 unfoldable pub blank : List Block
 blank = replicate 4096 noBlock
 
+-- t with f 0, .., f (m - 1) in front
+unfoldable pub laid : (ℕ → Block) → ℕ → List Block → List Block
+laid f zero t = t
+laid f (suc m) t = set (laid f m t) m (f m)
+
 -- t with the first m of bs in front
-unfoldable pub filled : List Block → ℕ → List Block → List Block
-filled bs zero t = t
-filled bs (suc m) t = set (filled bs m t) m (getD bs m noBlock)
+abbrev pub filled : List Block → ℕ → List Block → List Block
+filled bs m t = laid (λ k. getD bs k noBlock) m t
+
+-- the fields of a table's records
+abbrev pub beginAt : List Block → ℕ → ℕ
+beginAt t k = getD t k noBlock .begin
+
+abbrev pub splitAt : List Block → ℕ → ℕ
+splitAt t k = getD t k noBlock .«marked_split»
+
+abbrev pub endAt : List Block → ℕ → ℕ
+endAt t k = getD t k noBlock .end
 
 -- the table's fields, each as a column
 unfoldable pub beginsOf : List Block → List ℕ
-beginsOf t = listed 4096 (λ k. getD t k noBlock .begin)
+beginsOf t = listed 4096 (beginAt t)
 
 unfoldable pub splitsOf : List Block → List ℕ
-splitsOf t = listed 4096 (λ k. getD t k noBlock .«marked_split»)
+splitsOf t = listed 4096 (splitAt t)
 
 unfoldable pub endsOf : List Block → List ℕ
-endsOf t = listed 4096 (λ k. getD t k noBlock .end)
+endsOf t = listed 4096 (endAt t)
 
 abbrev pub tabled : List ℕ → List ℕ → List ℕ → List Block → ℕ → ℕ → Partition
 tabled e o b t n count = parts e o b (beginsOf t) (splitsOf t) (endsOf t) n count

@@ -4,7 +4,9 @@ ghost use mathlib.Core.Path.{_≡_};
 ghost use Prim.Native.Nat.{_≤_, _<_};
 ghost use lib.ListN.{length};
 ghost use Rattle.host.specs.Records.{exchanged};
-ghost use Rattle.host.specs.Tables.{limit, filled, blank, beginsOf, splitsOf, endsOf};
+ghost use Rattle.columns.specs.Columns.{written};
+ghost use Rattle.partition.specs.Block.{entry};
+ghost use Rattle.host.specs.Tables.{limit, filled, laid, blank, beginAt, splitAt, endAt};
 use partition::block::Block;
 
 // As many records as a table has room for.
@@ -42,19 +44,43 @@ pub fn copied(blocks: &[Block], table: [Block; 4096], m: usize) -> [Block; 4096]
     t
 }
 
-// The table's fields, each in a column.
-pub fn apart(table: [Block; 4096], begin: &mut [u16], marked_split: &mut [u16], end: &mut [u16])
-    requires { ⌜ (length (now begin) ≡ 4096) × (length (now «marked_split») ≡ 4096) × (length (now end) ≡ 4096) ⌝ }
-    ensures { λ _. ⌜ (now (begin .exit) ≡ beginsOf table) × (now («marked_split» .exit) ≡ splitsOf table) × (now (end .exit) ≡ endsOf table) ⌝ }
+// The fields of the table's first len records, each over the front of a column.
+pub fn apart(
+    table: [Block; 4096],
+    len: usize,
+    begin: &mut [u16],
+    marked_split: &mut [u16],
+    end: &mut [u16],
+)
+    requires { ⌜ (len ≤ 4096) × (len ≤ length (now begin)) × (len ≤ length (now «marked_split»)) × (len ≤ length (now end)) ⌝ }
+    ensures { λ _. ⌜ (now (begin .exit) ≡ written len (beginAt table) (now (begin .entry))) × (now («marked_split» .exit) ≡ written len (splitAt table) (now («marked_split» .entry))) × (now (end .exit) ≡ written len (endAt table) (now (end .entry))) ⌝ }
 {
     let mut i = 0;
-    while i < 4096 {
+    while i < len {
         let b = table[i];
         begin[i] = b.begin;
         marked_split[i] = b.marked_split;
         end[i] = b.end;
         i += 1;
     }
+}
+
+// A table with the records in front whose fields are the cells of three columns.
+pub fn joined(begin: &[u16], marked_split: &[u16], end: &[u16]) -> [Block; 4096]
+    requires { ⌜ (length (now begin) ≤ 4096) × (length (now «marked_split») ≡ length (now begin)) × (length (now end) ≡ length (now begin)) ⌝ }
+    ensures { λ r. ⌜ r ≡ laid (entry (now (begin .entry)) (now («marked_split» .entry)) (now (end .entry))) (length (now (begin .entry))) blank ⌝ }
+{
+    let mut t = empty_table();
+    let mut i = 0;
+    while i < begin.len() {
+        t[i] = Block {
+            begin: begin[i],
+            marked_split: marked_split[i],
+            end: end[i],
+        };
+        i += 1;
+    }
+    t
 }
 
 // The records at i and j are exchanged where go says so.

@@ -1,8 +1,14 @@
 // `swap_blocks` (block_partition.rs) on a partition whose block table is a lent list of block records.
 ghost use mathlib.Core.Path.{_≡_};
+ghost use Prim.Native.Nat.{_≤_};
+ghost use lib.ListN.{length, take};
+ghost use Rattle.columns.specs.Columns.{over};
+ghost use Rattle.partition.specs.Partition.{parts};
+ghost use Rattle.partition.specs.SwapBlocks.{swapBlocks};
 ghost use Rattle.columns.specs.Answers.{said};
-ghost use Rattle.host.specs.Records.{swapRecords};
+ghost use Rattle.host.specs.Records.{swapRecords, begins, splits, ends};
 ghost use Rattle.host.specs.Tables.{shortb, went, swapTable};
+ghost use Rattle.host.specs.Spread.{Spread};
 use crate::records::apart;
 use crate::records::at_most;
 use crate::records::copied;
@@ -64,7 +70,7 @@ pub fn swap_table(
     let mut begin = [0u16; 4096];
     let mut marked_split = [0u16; 4096];
     let mut end = [0u16; 4096];
-    apart(table, &mut begin, &mut marked_split, &mut end);
+    apart(table, 4096, &mut begin, &mut marked_split, &mut end);
     let answer = partition.swap_blocks(
         elements,
         element_offset,
@@ -105,4 +111,35 @@ pub fn swap_blocks(
     );
     exchange_if(blocks, s.go, left_index as usize, right_index as usize);
     s.answer
+}
+
+// `swap_blocks` on the first len records of a table; the fields of what it leaves of them go over three columns.
+pub fn swap_first(
+    partition: BlockPartition,
+    elements: &[u16],
+    element_offset: &[u16],
+    element_to_block: &mut [u16],
+    table: [Block; 4096],
+    len: usize,
+    begin: &mut [u16],
+    marked_split: &mut [u16],
+    end: &mut [u16],
+    left_index: u16,
+    right_index: u16,
+) -> Answer
+    requires { ⌜ (len ≤ 4096) × (len ≤ length (now begin)) × (len ≤ length (now «marked_split»)) × (len ≤ length (now end)) ⌝ }
+    ensures { λ r. ⌜ Spread (swapRecords (now (elements .entry)) (now («element_offset» .entry)) (now («element_to_block» .entry)) (take len table) (partition .n) (partition .count) «left_index» «right_index») (said r) (now («element_to_block» .exit)) (now (begin .entry)) (now («marked_split» .entry)) (now (end .entry)) (now (begin .exit)) (now («marked_split» .exit)) (now (end .exit)) ⌝ }
+{
+    let mut t = table;
+    let answer = swap_blocks(
+        partition,
+        elements,
+        element_offset,
+        element_to_block,
+        &mut t[..len],
+        left_index,
+        right_index,
+    );
+    apart(t, len, begin, marked_split, end);
+    answer
 }

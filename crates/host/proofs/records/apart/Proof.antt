@@ -5,32 +5,23 @@ use borrow.Author.Needs.{needs}
 use mathlib.Core.Path.{_≡_, refl, ap, sym, _∙_}
 use mathlib.Core.List.{List}
 use lib.ListN.{length, getD}
-use Rattle.columns.proofs.Lists.{Painted, painted-none, painted-more, painted-done, length-listed, over-all}
+use Rattle.columns.specs.Columns.{written}
+use Rattle.columns.proofs.Lists.{Painted, painted-none, painted-more, painted-done}
 use Rattle.partition.specs.declared.block.Block.{Block}
-use Rattle.host.specs.Records.{noBlock}
-use Rattle.host.specs.Tables.{beginsOf, splitsOf, endsOf}
+use Rattle.host.specs.Tables.{beginAt, splitAt, endAt}
 use Rattle.host.proofs.records.apart.Statement.{statement}
 use Rattle.host.proofs.records.apart.Tie as tie
 
-abbrev begin-at : List Block → ℕ → ℕ
-begin-at t k = getD t k noBlock .begin
-
-abbrev split-at : List Block → ℕ → ℕ
-split-at t k = getD t k noBlock .«marked_split»
-
-abbrev end-at : List Block → ℕ → ℕ
-end-at t k = getD t k noBlock .end
-
 abbrev Inv-loop : tie.InvT-loop
-Inv-loop begin₀ marked-split₀ end₀ table i₀ begin marked-split end i =
-    Painted (begin-at table) 4096 begin₀ i begin
-    × (Painted (split-at table) 4096 marked-split₀ i marked-split × Painted (end-at table) 4096 end₀ i end)
+Inv-loop len begin₀ marked-split₀ end₀ table i₀ begin marked-split end i =
+    Painted (beginAt table) len begin₀ i begin
+    × (Painted (splitAt table) len marked-split₀ i marked-split × Painted (endAt table) len end₀ i end)
 
 abbrev μ-loop : tie.MeasureT-loop
-μ-loop begin₀ marked-split₀ end₀ table i₀ begin marked-split end i = 4096 - i
+μ-loop len begin₀ marked-split₀ end₀ table i₀ begin marked-split end i = len - i
 
 loop-holds : tie.Need-loop-holds Inv-loop μ-loop
-loop-holds c = (painted-none _ 4096 _, (painted-none _ 4096 _, painted-none _ 4096 _))
+loop-holds c = (painted-none _ _ _, (painted-none _ _ _, painted-none _ _ _))
 
 mul-b : tie.Need-mul-b Inv-loop μ-loop
 mul-b c = search needs
@@ -65,7 +56,7 @@ loop-less c = omega arith
 loop-again : tie.Need-loop-again Inv-loop μ-loop
 loop-again c =
     let v = c .before .before .loop .inv in
-    (painted-more _ 4096 _ _ _ _ (omega arith) (omega arith) refl (v .0), (painted-more _ 4096 _ _ _ _ (omega arith) (omega arith) refl (v .1 .0), painted-more _ 4096 _ _ _ _ (omega arith) (omega arith) refl (v .1 .1)))
+    (painted-more _ _ _ _ _ _ (omega arith) (omega arith) refl (v .0), (painted-more _ _ _ _ _ _ (omega arith) (omega arith) refl (v .1 .0), painted-more _ _ _ _ _ _ (omega arith) (omega arith) refl (v .1 .1)))
 
 same-length : tie.Need-same-length Inv-loop μ-loop
 same-length c = c .before .loop .inv .0 .1 .1
@@ -77,14 +68,10 @@ same-length-3 : tie.Need-same-length-3 Inv-loop μ-loop
 same-length-3 c = c .before .loop .inv .1 .1 .1 .1
 
 returns : tie.Need-returns Inv-loop μ-loop
-unfolding beginsOf splitsOf endsOf
+unfolding written
 returns c =
     let v = c .before .loop .inv in
-    let q = c .before .before .pre in (
-      painted-done _ 4096 _ _ _ _ (v .0) (omega arith) refl ∙ over-all _ _ (length-listed 4096 _ ∙ sym (q .0)),
-      painted-done _ 4096 _ _ _ _ (v .1 .0) (omega arith) refl ∙ over-all _ _ (length-listed 4096 _ ∙ sym (q .1)),
-      painted-done _ 4096 _ _ _ _ (v .1 .1) (omega arith) refl ∙ over-all _ _ (length-listed 4096 _ ∙ sym (q .2)),
-    )
+    (painted-done _ _ _ _ _ _ (v .0) (omega arith) refl, painted-done _ _ _ _ _ _ (v .1 .0) (omega arith) refl, painted-done _ _ _ _ _ _ (v .1 .1) (omega arith) refl)
 
 pub apart-spec : {M : Type 1} → statement M
 apart-spec =

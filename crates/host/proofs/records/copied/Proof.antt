@@ -49,7 +49,7 @@ use denote.Triple.Walked.{says, needs, Stays, stay-dropped, walkOf, Walks, ends-
 use denote.Exit.{yes}
 use Rattle.host.specs.Records.{noBlock}
 use Rattle.host.specs.Tables.{filled}
-use Rattle.host.proofs.Filling.{length-filled, filled-none, filled-more}
+use Rattle.host.proofs.Filling.{length-laid, laid-none, laid-more}
 use Rattle.partition.specs.declared.block.Block.{Block}
 use Rattle.partition.proofs.block.Block as T
 use Rattle.partition.proofs.block.Block.Laws as T′
@@ -77,6 +77,10 @@ block-val d = LL.val T.the-type T′.the-laws d
 
 abbrev table-vals : List Block → List Val
 table-vals ts = array-vals (LL.vals T.the-type T′.the-laws) ts
+
+-- record k of a list
+abbrev cell : List Block → ℕ → Block
+cell xs k = getD xs k noBlock
 
 abbrev only-val : List Val → Val
 only-val [] = vptr 0 0
@@ -160,7 +164,7 @@ module _ {M : Type 1} (𝓤 : URA M) (H : Heap 𝓤) (A : Atoms 𝓤) (W : Given
         rewrite ! 3 (λ (y : Bool). ‵ (fat fullShare tyBool l₆ 0 (vbool y))) (le-ltb i m (omega arith)) refl $
         leaves-loop ! (load ! (from ! (stop !)) (look ! 3 refl)) $ exec ! C Λ E code-mir.t-4 (atRet E Post) $
         -- the row is one value of the table's type again
-        feqI ! ℕ (length (filled xs i ts)) 4096 (length-filled xs i ts ∙ long) $ fjoin ! $ use1 W (‵ (partAt Tab fullShare (filled xs i ts) l₄ 0)) (array-whole 𝓤 H A W R fullShare 4096 (filled xs i ts) l₄ 0) $
+        feqI ! ℕ (length (filled xs i ts)) 4096 (length-laid (cell xs) i ts ∙ long) $ fjoin ! $ use1 W (‵ (partAt Tab fullShare (filled xs i ts) l₄ 0)) (array-whole 𝓤 H A W R fullShare 4096 (filled xs i ts) l₄ 0) $
         fpick ! (λ vs. fsplit ! $ move ! (1 ∷ []) $ peeks ! Tab (Is Tab) (shows 𝓤 H A Tab) (filled xs i ts) vs (λ g. drop ! $
         rewrite ! 0 (λ (us : List Val). ‵ (cellAt fullShare (Tab .mir) us l₄ 0)) (array-tells R (LL.vals T.the-type T′.the-laws) (LL.tells T.the-type T′.the-laws) 4096 (filled xs i ts) vs g) refl $
         use1 W (‵ (fat fullShare table l₄ 0 (table-val (filled xs i ts)))) (W .laws .raw-at fullShare table l₄ 0 (table-val (filled xs i ts))) $
@@ -201,7 +205,7 @@ module _ {M : Type 1} (𝓤 : URA M) (H : Heap 𝓤) (A : Atoms 𝓤) (W : Given
         assigns ! (of-opd ! (load ! (from ! (stop !)) (look ! 8 refl))) (from ! (hop ! (look ! 11 refl) (stop !))) (store-raw ! 0 refl (LL.lawful T.the-type T′.the-laws 𝓤 H A W .typed (getD xs i noBlock) _ g .0)) $
         move ! (1 ∷ []) $ drop ! $ owned ! R (Is R) (LL.makes T.the-type T′.the-plain 𝓤 H A) (getD xs i noBlock) _ g $ move ! (1 ∷ 0 ∷ []) $
         elem-put ! R fullShare (filled xs i ts) i (getD xs i noBlock) (block-val (getD xs i noBlock) ∷ []) l₄ 0 (room-at i e) $
-        rewrite ! 0 (λ (ys : List Block). ‵ (row R fullShare ys l₄ 0)) (filled-more xs i ts) refl $
+        rewrite ! 0 (λ (ys : List Block). ‵ (row R fullShare ys l₄ 0)) (laid-more (cell xs) i ts) refl $
         assigns-last ! (bin ! (load ! (from ! (stop !)) (look ! 2 refl)) (lit ! tt) (record { fits = next-fits (small i e) })) (from ! (stop !)) (store ! 2 refl (tt, record { fits = next-fits (small i e) })) $
         forget ! 3 refl $ forget ! 4 refl $ forget ! 5 refl $ forget ! 6 refl $ forget ! 7 refl $ forget ! 8 refl $ forget ! 9 refl $
         move ! (0 ∷ 2 ∷ []) $ fjoin ! $ feqI ! ℕ ((i + 1) + t) m (next i e) $ fjoin ! $ fpack ! ℕ (Done t) (i + 1) $ again ! _<_ Inv (suc t) t (lt-suc-self t)))))
@@ -219,7 +223,7 @@ module _ {M : Type 1} (𝓤 : URA M) (H : Heap 𝓤) (A : Atoms 𝓤) (W : Given
         within i e = omega arith
 
         room-at : (i : ℕ) → i + suc t ≡ m → i < length (filled xs i ts)
-        room-at i e = omega (arith, length-filled xs i ts, small i e)
+        room-at i e = omega (arith, length-laid (cell xs) i ts, small i e)
 
     looped : Sq W (Inv m) (runs C Λ E (loop code-mir.turn-1) Left)
     looped = loops ! 𝓣 _<_ (Nat·lt-wfRel .wf) Inv turn m
@@ -240,7 +244,7 @@ module _ {M : Type 1} (𝓤 : URA M) (H : Heap 𝓤) (A : Atoms 𝓤) (W : Given
       move ! (5 ∷ 2 ∷ []) $ looks-slice ! tt R (Is R) (shows 𝓤 H A R) (LL.vals T.the-type T′.the-laws) (LL.tells T.the-type T′.the-laws) (LL.copy T.the-type T′.the-copy 𝓤 H A W) xs b o (λ q′.
       -- [the slice's row; the open borrow; the fractured borrow; the table's row; m's; true; res; the slice's fact; _12 at 8; …; _5 at 22; …; (_4's right to be freed at 24); _3 at 25; …; _0 at 31; …]
       first ! $ blocks ! $ keep ! (3 ∷ 22 ∷ 0 ∷ 20 ∷ 18 ∷ 16 ∷ 14 ∷ 12 ∷ 10 ∷ 8 ∷ 29 ∷ 25 ∷ 27 ∷ 31 ∷ 1 ∷ 32 ∷ 30 ∷ 28 ∷ 26 ∷ 24 ∷ 23 ∷ 21 ∷ 19 ∷ 17 ∷ 15 ∷ 13 ∷ 11 ∷ 9 ∷ []) $
-      rewrite ! 0 (λ (ys : List Block). ‵ (row R fullShare ys l₄ 0)) (filled-none xs ts) refl $ fjoin ! $ feqI ! ℕ (0 + m) m (omega arith) $ fjoin ! $
+      rewrite ! 0 (λ (ys : List Block). ‵ (row R fullShare ys l₄ 0)) (laid-none (cell xs) ts) refl $ fjoin ! $ feqI ! ℕ (0 + m) m (omega arith) $ fjoin ! $
       fpack ! ℕ (Done 𝓣 gn l long l₀ l₁ l₂ l₃ l₄ l₅ l₆ l₇ l₈ l₉ l₁₀ l₁₁ l₁₂ q′ m) 0 $ looped 𝓣 gn l long l₀ l₁ l₂ l₃ l₄ l₅ l₆ l₇ l₈ l₉ l₁₀ l₁₁ l₁₂ q′)))))))))))))))
     where
       typed : Holds (hasTy table (table-val ts)) × WT (table-val ts)
