@@ -1,7 +1,7 @@
 -- Records in front of a table, and the columns that their fields are laid over.
 use Prim.Native.Nat.{ℕ, _≤_, _<_}
 use native.Mathlib.Omega.{arith}
-use mathlib.Core.Path.{_≡_, refl, ap, sym, _∙_}
+use mathlib.Core.Path.{_≡_, refl, ap, sym, subst, _∙_}
 use mathlib.Core.List.{List, map, _++_}
 use lib.ListN.{length, getD, take, length-map, List·getD-append}
 use lib.Seq.{ext-getD, getD-take, length-take-le}
@@ -84,9 +84,10 @@ module _ (e o b bg sp en : List ℕ) (n count l r : ℕ) (small : length bg ≤ 
   kept : length (s .1 .1) ≡ length bg
   kept = records-kept e o b xs n count l r ∙ length-xs
 
-  pub spread-agrees : (a : Said) (b' bg' sp' en' : List ℕ) → Spread s a b' bg sp en bg' sp' en'
+  pub spread-agrees : (y : List Block) → y ≡ t → (a : Said) (b' bg' sp' en' : List ℕ) → Spread (swapRecords e o b (take (length bg) y) n count l r) a b' bg sp en bg' sp' en'
       → _≡_ {A = Said × Partition} (a, parts e o b' bg' sp' en' n count) (swapBlocks (parts e o b bg sp en n count) l r)
-  spread-agrees a b' bg' sp' en' d =
+  spread-agrees y ey a b' bg' sp' en' g =
+      let d : Spread s a b' bg sp en bg' sp' en' = subst (λ (t : List Block). Spread (swapRecords e o b (take (length bg) t) n count l r) a b' bg sp en bg' sp' en') ey g in
       let x : bg' ≡ begins (s .1 .1) = d .begin ∙ over-all (begins (s .1 .1)) bg (length-map (s .1 .1) (λ (k : Block). k .begin) ∙ kept) in
       let m : sp' ≡ splits (s .1 .1) = d .marked-split ∙ over-all (splits (s .1 .1)) sp (length-map (s .1 .1) (λ (k : Block). k .«marked_split») ∙ kept ∙ sym es) in
       let z : en' ≡ ends (s .1 .1) = d .end ∙ over-all (ends (s .1 .1)) en (length-map (s .1 .1) (λ (k : Block). k .end) ∙ kept ∙ sym ee) in

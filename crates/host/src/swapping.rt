@@ -14,6 +14,7 @@ use crate::records::at_most;
 use crate::records::copied;
 use crate::records::empty_table;
 use crate::records::exchange_if;
+use crate::records::joined;
 use block_partition::BlockPartition;
 use columns::answers::Answer;
 use columns::answers::Outcome;
@@ -142,4 +143,36 @@ pub fn swap_first(
     );
     apart(t, len, begin, marked_split, end);
     answer
+}
+
+// `swap_blocks` for callers that hold the fields of the records in three columns of one length: what the column form says and leaves.
+pub fn swap_here(
+    partition: BlockPartition,
+    elements: &[u16],
+    element_offset: &[u16],
+    element_to_block: &mut [u16],
+    begin: &mut [u16],
+    marked_split: &mut [u16],
+    end: &mut [u16],
+    left_index: u16,
+    right_index: u16,
+) -> Answer
+    requires { ⌜ (length (now begin) ≤ 4096) × (length (now «marked_split») ≡ length (now begin)) × (length (now end) ≡ length (now begin)) ⌝ }
+    ensures { λ r. ⌜ (said r, parts (now (elements .exit)) (now («element_offset» .exit)) (now («element_to_block» .exit)) (now (begin .exit)) (now («marked_split» .exit)) (now (end .exit)) (partition .n) (partition .count)) ≡ swapBlocks (parts (now (elements .entry)) (now («element_offset» .entry)) (now («element_to_block» .entry)) (now (begin .entry)) (now («marked_split» .entry)) (now (end .entry)) (partition .n) (partition .count)) «left_index» «right_index» ⌝ }
+{
+    let table = joined(&*begin, &*marked_split, &*end);
+    let len = begin.len();
+    swap_first(
+        partition,
+        elements,
+        element_offset,
+        &mut *element_to_block,
+        table,
+        len,
+        &mut *begin,
+        &mut *marked_split,
+        &mut *end,
+        left_index,
+        right_index,
+    )
 }

@@ -4,7 +4,7 @@ use native.Mathlib.Omega.{arith}
 use borrow.Author.Needs.{needs}
 use mathlib.Core.Path.{_≡_, refl, ap, sym, _∙_}
 use mathlib.Core.List.{List}
-use lib.ListN.{length, length-set}
+use lib.ListN.{length, set, length-set}
 use Rattle.partition.specs.declared.block.Block.{Block}
 use Rattle.partition.specs.Block.{entry}
 use Rattle.host.specs.Tables.{laid, blank}
@@ -56,10 +56,19 @@ loop-less : tie.Need-loop-less Inv-loop μ-loop
 loop-less c = omega arith
 
 loop-again : tie.Need-loop-again Inv-loop μ-loop
-loop-again c = ?
+loop-again c =
+    let a = c .before .before .before .before .before .before .before .before .before in
+    let f : ℕ → Block = entry (a .args .begin .now) (a .args .marked-split .now) (a .args .end .now) in
+    let v = c .before .before .before .before .loop in
+    (omega arith, (ap (λ (l : List Block). set l (v .i) (f (v .i))) (v .inv .1 .0) ∙ laid-more f (v .i) blank, simp length-set (v .inv .1 .1)))
 
 returns : tie.Need-returns Inv-loop μ-loop
-returns c = ?
+returns c =
+    let a = c .before .before .before .before .before .before in
+    let f : ℕ → Block = entry (a .args .begin .now) (a .args .marked-split .now) (a .args .end .now) in
+    let v = c .before .loop in
+    let q : v .i ≡ length (a .args .begin .now) = omega arith in
+    v .inv .1 .0 ∙ ap (λ (k : ℕ). laid f k blank) q
 
 pub joined-spec : {M : Type 1} → statement M
 joined-spec =
