@@ -11,14 +11,14 @@ use lib.ListN.{length, getD, length-map}
 use Rattle.columns.specs.declared.answers.Refusal.{Refusal}
 use Rattle.columns.specs.Answers.{Said, done, refused, refusal, none, unless, leaving}
 use Rattle.columns.proofs.All.{lt-or-le}
-use Rattle.columns.proofs.Bools.{and-both, and-no-left, and-no-right, bool-ext, contra, fails}
+use Rattle.columns.proofs.Bools.{and-both, and-no-left, and-no-right, bool-ext, fails}
 use Rattle.partition.specs.declared.block.Block.{Block}
-use Rattle.partition.specs.Checks.{sizeb, checked, blocksRefusal}
+use Rattle.partition.specs.Checks.{sizeb, blocksRefusal}
 use Rattle.partition.specs.Partition.{Partition, Long, consistentb, longb}
 use Rattle.partition.specs.SwapBlocks.{swap}
 use Rattle.partition.proofs.Holds.{long-of, of-long}
 use Rattle.partition.proofs.Refusals.{size-high, size-right, blocks-ready}
-use Rattle.host.specs.Records.{begins, splits, ends, lent, noBlock, exchanged, swapRecords}
+use Rattle.host.specs.Records.{begins, splits, ends, lent, exchanged, swapRecords}
 use Rattle.host.specs.Tables.{limit, blank, filled, beginsOf, splitsOf, endsOf, tabled, shortb, tableRefusal, swapTable, went}
 use Rattle.host.proofs.Alike.{consistentb-alike}
 use Rattle.host.proofs.Fields.{begins-at, splits-at, ends-at, table-begins-at, table-splits-at, table-ends-at, length-begins, length-splits, length-ends}

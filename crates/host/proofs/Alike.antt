@@ -1,11 +1,11 @@
 -- Two partitions that differ only in block cells past the first n: one is consistent exactly if the other is.
-use Prim.Native.Nat.{ℕ, zero, suc, _+_, _-_, _≤_, _<_}
+use Prim.Native.Nat.{ℕ, zero, suc, _-_, _≤_, _<_}
 use native.Mathlib.Omega.{arith}
-use mathlib.Core.Path.{_≡_, refl, ap, sym, _∙_}
+use mathlib.Core.Path.{_≡_, refl, sym, _∙_}
 use mathlib.Core.List.{List}
 use lib.ListN.{getD}
 use Rattle.columns.proofs.Bools.{bool-ext}
-use Rattle.partition.specs.Partition.{Partition, parts, Consistent, Within, Lies, lengths, consistentb}
+use Rattle.partition.specs.Partition.{parts, Consistent, Within, Lies, lengths, consistentb}
 use Rattle.partition.proofs.Holds.{consistent-of, of-consistent}
 
 module _ (e o b x m z x' m' z' : List ℕ) (n count : ℕ)

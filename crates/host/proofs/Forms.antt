@@ -1,8 +1,8 @@
 -- The two forms of `swap_blocks` agree: the fields of the records it leaves are the columns that the column form leaves. So a consistent partition stays consistent.
-use Prim.Native.Nat.{ℕ, _<_}
+use Prim.Native.Nat.{ℕ}
 use borrow.Author.Tests.{eqb-true}
 use mathlib.Core.Bool.{Bool, true, false, cond}
-use mathlib.Core.Path.{_≡_, refl, ap, sym, subst, _∙_}
+use mathlib.Core.Path.{_≡_, refl, ap, sym, subst}
 use mathlib.Core.List.{List, []}
 use lib.Dec.{eqb}
 use lib.ListN.{length, getD, set, length-set}
@@ -10,7 +10,7 @@ use Rattle.columns.specs.declared.answers.Refusal.{Refusal}
 use Rattle.columns.specs.Answers.{Said, done, refused, leaving}
 use Rattle.partition.specs.declared.block.Block.{Block}
 use Rattle.partition.specs.Checks.{blocksRefusal}
-use Rattle.partition.specs.Partition.{Partition, parts, Consistent, Sound}
+use Rattle.partition.specs.Partition.{Partition, parts, Consistent}
 use Rattle.partition.specs.SwapBlocks.{swap, swapBlocks}
 use Rattle.partition.proofs.Refusals.{blocks-ready}
 use Rattle.partition.proofs.SwapKeeps.{swap-consistent}

@@ -1,13 +1,10 @@
 -- `host::records::apart` meets its contract.
-use Prim.Native.Nat.{ℕ, _-_}
+use Prim.Native.Nat.{_-_}
 use native.Mathlib.Omega.{arith}
 use borrow.Author.Needs.{needs}
-use mathlib.Core.Path.{_≡_, refl, ap, sym, _∙_}
-use mathlib.Core.List.{List}
-use lib.ListN.{length, getD}
+use mathlib.Core.Path.{refl}
 use Rattle.columns.specs.Columns.{written}
 use Rattle.columns.proofs.Lists.{Painted, painted-none, painted-more, painted-done}
-use Rattle.partition.specs.declared.block.Block.{Block}
 use Rattle.host.specs.Tables.{beginAt, splitAt, endAt}
 use Rattle.host.proofs.records.apart.Statement.{statement}
 use Rattle.host.proofs.records.apart.Tie as tie

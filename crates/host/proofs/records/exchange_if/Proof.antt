@@ -1,5 +1,4 @@
--- `host::records::exchange_if` meets its contract: a walk of its MIR, by hand, with a branch. The borrow of the slice is opened before the branch; an arm leaves the row as it is or with the two records exchanged, and what follows is one lemma for both.
--- Assumes nothing.
+-- `host::records::exchange_if` meets its contract: a walk of its MIR, with a branch. The borrow of the slice is opened before the branch; an arm leaves the row as it is or with the two records exchanged, and what follows is one lemma for both.
 use mathlib.Core.Path.{_≡_, refl, sym, ap, subst, _∙_}
 use Prim.Native.Nat.{ℕ, _<_, _^_, _*_}
 use native.Mathlib.Omega.{arith}

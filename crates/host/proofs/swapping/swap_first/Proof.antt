@@ -1,5 +1,4 @@
--- `host::swapping::swap_first` meets its contract: a walk of its MIR, by hand. The first len records of a table in a local are lent for a lifetime of the call of `swap_blocks`; when they are back the table is whole again, and its fields go over the columns.
--- Assumes nothing.
+-- `host::swapping::swap_first` meets its contract: a walk of its MIR. The first len records of a table in a local are lent for a lifetime of the call of `swap_blocks`; when they are back the table is whole again, and its fields go over the columns.
 use mathlib.Core.Path.{_≡_, refl, sym, ap, subst, _∙_}
 use Prim.Native.Nat.{ℕ, _≤_, _<_, _^_}
 use native.Mathlib.Omega.{arith}
@@ -16,7 +15,7 @@ use base.Fml.{Lft, GName, Share, ftrue, fsep, fat, flft, flent}
 use prog.Memory.{Memory}
 use prog.Routine.{Routine}
 use prog.Wp.{Heap, Calls, Loops, WpFn, Tables}
-use ghost.Atoms.{Atoms, sem}
+use ghost.Atoms.{Atoms}
 use contract.Monad.{Fun, fact}
 use contract.Running.{givenOf, tables, tablesOf}
 use sound.WpLaws.{FmC, fmOf, WpFn-mono}

@@ -1,6 +1,6 @@
 -- `host::swapping::swap_table` meets its contract.
 use borrow.Author.Needs.{needs}
-use mathlib.Core.Path.{_≡_, refl, sym, ap, _∙_}
+use mathlib.Core.Path.{sym, ap, _∙_}
 use Rattle.columns.specs.declared.answers.Answer.{Answer}
 use Rattle.columns.specs.Answers.{said}
 use Rattle.host.specs.Tables.{went}

@@ -1,7 +1,7 @@
 -- `host::unmarking::unmark` meets its contract.
 use borrow.Author.Needs.{needs}
 use borrow.Author.Tests.{not-true, not-false}
-use mathlib.Core.Path.{_≡_, refl, sym, ap, _∙_}
+use mathlib.Core.Path.{sym, _∙_}
 use Rattle.host.specs.Unmark.{unmarkAll}
 use Rattle.host.proofs.unmarking.unmark.Statement.{statement}
 use Rattle.host.proofs.unmarking.unmark.Tie as tie

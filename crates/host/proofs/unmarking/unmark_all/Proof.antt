@@ -1,4 +1,4 @@
--- `host::unmarking::unmark_all` meets its contract: a walk of its MIR, by hand. The borrow is opened, the record is copied out and passed to `unmark`, whose contract gives the new record and the answer; the record is stored, and the borrow is closed at it.
+-- `host::unmarking::unmark_all` meets its contract: a walk of its MIR. The borrow is opened, the record is copied out and passed to `unmark`, whose contract gives the new record and the answer; the record is stored, and the borrow is closed at it.
 -- All that is known of `unmark` is that it meets its contract. Assumes nothing.
 use mathlib.Core.Path.{_≡_, refl, ap}
 use Prim.Native.Nat.{ℕ}

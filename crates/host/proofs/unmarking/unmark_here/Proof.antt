@@ -1,5 +1,4 @@
--- `host::unmarking::unmark_here` meets its contract: a walk of its MIR, by hand. A record in a local is lent by `&mut` for a lifetime of the call, and comes back at its last value.
--- Assumes nothing.
+-- `host::unmarking::unmark_here` meets its contract: a walk of its MIR. A record in a local is lent by `&mut` for a lifetime of the call, and comes back at its last value.
 use mathlib.Core.Path.{_≡_, refl, ap, subst}
 use Prim.Native.Nat.{ℕ}
 use mathlib.Core.List.{[], _∷_, List}
