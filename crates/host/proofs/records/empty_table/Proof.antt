@@ -1,0 +1,12 @@
+-- `host::records::empty_table` meets its contract.
+use borrow.Author.Needs.{needs}
+use Rattle.host.specs.Tables.{blank}
+use Rattle.host.proofs.records.empty_table.Statement.{statement}
+use Rattle.host.proofs.records.empty_table.Tie as tie
+
+returns : tie.Need-returns
+unfolding blank
+returns c = search needs
+
+pub empty-table-spec : {M : Type 1} → statement M
+empty-table-spec = tie.close (tie.spec returns)

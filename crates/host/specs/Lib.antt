@@ -1,0 +1,4 @@
+pub mod Unmark
+pub mod Records
+pub mod Tables
+pub mod Spread
