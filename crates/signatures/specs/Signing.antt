@@ -13,10 +13,15 @@ use Rattle.partitioned.specs.Checks.{checkedBoth}
 use Rattle.table.specs.Lts.{Lts}
 use Rattle.signatures.specs.Pairs.{signature, Columns, fits, pairsOver}
 
--- every work slice has k cells
-unfoldable pub roomy : ℕ → List (List ℕ) → Bool
-roomy k [] = true
-roomy k (w ∷ ws) = leb k (length w) && roomy k ws
+-- every length is at least k
+unfoldable pub allLong : ℕ → List ℕ → Bool
+allLong k [] = true
+allLong k (l ∷ ls) = leb k l && allLong k ls
+
+-- every work slice has n + m + 1 cells
+unfoldable pub roomy : Lts → List (List ℕ) → Bool
+unfolding allLong
+roomy t works = allLong (t .n + t .m + 1) (map (λ w. length w) works)
 
 -- every cell of every work slice zero
 unfoldable pub cleared : List (List ℕ) → List (List ℕ)
@@ -37,8 +42,7 @@ signing r pushed out works =
     (refused 16 (length pushed), (out, cleared works)))
     (refused (r .number) (r .place), (out, works))
 
--- 1, 2, 3, 4, 7 (`keys`: the call's other slices are long enough), 5 and 6, 14, 8
-unfoldable pub signatureRefusal : Lts → Partition → ℕ → Bool → List (List ℕ) → Refusal
-unfolding checkedBoth roomy
-signatureRefusal t p s keys works =
-    checkedBoth t p (keys && roomy (t .n + t .m + 1) works) (unless (ltb s (t .n)) (refusal 8 s) none)
+-- 1, 2, 3, 4, 7 (`room`: the call's other slices are long enough), 5 and 6, 14, 8
+unfoldable pub signatureRefusal : Lts → Partition → ℕ → Bool → Refusal
+unfolding checkedBoth
+signatureRefusal t p s room = checkedBoth t p room (unless (ltb s (t .n)) (refusal 8 s) none)

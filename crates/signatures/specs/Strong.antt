@@ -1,6 +1,5 @@
 -- The strong signature: (a, block of t) for each step.
 use Prim.Native.Nat.{ℕ}
-use mathlib.Core.Bool.{true}
 use mathlib.Core.List.{List, map}
 use lib.Dec.{eqb}
 use lib.ListN.{getD}
@@ -10,7 +9,7 @@ use Rattle.columns.specs.Sets.{Pair}
 use Rattle.partition.specs.Partition.{Partition}
 use Rattle.table.specs.Lts.{Lts}
 use Rattle.signatures.specs.Pairs.{Columns}
-use Rattle.signatures.specs.Signing.{Left, signing, signatureRefusal}
+use Rattle.signatures.specs.Signing.{Left, roomy, signing, signatureRefusal}
 
 -- the rows of state s, in their order
 unfoldable pub rowsOf : Lts → ℕ → List ℕ
@@ -26,6 +25,6 @@ unfolding rowsOf pairAt
 strongPushed t home s = map (pairAt t home) (rowsOf t s)
 
 unfoldable pub strongBisimSignature : Lts → Partition → ℕ → Columns → List (List ℕ) → Said × Left
-unfolding signing signatureRefusal strongPushed
+unfolding signing signatureRefusal roomy strongPushed
 strongBisimSignature t p s out works =
-    signing (signatureRefusal t p s true works) (strongPushed t (p .element-to-block) s) out works
+    signing (signatureRefusal t p s (roomy t works)) (strongPushed t (p .element-to-block) s) out works

@@ -3,6 +3,5 @@
 pub mod checks;
 pub mod core;
 pub mod flat;
-pub mod inductive;
 pub mod strong;
 pub mod tau_hat;
