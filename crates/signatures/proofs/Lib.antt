@@ -4,3 +4,7 @@ pub mod Ready
 pub mod Pushing
 pub mod RowsOf
 pub mod Keys
+pub mod Sigs
+pub mod Rows
+pub mod StrongSigs
+pub mod InductiveSigs

@@ -10,7 +10,7 @@ use Rattle.columns.specs.Sets.{Pair}
 use Rattle.partition.specs.Partition.{Partition}
 use Rattle.partition.specs.Readers.{unmarkedb}
 use Rattle.table.specs.Lts.{Lts}
-use Rattle.signatures.specs.Pairs.{Columns}
+use Rattle.signatures.specs.Pairs.{Columns, signature}
 use Rattle.signatures.specs.Signing.{Left, roomy, signing, signatureRefusal}
 use Rattle.signatures.specs.Strong.{rowsOf, pairAt}
 
@@ -32,6 +32,10 @@ keyedAt t home marked keys b i =
 unfoldable pub inductivePushed : Lts → List ℕ → (ℕ → Bool) → List ℕ → ℕ → List Pair
 unfolding rowsOf keyedAt
 inductivePushed t home marked keys s = map (keyedAt t home marked keys (getD home s 0)) (rowsOf t s)
+
+unfoldable pub inductiveSignature : Lts → List ℕ → (ℕ → Bool) → List ℕ → ℕ → List Pair
+unfolding signature inductivePushed
+inductiveSignature t home marked keys s = signature (inductivePushed t home marked keys s)
 
 unfoldable pub branchingBisimSignatureInductive : Lts → Partition → ℕ → List ℕ → Columns → List (List ℕ) → Said × Left
 unfolding signing signatureRefusal roomy inductivePushed unmarkedb

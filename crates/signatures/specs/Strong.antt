@@ -8,7 +8,7 @@ use Rattle.columns.specs.Counting.{members}
 use Rattle.columns.specs.Sets.{Pair}
 use Rattle.partition.specs.Partition.{Partition}
 use Rattle.table.specs.Lts.{Lts}
-use Rattle.signatures.specs.Pairs.{Columns}
+use Rattle.signatures.specs.Pairs.{Columns, signature}
 use Rattle.signatures.specs.Signing.{Left, roomy, signing, signatureRefusal}
 
 -- the rows of state s, in their order
@@ -23,6 +23,10 @@ pairAt t home i = (getD (t .label) i 0, getD home (getD (t .target) i 0) 0)
 unfoldable pub strongPushed : Lts → List ℕ → ℕ → List Pair
 unfolding rowsOf pairAt
 strongPushed t home s = map (pairAt t home) (rowsOf t s)
+
+unfoldable pub strongSignature : Lts → List ℕ → ℕ → List Pair
+unfolding signature strongPushed
+strongSignature t home s = signature (strongPushed t home s)
 
 unfoldable pub strongBisimSignature : Lts → Partition → ℕ → Columns → List (List ℕ) → Said × Left
 unfolding signing signatureRefusal roomy strongPushed

@@ -3,5 +3,6 @@
 pub mod checks;
 pub mod core;
 pub mod flat;
+pub mod inductive;
 pub mod strong;
 pub mod tau_hat;

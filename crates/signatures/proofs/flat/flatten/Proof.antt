@@ -27,13 +27,6 @@ picked : (q : tie.After-pick-rows)
 picked q =
     lent _ _ _ _ _ _ _ (q .before .before .before .before .before .before .before .before .before .pre .1 .0) (q .pick-rows .ensures .0) (q .pick-rows .ensures .1 .0) (q .pick-rows .kept .0)
 
--- as many numbers as there are pairs
-few : (q : tie.After-pick-rows) → q .pick-rows .result ≤ length (Order q)
-few q = let k = picked q in omega (arith, k .few, k .wide)
-
-taken : (q : tie.After-pick-rows) → length (take (q .pick-rows .result) (Order q)) ≡ q .pick-rows .result
-taken q = length-take-le (q .pick-rows .result) (Order q) (few q)
-
 slice-relend-prefix-pick-rows : tie.Need-slice-relend-prefix-pick-rows
 slice-relend-prefix-pick-rows c = search needs
 
@@ -44,14 +37,16 @@ pick-rows-requires : tie.Need-pick-rows-requires
 pick-rows-requires c κs = (omega (arith, lent-length (c .before .before .before .before .before .before .before .before)), omega (arith, lent-length (c .before .before .before .before .before .before .before .before)))
 
 slice-reshare-prefix-write-pairs : tie.Need-slice-reshare-prefix-write-pairs
-slice-reshare-prefix-write-pairs c = few (c .before .before .before .before .before .before)
+slice-reshare-prefix-write-pairs c = omega (arith, picked (c .before .before .before .before .before .before) .few, picked (c .before .before .before .before .before .before) .wide)
 
 slice-aggregate-write-pairs : tie.Need-slice-aggregate-write-pairs
-slice-aggregate-write-pairs c = sym (taken (c .before .before .before .before .before .before .before))
+slice-aggregate-write-pairs c = sym (length-take-le _ (Order (c .before .before .before .before .before .before .before)) (omega (arith, picked (c .before .before .before .before .before .before .before) .few, picked (c .before .before .before .before .before .before .before) .wide)))
 
 write-pairs-requires : tie.Need-write-pairs-requires
 write-pairs-requires c κs =
-    (omega (arith, taken (c .before .before .before .before .before .before .before), picked (c .before .before .before .before .before .before .before) .few), omega (arith, taken (c .before .before .before .before .before .before .before), picked (c .before .before .before .before .before .before .before) .few))
+    let k = picked (c .before .before .before .before .before .before .before) in
+    let n = length-take-le (c .before .before .before .before .before .before .before .pick-rows .result) (Order (c .before .before .before .before .before .before .before)) (omega (arith, k .few, k .wide)) in
+    (omega (arith, n, k .few), omega (arith, n, k .few))
 
 slice-relend-prefix-clear : tie.Need-slice-relend-prefix-clear
 slice-relend-prefix-clear c = search needs
