@@ -8,3 +8,4 @@ pub mod Sigs
 pub mod Rows
 pub mod StrongSigs
 pub mod InductiveSigs
+pub mod Renumbered
