@@ -1,0 +1,2 @@
+// The merge of ascending lists of pairs.
+pub mod heads;
