@@ -1,9 +1,9 @@
 // The heads of the lists that are merged. No entry points. A place in the flat pairs is two cells, high and low.
 ghost use mathlib.Core.Path.{_≡_};
-ghost use Prim.Native.Nat.{_+_, _*_, _≤_, _<_};
-ghost use lib.ListN.{length, getD, set};
-ghost use Rattle.inherited.specs.Merged.{wide, heads, endAt, notAfter, Fit};
-ghost use Rattle.inherited.specs.Tree.{winner};
+ghost use Prim.Native.Nat.{_<_};
+ghost use lib.ListN.{length};
+ghost use Rattle.inherited.specs.Merged.{wide, heads, notAfter, Fit};
+use columns::cells::at;
 use subset::pairs::below;
 
 // The number in cells j.
@@ -11,8 +11,8 @@ pub fn place(high: &[u16], low: &[u16], j: usize) -> usize
     requires { ⌜ (j < length (now high)) × (j < length (now low)) ⌝ }
     ensures { λ r. ⌜ (r ≡ wide (now (high .entry)) (now (low .entry)) j) × (r < 4294967296) ⌝ }
 {
-    let x = high[j] as usize;
-    let y = low[j] as usize;
+    let x = at(high, j);
+    let y = at(low, j);
     x * 65536 + y
 }
 
