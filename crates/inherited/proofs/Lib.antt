@@ -1,3 +1,4 @@
 pub mod Climbing
 pub mod Trees
 pub mod Ranks
+pub mod Places

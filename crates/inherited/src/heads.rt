@@ -1,6 +1,6 @@
 // The heads of the lists that are merged. No entry points. A place in the flat pairs is two cells, high and low.
 ghost use mathlib.Core.Path.{_≡_};
-ghost use Prim.Native.Nat.{_<_};
+ghost use Prim.Native.Nat.{ℕ, _+_, _<_};
 ghost use lib.ListN.{length};
 ghost use Rattle.inherited.specs.Merged.{wide, heads, notAfter, Fit};
 use columns::cells::at;
@@ -40,4 +40,19 @@ pub fn not_after(
         return false;
     }
     !below(labels[y], blocks[y], labels[x], blocks[x])
+}
+
+// List j goes on by one.
+pub fn advance(high: &mut [u16], low: &mut [u16], j: usize)
+    requires { ⌜ (j < length (now high)) × (j < length (now low)) × (wide (now high) (now low) j + 1 < 4294967296) ⌝ }
+    ensures { λ _. ⌜ (wide (now (high .exit)) (now (low .exit)) j ≡ wide (now (high .entry)) (now (low .entry)) j + 1) × ((i : ℕ) → (i ≡ j → ⊥) → wide (now (high .exit)) (now (low .exit)) i ≡ wide (now (high .entry)) (now (low .entry)) i) ⌝ }
+{
+    let y = at(&*low, j);
+    if y == 65535 {
+        let x = at(&*high, j);
+        high[j] = (x + 1) as u16;
+        low[j] = 0;
+        return;
+    }
+    low[j] = (y + 1) as u16;
 }
