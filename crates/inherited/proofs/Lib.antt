@@ -2,3 +2,4 @@ pub mod Climbing
 pub mod Trees
 pub mod Ranks
 pub mod Places
+pub mod Merging
