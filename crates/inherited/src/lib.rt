@@ -1,0 +1,3 @@
+// The merge of ascending lists of pairs.
+pub mod heads;
+pub mod tree;
