@@ -1,0 +1,5 @@
+pub mod Laid
+pub mod Visited
+pub mod Hunting
+pub mod Unmarking
+pub mod Endings
