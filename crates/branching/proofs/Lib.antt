@@ -3,3 +3,4 @@ pub mod Visited
 pub mod Hunting
 pub mod Unmarking
 pub mod Endings
+pub mod SixWorks
