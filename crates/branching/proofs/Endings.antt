@@ -2,17 +2,17 @@
 use Prim.Native.Nat.{ℕ, _≤_, _<_}
 use native.Mathlib.Omega.{arith}
 use borrow.Author.Tests.{eqb-true, eq-eqb}
-use mathlib.Core.Path.{_≡_, refl, sym, ap, subst, _∙_}
-use mathlib.Core.Logic.{_⊎_, inl, inr, ⊎-elim}
-use mathlib.Core.Bool.{Bool, true, false, _&&_}
+use mathlib.Core.Path.{_≡_, sym, ap, subst, _∙_}
+use mathlib.Core.Logic.{_⊎_, inl, inr}
+use mathlib.Core.Bool.{true}
 use mathlib.Core.List.{List}
 use lib.Dec.{eqb}
 use lib.ListN.{length, getD}
 use Rattle.columns.proofs.All.{same-or-not}
 use Rattle.columns.proofs.Bools.{and-left, and-right, and-both}
 use Rattle.signatures.specs.Inductive.{inertb}
-use Rattle.table.specs.Lts.{Lts, lts, Valid}
-use Rattle.table.specs.Reach.{Walk, stop, along, via, takes, edge}
+use Rattle.table.specs.Lts.{Lts, Valid}
+use Rattle.table.specs.Reach.{Walk, stop, along, edge}
 use Rattle.table.proofs.Stretches.{rising}
 use Rattle.table.proofs.Walks.{via-walk, walk-via, edge-row, row-edge, edge-in, takes-hidden}
 use Rattle.branching.specs.Branching.{inertEdge, inertly}

@@ -9,7 +9,7 @@ use mathlib.Core.List.{List}
 use lib.Dec.{eqb}
 use lib.ListN.{length, getD, set}
 use lib.Seq.{getD-set-same, getD-set-other}
-use Rattle.columns.specs.Columns.{listed, zeros}
+use Rattle.columns.specs.Columns.{zeros}
 use Rattle.columns.proofs.All.{top-or-below, same-or-not}
 use Rattle.columns.proofs.Bools.{contra, and-left, and-right, and-both}
 use Rattle.columns.proofs.Counting.{many-le}
@@ -17,7 +17,6 @@ use Rattle.columns.proofs.Lists.{listed-at}
 use Rattle.signatures.specs.Inductive.{inertb}
 use Rattle.table.specs.Lts.{Lts}
 use Rattle.table.specs.Reach.{Walk, stop, along, takes, edge}
-use Rattle.table.specs.Search.{Search}
 use Rattle.table.specs.Stretch.{firstRow}
 use Rattle.table.proofs.Searching.{search-start, search-add, search-room, search-next}
 use Rattle.table.proofs.Stretches.{stretch, first-row-most}

@@ -4,3 +4,4 @@ pub mod Hunting
 pub mod Unmarking
 pub mod Endings
 pub mod SixWorks
+pub mod BranchingSigs

@@ -4,12 +4,12 @@ use native.Mathlib.Omega.{arith}
 use borrow.Author.Tests.{eqb-true, eq-eqb, ne-eqb}
 use mathlib.Core.Path.{_≡_, refl, ap, sym, subst, _∙_}
 use mathlib.Core.Bool.{Bool, true, false, _&&_, cond}
-use mathlib.Core.List.{List, map, Memᴰ·map, Memᴰ·of-map}
+use mathlib.Core.List.{List, Memᴰ·map, Memᴰ·of-map}
 use lib.Dec.{eqb}
 use lib.ListN.{length, length-map, getD}
 use Rattle.columns.specs.Counting.{sum, many, members}
 use Rattle.columns.specs.Sets.{Mem, Pair}
-use Rattle.columns.proofs.Bools.{and-left, and-right, and-both, and-no-right, and-no-left, contra, fails}
+use Rattle.columns.proofs.Bools.{and-left, and-right, and-both, and-no-right, and-no-left, contra}
 use Rattle.columns.proofs.Counting.{one-if, one-if-true, one-if-false, many-sum, many-le, sum-pick, eqb-same}
 use Rattle.columns.proofs.Members.{length-members, members-in, members-out}
 use Rattle.columns.proofs.Sums.{sum-cong, sum-zero, sum-swap}

@@ -17,7 +17,14 @@ use table::Table;
 use table::core::first_row;
 
 // Whether row i is hidden, leads to block b, and its target is not yet marked.
-fn fresh(label: &[u16], target: &[u16], element_to_block: &[u16], marks: &[u16], b: usize, i: usize) -> bool
+fn fresh(
+    label: &[u16],
+    target: &[u16],
+    element_to_block: &[u16],
+    marks: &[u16],
+    b: usize,
+    i: usize,
+) -> bool
     requires { ⌜ (i < length (now label)) × (i < length (now target)) × (getD (now target) i 0 < length (now «element_to_block»)) × (getD (now target) i 0 < length (now marks)) ⌝ }
     ensures { λ r. ⌜ r ≡ freshb (now (label .entry)) (now (target .entry)) (now («element_to_block» .entry)) (now (marks .entry)) b i ⌝ }
 {

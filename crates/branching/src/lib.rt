@@ -111,5 +111,13 @@ pub fn branching_bisim_signature(
         &mut marks[..n],
         &mut *queue,
     );
-    sign(labels, blocks, d, pushed_labels, pushed_blocks, order, spare)
+    sign(
+        labels,
+        blocks,
+        d,
+        pushed_labels,
+        pushed_blocks,
+        order,
+        spare,
+    )
 }

@@ -8,20 +8,20 @@ use mathlib.Core.List.{List, [], _∷_, _++_}
 use lib.ListN.{length, getD, take, drop, length-replicate}
 use lib.Seq.{length-take-le}
 use Rattle.columns.specs.declared.answers.Refusal.{Refusal}
-use Rattle.columns.specs.Answers.{Said, saidNumber, refused, none}
+use Rattle.columns.specs.Answers.{refused, none}
 use Rattle.columns.specs.Columns.{zeros}
 use Rattle.columns.specs.Rows.{pairsOf}
 use Rattle.columns.specs.Sets.{Pair}
 use Rattle.columns.proofs.Lists.{front-zeros, zeros-at}
 use Rattle.partition.specs.Partition.{Partition, parts}
 use Rattle.signatures.specs.Pairs.{Columns}
-use Rattle.signatures.specs.Signing.{Left, roomy, signing, signatureRefusal}
+use Rattle.signatures.specs.Signing.{roomy, signing, signatureRefusal}
 use Rattle.signatures.proofs.Outcomes.{signing-refused}
 use Rattle.signatures.proofs.Picks.{length-pairs}
 use Rattle.signatures.proofs.Ready.{Ready, signature-ready}
 use Rattle.table.specs.Lts.{Lts, lts}
 use Rattle.branching.specs.Branching.{branchingPushed, branchingBisimSignature}
-use Rattle.branching.proofs.SixWorks.{take-zeros, with-two, signing-six, said-six, six-cleared, Roomy, roomy-of}
+use Rattle.branching.proofs.SixWorks.{take-zeros, signing-six, said-six, six-cleared, Roomy, roomy-of}
 use Rattle.branching.proofs.branching_bisim_signature.Statement.{statement}
 use Rattle.branching.proofs.branching_bisim_signature.Tie as tie
 

@@ -1,7 +1,6 @@
 -- `core.push_all` meets its contract. The loop's invariant: what is pushed is laid state by state.
-use borrow.Author.Needs.{needs}
 use native.Mathlib.Omega.{arith}
-use Prim.Native.Nat.{ℕ, _+_, _-_, _≤_, _<_}
+use Prim.Native.Nat.{ℕ, _+_, _-_, _≤_}
 use mathlib.Core.Path.{_≡_, refl, sym, ap, _∙_}
 use mathlib.Core.List.{List, _++_}
 use lib.ListN.{length, getD}
@@ -9,7 +8,7 @@ use Rattle.columns.specs.Rows.{pairsOf}
 use Rattle.columns.specs.Sets.{Pair}
 use Rattle.signatures.proofs.Picks.{length-pairs}
 use Rattle.signatures.proofs.Pushing.{pairs-none}
-use Rattle.table.specs.Lts.{Lts, lts}
+use Rattle.table.specs.Lts.{lts}
 use Rattle.branching.specs.Visiting.{outerPairs, laid}
 use Rattle.branching.proofs.Laid.{laid-none, laid-more, laid-up}
 use Rattle.branching.proofs.core.push_all.Statement.{statement}
@@ -61,12 +60,13 @@ read q =
 push-outer-requires : tie.Need-push-outer-requires Inv-loop μ-loop
 push-outer-requires c κs =
     let a = c .before .before .before .before .before .before .before .before .before .before .before .before in
-    let i = c .before .before .before .before .loop .inv in
-    (
+    let i = c .before .before .before .before .loop .inv in (
       (a .pre .0 .0, omega (arith, c .before .before .at .ensures .0, a .pre .1 .0 (c .before .before .before .before .loop .k) (omega (arith, c .before .before .before .loop-test))), a .pre .0 .2),
       (
-      omega (arith, room (c .before .before), ap length (read (c .before .before)), i .2, a .pre .1 .1 .0), omega (arith, room (c .before .before), ap length (read (c .before .before)), i .3, a .pre .1 .1 .1),
-      omega (arith, room (c .before .before), ap length (read (c .before .before)), a .pre .1 .1 .2)),
+        omega (arith, room (c .before .before), ap length (read (c .before .before)), i .2, a .pre .1 .1 .0),
+        omega (arith, room (c .before .before), ap length (read (c .before .before)), i .3, a .pre .1 .1 .1),
+        omega (arith, room (c .before .before), ap length (read (c .before .before)), a .pre .1 .1 .2),
+      ),
     )
 
 add-k : tie.Need-add-k Inv-loop μ-loop
@@ -79,8 +79,7 @@ loop-again : tie.Need-loop-again Inv-loop μ-loop
 loop-again c =
     let q = c .before .before .before .before .push-outer in
     let i = c .before .before .before .before .before .before .before .before .before .loop .inv in
-    let g = c .before .before .before .before .before .before .before .before .before .before .before .before .before .before .before .before .before .args in
-    (
+    let g = c .before .before .before .before .before .before .before .before .before .before .before .before .before .before .before .before .before .args in (
       omega (arith, c .before .before .before .before .before .before .before .before .loop-test),
       q .ensures ∙ ap (λ (l : List Pair). l ++ outerPairs (lts (g .table) (g .source .now) (g .label .now) (g .target .now)) (g .element-to-block .now) (g .b) (c .before .before .before .before .before .before .before .at .result)) (i .1) ∙ ap (λ (l : List Pair). laid (H (c .before .before .before .before .before .before .before .before .before .before .before .before .before .before .before .before .before)) (c .before .before .before .before .before .before .before .before .before .loop .k) ++ l) (read (c .before .before .before .before .before .before .before))
           ∙ sym (laid-more (H (c .before .before .before .before .before .before .before .before .before .before .before .before .before .before .before .before .before)) (c .before .before .before .before .before .before .before .before .before .loop .k)),

@@ -1,10 +1,10 @@
 -- `core.push_branching` meets its contract.
 use borrow.Author.Needs.{needs}
 use native.Mathlib.Omega.{arith}
-use Prim.Native.Nat.{ℕ, _≤_, _<_}
-use mathlib.Core.Path.{_≡_, refl, sym, ap, subst, _∙_}
-use mathlib.Core.List.{List, _++_}
-use lib.ListN.{length, getD, take, drop}
+use Prim.Native.Nat.{ℕ, _≤_}
+use mathlib.Core.Path.{_≡_, sym, ap, subst, _∙_}
+use mathlib.Core.List.{List}
+use lib.ListN.{length, getD}
 use lib.Seq.{length-take-le}
 use Rattle.columns.specs.Columns.{zeros}
 use Rattle.columns.specs.Sets.{Pair}
@@ -12,7 +12,6 @@ use Rattle.columns.proofs.Lists.{front-zeros}
 use Rattle.signatures.specs.Pairs.{signature}
 use Rattle.signatures.proofs.Picks.{length-pairs}
 use Rattle.table.specs.Lts.{Lts, lts, Valid}
-use Rattle.branching.specs.Branching.{branchingPushed}
 use Rattle.branching.specs.Visiting.{Rowed, inertTable, Hunt, Lists, outerPairs, laid}
 use Rattle.branching.proofs.Endings.{rowed, hunt-lists, hunt-marks}
 use Rattle.branching.proofs.Hunting.{hunt-size, hunt-room, hunt-few}

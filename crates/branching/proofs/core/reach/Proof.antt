@@ -1,11 +1,9 @@
 -- `core.reach` meets its contract.
-use borrow.Author.Needs.{needs}
 use native.Mathlib.Omega.{arith}
-use Prim.Native.Nat.{ℕ, _≤_, _<_, _-_, _+_}
+use Prim.Native.Nat.{ℕ, _≤_, _-_, _+_}
 use mathlib.Core.Path.{_≡_, refl, sym, ap, subst, _∙_}
 use mathlib.Core.List.{List}
 use lib.ListN.{length, getD, set, length-set}
-use Rattle.columns.specs.Columns.{zeros}
 use Rattle.columns.proofs.Lists.{zeros-at}
 use Rattle.branching.specs.Visiting.{Rowed, inertTable, Hunt}
 use Rattle.branching.proofs.Hunting.{hunt-start, hunt-size, hunt-few}

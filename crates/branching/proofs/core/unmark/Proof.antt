@@ -1,7 +1,7 @@
 -- `core.unmark` meets its contract.
 use native.Mathlib.Omega.{arith}
-use Prim.Native.Nat.{ℕ, _≤_, _<_, _-_, _+_}
-use mathlib.Core.Path.{_≡_, refl, sym, ap, _∙_}
+use Prim.Native.Nat.{ℕ, _≤_, _<_, _-_}
+use mathlib.Core.Path.{_≡_, refl, ap, _∙_}
 use mathlib.Core.Logic.{_⊎_, inl, inr}
 use lib.ListN.{length, getD, length-set}
 use Rattle.columns.specs.Columns.{zeros}
@@ -39,13 +39,12 @@ loop-less : tie.Need-loop-less Inv-loop μ-loop
 loop-less c = omega (arith, c .before .loop-test)
 
 loop-again : tie.Need-loop-again Inv-loop μ-loop
-loop-again c =
-    (
-      omega (arith, c .before .loop-test),
-      simp length-set (c .before .before .loop .inv .1),
-      unmark-more (c .before .before .before .before .before .args .queue .now) (c .before .before .before .before .before .args .tail) (c .before .before .loop .marks) (c .before .before .loop .k) (c .before .before .loop .inv .2) (c .at .result) (c .at .ensures .0)
-          (omega (arith, c .at .ensures .0, c .before .before .before .before .before .pre .0 .1 (c .before .before .loop .k) (omega (arith, c .before .loop-test)), c .before .before .loop .inv .1)),
-    )
+loop-again c = (
+  omega (arith, c .before .loop-test),
+  simp length-set (c .before .before .loop .inv .1),
+  unmark-more (c .before .before .before .before .before .args .queue .now) (c .before .before .before .before .before .args .tail) (c .before .before .loop .marks) (c .before .before .loop .k) (c .before .before .loop .inv .2) (c .at .result) (c .at .ensures .0)
+      (omega (arith, c .at .ensures .0, c .before .before .before .before .before .pre .0 .1 (c .before .before .loop .k) (omega (arith, c .before .loop-test)), c .before .before .loop .inv .1)),
+)
 
 same-length : tie.Need-same-length Inv-loop μ-loop
 same-length c = c .before .loop .inv .1

@@ -1,12 +1,11 @@
 -- `core.visit` meets its contract. The loop's invariant: the targets of the rows seen that stay in the block are marked.
 use native.Mathlib.Omega.{arith}
 use Prim.Native.Nat.{ℕ, _≤_, _<_, _-_, _+_}
-use mathlib.Core.Path.{_≡_, refl, sym, ap, subst, _∙_}
-use mathlib.Core.List.{List}
+use mathlib.Core.Path.{_≡_, refl, sym, subst, _∙_}
 use lib.ListN.{length, getD, set, length-set}
 use Rattle.table.proofs.Stretches.{stretch, first-row-up, first-row-most}
-use Rattle.branching.specs.Visiting.{Rowed, inertTable, Hunt}
-use Rattle.branching.proofs.Hunting.{Turning, turn-start, turn-skip, turn-take, turn-room, turn-end, hunt-size, hunt-room, hunt-few, hunt-state}
+use Rattle.branching.specs.Visiting.{Rowed}
+use Rattle.branching.proofs.Hunting.{Turning, turn-start, turn-skip, turn-take, turn-room, turn-end, hunt-size, hunt-room, hunt-few}
 use Rattle.branching.proofs.core.visit.Statement.{statement}
 use Rattle.branching.proofs.core.visit.Tie as tie
 
@@ -72,8 +71,7 @@ module _ (q : tie.In-loop Inv-loop μ-loop) where
 fresh-requires : tie.Need-fresh-requires Inv-loop μ-loop
 fresh-requires c κs =
     let r = rows (c .before .before .before .before .before .before .before .before .before .before .before .before .before) in
-    let l = below (c .before) in
-    (
+    let l = below (c .before) in (
       omega (arith, l, r .labels),
       omega (arith, l, r .targets),
       omega (arith, r .to (c .before .before .loop .i) l, r .homes),

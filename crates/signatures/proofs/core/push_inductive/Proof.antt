@@ -1,13 +1,12 @@
 -- `core.push_inductive` meets its contract. The loop's invariant: the pairs of the rows seen are pushed.
 use borrow.Author.Needs.{needs}
 use native.Mathlib.Omega.{arith}
-use Prim.Native.Nat.{ℕ, _+_, _-_, _≤_, _<_}
-use mathlib.Core.Path.{_≡_, refl, sym, ap, ap₂, _∙_}
+use Prim.Native.Nat.{ℕ, _-_, _<_}
+use mathlib.Core.Path.{ap, ap₂, _∙_}
 use mathlib.Core.Bool.{_&&_, cond}
 use mathlib.Core.List.{[], map}
 use lib.Dec.{eqb}
-use lib.ListN.{length, getD}
-use Rattle.columns.specs.Sets.{Pair}
+use lib.ListN.{getD}
 use Rattle.signatures.specs.Inductive.{inertb, markedIn, keyedAt, inductivePushed}
 use Rattle.signatures.specs.Strong.{rowsOf, pairAt}
 use Rattle.signatures.proofs.Pushing.{Pushing, push-start, push-more, push-done, pairs-none}
@@ -71,8 +70,7 @@ known q = omega (arith, q .at2 .ensures .0, valid (q .before .before .before .be
 
 inert-requires : tie.Need-inert-requires Inv-loop μ-loop
 inert-requires c κs =
-    let v = valid (c .before .before .before .before .before .before .before .before .before .before .before .before .before .before .before .before) in
-    (
+    let v = valid (c .before .before .before .before .before .before .before .before .before .before .before .before .before .before .before .before) in (
       omega (arith, below (c .before), v .long .label),
       omega (arith, below (c .before), v .long .target),
       omega (arith, known c, c .at2 .ensures .0, c .before .before .before .before .before .before .before .before .before .before .before .before .before .before .before .before .pre .1 .0 .1),
@@ -153,12 +151,12 @@ returns c =
     let a = c .before .before .before .before .before .before .before .before .before .before .before .before .before .before .before .args in
     let f = from (c .before .before) in (
       push-done _ _ _ _ _ _ _ _ _ _ _ (c .before .loop .inv) (a .table .m) (omega (arith, c .loop-test)) (f .most) (f .after)
-      ∙ ap (λ (b : ℕ).
-      map
-      (keyedAt (L (c .before .before .before .before .before .before .before .before .before .before .before .before .before .before .before)) (a .element-to-block .now) (markedIn (a .element-offset .now) (a .element-to-block .now) (a .marked-split .now))
-      (a .state-to-key .now) b)
-      (rowsOf (L (c .before .before .before .before .before .before .before .before .before .before .before .before .before .before .before)) (a .state)))
-      (c .before .before .before .before .at .ensures .0),
+          ∙ ap (λ (b : ℕ).
+          map
+          (keyedAt (L (c .before .before .before .before .before .before .before .before .before .before .before .before .before .before .before)) (a .element-to-block .now) (markedIn (a .element-offset .now) (a .element-to-block .now) (a .marked-split .now))
+          (a .state-to-key .now) b)
+          (rowsOf (L (c .before .before .before .before .before .before .before .before .before .before .before .before .before .before .before)) (a .state)))
+          (c .before .before .before .before .at .ensures .0),
       omega (arith, f .most, c .before .loop .inv .high, c .before .loop .inv .count),
     )
 

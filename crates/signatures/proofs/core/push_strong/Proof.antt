@@ -1,12 +1,11 @@
 -- `core.push_strong` meets its contract. The loop's invariant: the pairs of the rows seen are pushed.
 use borrow.Author.Needs.{needs}
 use native.Mathlib.Omega.{arith}
-use Prim.Native.Nat.{ℕ, _+_, _-_, _≤_, _<_}
-use mathlib.Core.Path.{_≡_, refl, sym, ap, _∙_}
+use Prim.Native.Nat.{ℕ, _-_}
+use mathlib.Core.Path.{sym, ap}
 use mathlib.Core.List.{[]}
 use lib.Dec.{eqb}
-use lib.ListN.{length, getD}
-use Rattle.columns.specs.Sets.{Pair}
+use lib.ListN.{getD}
 use Rattle.signatures.specs.Strong.{rowsOf, pairAt, strongPushed}
 use Rattle.signatures.proofs.Pushing.{Pushing, push-start, push-more, push-done, pairs-none}
 use Rattle.signatures.proofs.RowsOf.{RowsFrom, rows-from}
