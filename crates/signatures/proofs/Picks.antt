@@ -5,7 +5,6 @@ use mathlib.Core.List.{List, map}
 use lib.ListN.{length}
 use Rattle.columns.specs.Columns.{over, cell}
 use Rattle.columns.specs.Rows.{pickRows, pairsOf, pairSet, firstOf, lastOf}
-use Rattle.columns.specs.Sets.{Pair}
 use Rattle.columns.proofs.Facts.{count-pairs, first-of-pairs, last-of-pairs}
 use Rattle.columns.proofs.Lists.{length-listed}
 use Rattle.signatures.specs.Pairs.{Columns, signature, pairsOver}

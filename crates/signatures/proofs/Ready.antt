@@ -2,8 +2,8 @@
 use Prim.Native.Nat.{ℕ, _+_, _≤_, _<_}
 use native.Mathlib.Omega.{arith}
 use borrow.Author.Tests.{ltb-true, leb-true}
-use mathlib.Core.Bool.{Bool, true, _&&_}
-use mathlib.Core.Path.{_≡_, refl, ap, sym, _∙_}
+use mathlib.Core.Bool.{Bool, true}
+use mathlib.Core.Path.{_≡_, ap, sym, _∙_}
 use mathlib.Core.List.{List, [], _∷_}
 use lib.Dec.{ltb, leb}
 use lib.ListN.{length}
@@ -42,7 +42,8 @@ pub record Roomy (t : Lts) (a b c d : List ℕ) : Type 0 where
   pub third : t .n + t .m + 1 ≤ length c
   pub fourth : t .n + t .m + 1 ≤ length d
 
-long-head : (k l : ℕ) (ls : List ℕ) → allLong k (l ∷ ls) ≡ true → (k ≤ l) × (allLong k ls ≡ true)
+-- one length of several
+pub long-head : (k l : ℕ) (ls : List ℕ) → allLong k (l ∷ ls) ≡ true → (k ≤ l) × (allLong k ls ≡ true)
 unfolding allLong
 long-head k l ls e = (leb-true k l (and-left (leb k l) (allLong k ls) e), and-right (leb k l) (allLong k ls) e)
 

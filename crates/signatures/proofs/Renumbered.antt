@@ -1,7 +1,7 @@
 -- The numbers of the blocks don't matter to whether two states have one signature, only which states share a block.
 use Prim.Native.Nat.{ℕ, _<_}
 use native.Mathlib.Omega.{arith}
-use mathlib.Core.Path.{_≡_, refl, ap, sym, subst, _∙_}
+use mathlib.Core.Path.{_≡_, ap, sym, subst, _∙_}
 use mathlib.Core.Logic.{_⊎_, inl, inr}
 use mathlib.Core.Bool.{Bool}
 use mathlib.Core.List.{List}
@@ -12,7 +12,7 @@ use Rattle.signatures.specs.Strong.{strongSignature}
 use Rattle.signatures.proofs.InductiveSigs.{KeyOf, StepOf, inductive-key, inductive-other, inductive-out}
 use Rattle.signatures.proofs.Sigs.{sig-ext}
 use Rattle.signatures.proofs.StrongSigs.{Leads, strong-in, strong-out, strong-ext}
-use Rattle.table.specs.Lts.{Lts, Step, Valid}
+use Rattle.table.specs.Lts.{Lts, Valid}
 use Rattle.table.proofs.Rows.{step-fields}
 
 -- states that share a block under one numbering share it under the other

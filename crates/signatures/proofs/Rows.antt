@@ -1,8 +1,8 @@
 -- What is pushed for the rows of a state is what its steps give.
-use Prim.Native.Nat.{ℕ, _<_}
+use Prim.Native.Nat.{ℕ}
 use borrow.Author.Tests.{eqb-true, eq-eqb}
-use mathlib.Core.Path.{_≡_, refl, ap, sym, subst, _∙_}
-use mathlib.Core.List.{List, map, Memᴰ·map, Memᴰ·of-map}
+use mathlib.Core.Path.{_≡_, ap, sym, subst, _∙_}
+use mathlib.Core.List.{map, Memᴰ·map, Memᴰ·of-map}
 use lib.Dec.{eqb}
 use lib.ListN.{getD}
 use Rattle.columns.specs.Counting.{members}

@@ -1,7 +1,7 @@
 -- Signatures: pairs (label, block), ascending, no pair twice.
 use Prim.Native.Nat.{ℕ}
 use mathlib.Core.Bool.{Bool, true, _&&_}
-use mathlib.Core.List.{List, []}
+use mathlib.Core.List.{List}
 use lib.Dec.{leb}
 use lib.ListN.{length}
 use Rattle.columns.specs.Columns.{over}

@@ -58,7 +58,11 @@ fn marked(element_offset: &[u16], element_to_block: &[u16], marked_split: &[u16]
     ensures { λ r. ⌜ r ≡ markedIn (now («element_offset» .entry)) (now («element_to_block» .entry)) (now («marked_split» .entry)) u ⌝ }
 {
     let split = at(marked_split, at(element_to_block, u));
-    if at(element_offset, u) < split { false } else { true }
+    if at(element_offset, u) < split {
+        false
+    } else {
+        true
+    }
 }
 
 // x or y.

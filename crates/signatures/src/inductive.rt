@@ -79,5 +79,13 @@ pub fn branching_bisim_signature_inductive(
         &mut *pushed_labels,
         &mut *pushed_blocks,
     );
-    sign(labels, blocks, d, pushed_labels, pushed_blocks, order, spare)
+    sign(
+        labels,
+        blocks,
+        d,
+        pushed_labels,
+        pushed_blocks,
+        order,
+        spare,
+    )
 }

@@ -73,5 +73,13 @@ pub fn strong_bisim_signature(
         &mut *pushed_labels,
         &mut *pushed_blocks,
     );
-    sign(labels, blocks, d, pushed_labels, pushed_blocks, order, spare)
+    sign(
+        labels,
+        blocks,
+        d,
+        pushed_labels,
+        pushed_blocks,
+        order,
+        spare,
+    )
 }

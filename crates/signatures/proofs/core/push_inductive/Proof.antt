@@ -1,16 +1,15 @@
 -- `core.push_inductive` meets its contract. The loop's invariant: the pairs of the rows seen are pushed.
 use borrow.Author.Needs.{needs}
 use native.Mathlib.Omega.{arith}
-use Prim.Native.Nat.{ℕ, _+_, _-_, _≤_, _<_}
-use mathlib.Core.Path.{_≡_, refl, sym, ap, ap₂, _∙_}
+use Prim.Native.Nat.{ℕ, _-_, _<_}
+use mathlib.Core.Path.{ap, ap₂, _∙_}
 use mathlib.Core.Bool.{_&&_, cond}
-use mathlib.Core.List.{map}
+use mathlib.Core.List.{[], map}
 use lib.Dec.{eqb}
-use lib.ListN.{length, getD}
-use Rattle.columns.specs.Sets.{Pair}
+use lib.ListN.{getD}
 use Rattle.signatures.specs.Inductive.{inertb, markedIn, keyedAt, inductivePushed}
 use Rattle.signatures.specs.Strong.{rowsOf, pairAt}
-use Rattle.signatures.proofs.Pushing.{Pushing, push-start, push-more, push-done}
+use Rattle.signatures.proofs.Pushing.{Pushing, push-start, push-more, push-done, pairs-none}
 use Rattle.signatures.proofs.RowsOf.{RowsFrom, rows-from}
 use Rattle.signatures.proofs.Keys.{keyed-either}
 use Rattle.signatures.proofs.core.push_inductive.Statement.{statement}
@@ -20,7 +19,7 @@ use Rattle.table.proofs.Stretches.{rising}
 
 abbrev Inv-loop : tie.InvT-loop
 Inv-loop source label target element-offset element-to-block marked-split state state-to-key pushed-labels₀ pushed-blocks₀ m tau-hat b i₀ end d₀ pushed-labels pushed-blocks i d =
-    Pushing
+    Pushing []
     (λ k.
     cond (inertb label target element-to-block b k && markedIn element-offset element-to-block marked-split (getD target k 0))
     (tau-hat, getD state-to-key (getD target k 0) 0) (getD label k 0, getD element-to-block (getD target k 0) 0))
@@ -57,7 +56,7 @@ from : (q : tie.After-first-row2 Inv-loop μ-loop) → RowsFrom (L (q .before .b
 from q = rows-from (L (q .before .before .before .before .before .before .before .before .before .before .before .before .before)) (valid (q .before .before .before .before .before .before .before .before .before .before .before .before .before)) (q .before .before .before .before .before .before .before .before .before .before .before .before .before .args .state) _ _ (q .before .first-row .ensures) (q .first-row2 .ensures)
 
 loop-holds : tie.Need-loop-holds Inv-loop μ-loop
-loop-holds c = push-start _ _ _ _ _ _ (from c .up) (from c .before)
+loop-holds c = push-start _ _ _ _ _ _ _ 0 (pairs-none _ _) (from c .up) (from c .before)
 
 -- a row of the state, and its target
 below : (q : tie.In-loop Inv-loop μ-loop) → q .before .loop .i < q .before .before .before .before .before .before .before .before .before .before .before .before .before .before .before .args .table .m
@@ -71,8 +70,7 @@ known q = omega (arith, q .at2 .ensures .0, valid (q .before .before .before .be
 
 inert-requires : tie.Need-inert-requires Inv-loop μ-loop
 inert-requires c κs =
-    let v = valid (c .before .before .before .before .before .before .before .before .before .before .before .before .before .before .before .before) in
-    (
+    let v = valid (c .before .before .before .before .before .before .before .before .before .before .before .before .before .before .before .before) in (
       omega (arith, below (c .before), v .long .label),
       omega (arith, below (c .before), v .long .target),
       omega (arith, known c, c .at2 .ensures .0, c .before .before .before .before .before .before .before .before .before .before .before .before .before .before .before .before .pre .1 .0 .1),
@@ -133,7 +131,7 @@ loop-again c =
     let a = c .before .before .before .before .before .before .before .before .before .before .before .before .before .before .before .before .before .before .before .before .before .before .before .args in
     let l = c .before .before .before .before .before .before .before .before .before .loop in
     let e = c .before .before .before .before .before .before .before .at2 .ensures .0 in
-    push-more _ _ _ _ _ _ _ _ _ _ (l .inv) (omega (arith, c .before .before .before .before .before .before .before .before .loop-test)) (c .before .before .before .either .result) (c .either2 .result)
+    push-more _ _ _ _ _ _ _ _ _ _ _ (l .inv) (omega (arith, c .before .before .before .before .before .before .before .before .loop-test)) (c .before .before .before .either .result) (c .either2 .result)
     (from (c .before .before .before .before .before .before .before .before .before .before) .own (l .i) (l .inv .low) (omega (arith, c .before .before .before .before .before .before .before .before .loop-test)))
     (keyed-either (a .state-to-key .now) (a .element-to-block .now) _ _ (c .before .before .before .before .before .before .before .at2 .result) _ _ _ (c .before .before .before .before .before .before .inert .result && c .before .before .before .before .before .marked .result) _ e
     (ap₂ _&&_ (c .before .before .before .before .before .before .inert .ensures) (c .before .before .before .before .before .marked .ensures ∙ ap (markedIn (a .element-offset .now) (a .element-to-block .now) (a .marked-split .now)) e))
@@ -152,13 +150,13 @@ unfolding inductivePushed rowsOf keyedAt pairAt
 returns c =
     let a = c .before .before .before .before .before .before .before .before .before .before .before .before .before .before .before .args in
     let f = from (c .before .before) in (
-      push-done _ _ _ _ _ _ _ _ _ _ (c .before .loop .inv) (a .table .m) (omega (arith, c .loop-test)) (f .most) (f .after)
-      ∙ ap (λ (b : ℕ).
-      map
-      (keyedAt (L (c .before .before .before .before .before .before .before .before .before .before .before .before .before .before .before)) (a .element-to-block .now) (markedIn (a .element-offset .now) (a .element-to-block .now) (a .marked-split .now))
-      (a .state-to-key .now) b)
-      (rowsOf (L (c .before .before .before .before .before .before .before .before .before .before .before .before .before .before .before)) (a .state)))
-      (c .before .before .before .before .at .ensures .0),
+      push-done _ _ _ _ _ _ _ _ _ _ _ (c .before .loop .inv) (a .table .m) (omega (arith, c .loop-test)) (f .most) (f .after)
+          ∙ ap (λ (b : ℕ).
+          map
+          (keyedAt (L (c .before .before .before .before .before .before .before .before .before .before .before .before .before .before .before)) (a .element-to-block .now) (markedIn (a .element-offset .now) (a .element-to-block .now) (a .marked-split .now))
+          (a .state-to-key .now) b)
+          (rowsOf (L (c .before .before .before .before .before .before .before .before .before .before .before .before .before .before .before)) (a .state)))
+          (c .before .before .before .before .at .ensures .0),
       omega (arith, f .most, c .before .loop .inv .high, c .before .loop .inv .count),
     )
 

@@ -1,13 +1,13 @@
 -- `core.push_strong` meets its contract. The loop's invariant: the pairs of the rows seen are pushed.
 use borrow.Author.Needs.{needs}
 use native.Mathlib.Omega.{arith}
-use Prim.Native.Nat.{ℕ, _+_, _-_, _≤_, _<_}
-use mathlib.Core.Path.{_≡_, refl, sym, ap, _∙_}
+use Prim.Native.Nat.{ℕ, _-_}
+use mathlib.Core.Path.{sym, ap}
+use mathlib.Core.List.{[]}
 use lib.Dec.{eqb}
-use lib.ListN.{length, getD}
-use Rattle.columns.specs.Sets.{Pair}
+use lib.ListN.{getD}
 use Rattle.signatures.specs.Strong.{rowsOf, pairAt, strongPushed}
-use Rattle.signatures.proofs.Pushing.{Pushing, push-start, push-more, push-done}
+use Rattle.signatures.proofs.Pushing.{Pushing, push-start, push-more, push-done, pairs-none}
 use Rattle.signatures.proofs.RowsOf.{RowsFrom, rows-from}
 use Rattle.signatures.proofs.core.push_strong.Statement.{statement}
 use Rattle.signatures.proofs.core.push_strong.Tie as tie
@@ -16,7 +16,7 @@ use Rattle.table.proofs.Stretches.{rising}
 
 abbrev Inv-loop : tie.InvT-loop
 Inv-loop source label target element-to-block state pushed-labels₀ pushed-blocks₀ m i₀ end d₀ pushed-labels pushed-blocks i d =
-    Pushing (λ k. (getD label k 0, getD element-to-block (getD target k 0) 0)) (λ k. eqb (getD source k 0) state) i₀ end pushed-labels₀
+    Pushing [] (λ k. (getD label k 0, getD element-to-block (getD target k 0) 0)) (λ k. eqb (getD source k 0) state) i₀ end pushed-labels₀
     pushed-blocks₀ i d pushed-labels pushed-blocks
 
 abbrev μ-loop : tie.MeasureT-loop
@@ -44,7 +44,7 @@ from : (q : tie.After-first-row2 Inv-loop μ-loop) → RowsFrom (L (q .before .b
 from q = rows-from (L (q .before .before .before .before .before .before .before .before .before)) (q .before .before .before .before .before .before .before .before .before .pre .0 .0) (q .before .before .before .before .before .before .before .before .before .args .state) _ _ (q .before .first-row .ensures) (q .first-row2 .ensures)
 
 loop-holds : tie.Need-loop-holds Inv-loop μ-loop
-loop-holds c = push-start _ _ _ _ _ _ (from c .up) (from c .before)
+loop-holds c = push-start _ _ _ _ _ _ _ 0 (pairs-none _ _) (from c .up) (from c .before)
 
 at-requires : tie.Need-at-requires Inv-loop μ-loop
 at-requires c κs = omega (arith, from (c .before .before) .most, c .before .before .before .before .before .before .before .before .before .before .before .pre .0 .0 .long .target)
@@ -87,7 +87,7 @@ loop-again : tie.Need-loop-again Inv-loop μ-loop
 loop-again c =
     let a = c .before .before .before .before .before .before .before .before .before .before .before .before .before .before .args in
     let l = c .before .before .before .before .loop in
-    push-more _ _ _ _ _ _ _ _ _ _ (l .inv) (omega arith) (getD (a .label .now) (l .i) 0) (getD (a .element-to-block .now) (c .before .before .at .result) 0)
+    push-more _ _ _ _ _ _ _ _ _ _ _ (l .inv) (omega arith) (getD (a .label .now) (l .i) 0) (getD (a .element-to-block .now) (c .before .before .at .result) 0)
     (from (c .before .before .before .before .before) .own (l .i) (l .inv .low) (omega arith))
     (ap (λ (u : ℕ). (getD (a .label .now) (l .i) 0, getD (a .element-to-block .now) u 0)) (sym (c .before .before .at .ensures .0)))
     (omega (arith, from (c .before .before .before .before .before) .most)) (omega (arith, from (c .before .before .before .before .before) .most))
@@ -102,7 +102,7 @@ returns : tie.Need-returns Inv-loop μ-loop
 unfolding strongPushed rowsOf pairAt
 returns c =
     let f = from (c .before .before) in (
-      push-done _ _ _ _ _ _ _ _ _ _ (c .before .loop .inv) (c .before .before .before .before .before .before .before .before .before .before .before .args .table .m) (omega arith) (f .most) (f .after),
+      push-done _ _ _ _ _ _ _ _ _ _ _ (c .before .loop .inv) (c .before .before .before .before .before .before .before .before .before .before .before .args .table .m) (omega arith) (f .most) (f .after),
       omega (arith, f .most),
     )
 

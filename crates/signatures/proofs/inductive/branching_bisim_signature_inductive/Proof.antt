@@ -101,8 +101,7 @@ returns c =
 push-inductive-requires : tie.Need-push-inductive-requires
 push-inductive-requires c κs =
     let r = ready (c .before .before .before) (c .before .before .if1 .left) in
-    let w = wide (c .before .before .before) (c .before .before .if1 .left) in
-    (
+    let w = wide (c .before .before .before) (c .before .before .if1 .left) in (
       (r .valid, r .known, keyed (c .before .before .before) (c .before .before .if1 .left)),
       (
         (r .sound .long .element-offset, r .sound .long .element-to-block),
@@ -115,8 +114,7 @@ sign-requires c κs =
     let r = ready (c .before .before .before .before .before .before .before .before .before .before .before .before .before .before) (c .before .before .before .before .before .before .before .before .before .before .before .before .before .if1 .left) in
     let w = wide (c .before .before .before .before .before .before .before .before .before .before .before .before .before .before) (c .before .before .before .before .before .before .before .before .before .before .before .before .before .if1 .left) in
     let q = c .before .before .before .before .before .before .before .before .before .before .push-inductive in
-    let d = q .ensures .1 in
-    (
+    let d = q .ensures .1 in (
       (
         omega (arith, d, w .first, q .kept .1 .1 .1 .1 .1 .1 .1 .1 .1 .0),
         omega (arith, d, w .second, q .kept .1 .1 .1 .1 .1 .1 .1 .1 .1 .1 .0),

@@ -86,8 +86,7 @@ sign-requires c κs =
     let r = ready (c .before .before .before .before .before .before .before .before .before .before .before .before .before .before) (c .before .before .before .before .before .before .before .before .before .before .before .before .before .if1 .left) in
     let w = wide (c .before .before .before .before .before .before .before .before .before .before .before .before .before .before) (c .before .before .before .before .before .before .before .before .before .before .before .before .before .if1 .left) in
     let q = c .before .before .before .before .before .before .before .before .before .before .push-strong in
-    let d = q .ensures .1 in
-    (
+    let d = q .ensures .1 in (
       (omega (arith, d, w .first, q .kept .1 .1 .1 .1 .1 .1 .0), omega (arith, d, w .second, q .kept .1 .1 .1 .1 .1 .1 .1 .0)),
       (omega (arith, d, w .third), omega (arith, d, w .fourth), omega (arith, d, r .valid .few-rows)),
     )

@@ -1,0 +1,46 @@
+-- The branching signature: over states reached by hidden steps that stay in the state's block, all visible steps, and hidden steps into
+-- other blocks.
+use Prim.Native.Nat.{ℕ}
+use mathlib.Core.Bool.{Bool, true, not, _&&_}
+use mathlib.Core.List.{List, map}
+use lib.Dec.{eqb}
+use lib.ListN.{getD}
+use Rattle.columns.specs.Answers.{Said}
+use Rattle.columns.specs.Counting.{members}
+use Rattle.columns.specs.Sets.{Pair}
+use Rattle.partition.specs.Partition.{Partition}
+use Rattle.signatures.specs.Inductive.{inertb}
+use Rattle.signatures.specs.Pairs.{Columns, signature}
+use Rattle.signatures.specs.Signing.{Left, roomy, signing, signatureRefusal}
+use Rattle.signatures.specs.Strong.{pairAt}
+use Rattle.table.specs.Lts.{Lts}
+use Rattle.table.specs.Reach.{via, edge}
+
+-- a hidden step from u to v, which is in block b; `home` has the block of each state
+unfoldable pub inertEdge : Lts → List ℕ → ℕ → ℕ → ℕ → Bool
+unfolding edge
+inertEdge t home b u v = edge t true u v && eqb (getD home v 0) b
+
+-- s reaches u by hidden steps that stay in the block of s
+unfoldable pub inertly : Lts → List ℕ → ℕ → ℕ → Bool
+unfolding via inertEdge
+inertly t home s u = via (inertEdge t home (getD home s 0)) (t .n) s u
+
+-- row i is visible, or it leads to another block than b
+unfoldable pub outerb : Lts → List ℕ → ℕ → ℕ → Bool
+unfolding inertb
+outerb t home b i = not (inertb (t .label) (t .target) home b i)
+
+unfoldable pub branchingPushed : Lts → List ℕ → ℕ → List Pair
+unfolding pairAt members inertly outerb
+branchingPushed t home s =
+    map (pairAt t home) (members (t .m) (λ i. inertly t home s (getD (t .source) i 0) && outerb t home (getD home s 0) i))
+
+unfoldable pub branchingSignature : Lts → List ℕ → ℕ → List Pair
+unfolding signature branchingPushed
+branchingSignature t home s = signature (branchingPushed t home s)
+
+unfoldable pub branchingBisimSignature : Lts → Partition → ℕ → Columns → List (List ℕ) → Said × Left
+unfolding signing signatureRefusal roomy branchingPushed
+branchingBisimSignature t p s out works =
+    signing (signatureRefusal t p s (roomy t works)) (branchingPushed t (p .element-to-block) s) out works
