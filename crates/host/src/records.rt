@@ -1,11 +1,11 @@
-// A lent list of block records: its first ones copied into a table, the table's fields as columns, and two records exchanged.
-ghost use mathlib.Core.Bool.{Bool, true, cond};
+// Block records: the first of a lent list copied into a table, a table taken apart into columns and joined from them, and two records of a list exchanged.
+ghost use mathlib.Core.Bool.{true, cond};
 ghost use mathlib.Core.Path.{_≡_};
 ghost use Prim.Native.Nat.{_≤_, _<_};
 ghost use lib.ListN.{length};
-ghost use Rattle.host.specs.Records.{exchanged};
 ghost use Rattle.columns.specs.Columns.{written};
 ghost use Rattle.partition.specs.Block.{entry};
+ghost use Rattle.host.specs.Records.{exchanged};
 ghost use Rattle.host.specs.Tables.{limit, filled, laid, blank, beginAt, splitAt, endAt};
 use partition::block::Block;
 

@@ -2,13 +2,12 @@
 ghost use mathlib.Core.Path.{_≡_};
 ghost use Prim.Native.Nat.{_≤_};
 ghost use lib.ListN.{length, take};
-ghost use Rattle.columns.specs.Columns.{over};
+ghost use Rattle.columns.specs.Answers.{said};
 ghost use Rattle.partition.specs.Partition.{parts};
 ghost use Rattle.partition.specs.SwapBlocks.{swapBlocks};
-ghost use Rattle.columns.specs.Answers.{said};
-ghost use Rattle.host.specs.Records.{swapRecords, begins, splits, ends};
-ghost use Rattle.host.specs.Tables.{shortb, went, swapTable};
+ghost use Rattle.host.specs.Records.{swapRecords};
 ghost use Rattle.host.specs.Spread.{Spread};
+ghost use Rattle.host.specs.Tables.{shortb, went, swapTable};
 use crate::records::apart;
 use crate::records::at_most;
 use crate::records::copied;
