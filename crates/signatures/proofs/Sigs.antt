@@ -1,0 +1,54 @@
+-- A signature is a set: its members are those pushed, ascending, and lists with the same members have one signature.
+use Prim.Native.Nat.{ℕ, suc, _≤_}
+use native.Mathlib.Omega.{arith}
+use mathlib.Core.Path.{_≡_, refl, subst, sym}
+use mathlib.Core.Bool.{Bool, true, false, cond}
+use mathlib.Core.List.{List, [], _∷_}
+use lib.ListN.{length}
+use Rattle.columns.specs.Sets.{Mem, Pair, pairLt, insert, collect, Ascending}
+use Rattle.columns.proofs.Orders.{pair-order}
+use Rattle.columns.proofs.Sets.{collect-in, collect-out, collect-ascending, ascending-unique}
+use Rattle.signatures.specs.Pairs.{signature}
+
+module _ (pushed : List Pair) where
+  pub sig-in : (p : Pair) → Mem p pushed → Mem p (signature pushed)
+  unfolding signature
+  sig-in p m = collect-in pairLt pair-order (λ r. true) (λ r. r) pushed p m refl
+
+  pub sig-out : (p : Pair) → Mem p (signature pushed) → Mem p pushed
+  unfolding signature
+  sig-out p m = let f = collect-out pairLt pair-order (λ r. true) (λ r. r) pushed p m in subst (λ (q : Pair). Mem q pushed) (sym (f .3)) (f .1)
+
+  pub sig-ascending : Ascending pairLt (signature pushed)
+  unfolding signature
+  sig-ascending = collect-ascending pairLt pair-order (λ r. true) (λ r. r) pushed
+
+-- two signatures with the same members are one
+pub sig-ext :
+    (l m : List Pair) → ((p : Pair) → Mem p (signature l) → Mem p (signature m)) → ((p : Pair) → Mem p (signature m) → Mem p (signature l))
+    → signature l ≡ signature m
+sig-ext l m f g = ascending-unique pairLt pair-order (signature l) (signature m) (sig-ascending l) (sig-ascending m) f g
+
+-- neither the order in which pairs are pushed matters, nor how often
+pub sig-same : (l m : List Pair) → ((p : Pair) → Mem p l → Mem p m) → ((p : Pair) → Mem p m → Mem p l) → signature l ≡ signature m
+sig-same l m f g = sig-ext l m (λ p k. sig-in m p (f p (sig-out l p k))) (λ p k. sig-in l p (g p (sig-out m p k)))
+
+pub sig-again : (l : List Pair) → signature (signature l) ≡ signature l
+sig-again l = sig-same (signature l) l (λ p k. sig-out l p k) (λ p k. sig-in l p k)
+
+-- ---- it has at most as many pairs as were pushed
+insert-length : (x : Pair) (l : List Pair) → length (insert pairLt x l) ≤ suc (length l)
+unfolding insert
+insert-length x [] = omega arith
+insert-length x (y ∷ l) = go (insert-length x l) (pairLt x y) (pairLt y x)
+  where
+    go : length (insert pairLt x l) ≤ suc (length l) → (b c : Bool)
+        → length (cond b (x ∷ y ∷ l) (cond c (y ∷ insert pairLt x l) (y ∷ l))) ≤ suc (suc (length l))
+    go h true c = omega arith
+    go h false true = omega arith
+    go h false false = omega arith
+
+pub sig-few : (l : List Pair) → length (signature l) ≤ length l
+unfolding signature collect
+sig-few [] = omega arith
+sig-few (x ∷ l) = omega (arith, insert-length x (collect pairLt (λ r. true) (λ r. r) l), sig-few l)

@@ -1,0 +1,175 @@
+-- `inductive.branching_bisim_signature_inductive` meets its contract.
+use borrow.Author.Needs.{needs}
+use borrow.Author.Tests.{leb-true}
+use native.Mathlib.Omega.{arith}
+use Prim.Native.Nat.{ℕ, _≤_}
+use mathlib.Core.Path.{_≡_, refl, sym, ap, _∙_}
+use mathlib.Core.Bool.{Bool, not, _&&_}
+use mathlib.Core.List.{List, [], _∷_}
+use lib.Dec.{leb}
+use lib.ListN.{length}
+use Rattle.columns.specs.declared.answers.Refusal.{Refusal}
+use Rattle.columns.specs.Answers.{refused}
+use Rattle.columns.specs.Rows.{pairsOf}
+use Rattle.columns.specs.Sets.{Pair}
+use Rattle.columns.proofs.Bools.{and-left, and-right}
+use Rattle.partition.specs.Partition.{Partition, parts}
+use Rattle.partition.specs.Readers.{unmarkedb}
+use Rattle.partition.proofs.Marks.{block-known}
+use Rattle.signatures.specs.Inductive.{markedIn, inductivePushed, branchingBisimSignatureInductive}
+use Rattle.signatures.specs.Pairs.{Columns}
+use Rattle.signatures.specs.Signing.{roomy, signatureRefusal}
+use Rattle.signatures.proofs.Outcomes.{cleared-alike, signing-refused, signing-on}
+use Rattle.signatures.proofs.Ready.{Ready, Roomy, signature-ready, roomy-of}
+use Rattle.signatures.proofs.inductive.branching_bisim_signature_inductive.Statement.{statement}
+use Rattle.signatures.proofs.inductive.branching_bisim_signature_inductive.Tie as tie
+use Rattle.table.specs.Lts.{Lts, lts}
+
+-- the table and the partition that are lent, the columns of the result, and the work slices
+abbrev L : tie.Start → Lts
+L a = lts (a .args .table) (a .args .source .now) (a .args .label .now) (a .args .target .now)
+
+abbrev P : tie.Start → Partition
+P a =
+    parts (a .args .elements .now) (a .args .element-offset .now) (a .args .element-to-block .now) (a .args .begin .now)
+    (a .args .marked-split .now) (a .args .end .now) (a .args .table .n) (a .args .count)
+
+abbrev Out : tie.Start → Columns
+Out a = (a .args .labels .now, a .args .blocks .now)
+
+abbrev Works : tie.Start → List (List ℕ)
+Works a = a .args .pushed-labels .now ∷ a .args .pushed-blocks .now ∷ a .args .order .now ∷ a .args .spare .now ∷ []
+
+abbrev Keys : tie.Start → Bool
+Keys a = leb (a .args .table .n) (length (a .args .state-to-key .now))
+
+abbrev R : tie.Start → Refusal
+R a = signatureRefusal (L a) (P a) (a .args .state) (Keys a && roomy (L a) (Works a))
+
+abbrev Pushed : tie.Start → List Pair
+Pushed a = inductivePushed (L a) (a .args .element-to-block .now) (λ u. not (unmarkedb (P a) u)) (a .args .state-to-key .now) (a .args .state)
+
+-- marked as the code reads it
+read : (a : tie.Start)
+    → inductivePushed (L a) (a .args .element-to-block .now)
+    (markedIn (a .args .element-offset .now) (a .args .element-to-block .now) (a .args .marked-split .now)) (a .args .state-to-key .now) (a .args .state)
+    ≡ Pushed a
+unfolding markedIn unmarkedb
+read a = refl
+
+-- the checks have answered R
+answered : (q : tie.After-signature-refusal) → q .signature-refusal .result ≡ R (q .before .before .before .before .before .before .before .before .before .before .before .before .before .before .before .before .before .before .before)
+unfolding roomy
+answered q =
+    q .signature-refusal .ensures
+    ∙ ap (λ (b : Bool). signatureRefusal (L (q .before .before .before .before .before .before .before .before .before .before .before .before .before .before .before .before .before .before .before)) (P (q .before .before .before .before .before .before .before .before .before .before .before .before .before .before .before .before .before .before .before)) (q .before .before .before .before .before .before .before .before .before .before .before .before .before .before .before .before .before .before .before .args .state) (Keys (q .before .before .before .before .before .before .before .before .before .before .before .before .before .before .before .before .before .before .before) && b)) (q .before .before .roomy .ensures)
+
+-- and where they refuse nothing
+ready : (q : tie.After-signature-refusal) → q .signature-refusal .result .number ≡ 0
+    → Ready (L (q .before .before .before .before .before .before .before .before .before .before .before .before .before .before .before .before .before .before .before)) (P (q .before .before .before .before .before .before .before .before .before .before .before .before .before .before .before .before .before .before .before)) (q .before .before .before .before .before .before .before .before .before .before .before .before .before .before .before .before .before .before .before .args .state) (Keys (q .before .before .before .before .before .before .before .before .before .before .before .before .before .before .before .before .before .before .before) && roomy (L (q .before .before .before .before .before .before .before .before .before .before .before .before .before .before .before .before .before .before .before)) (Works (q .before .before .before .before .before .before .before .before .before .before .before .before .before .before .before .before .before .before .before)))
+ready q z = signature-ready (L (q .before .before .before .before .before .before .before .before .before .before .before .before .before .before .before .before .before .before .before)) (P (q .before .before .before .before .before .before .before .before .before .before .before .before .before .before .before .before .before .before .before)) refl (q .before .before .before .before .before .before .before .before .before .before .before .before .before .before .before .before .before .before .before .args .state) (Keys (q .before .before .before .before .before .before .before .before .before .before .before .before .before .before .before .before .before .before .before) && roomy (L (q .before .before .before .before .before .before .before .before .before .before .before .before .before .before .before .before .before .before .before)) (Works (q .before .before .before .before .before .before .before .before .before .before .before .before .before .before .before .before .before .before .before))) _ (answered q) z
+
+wide : (q : tie.After-signature-refusal) → q .signature-refusal .result .number ≡ 0
+    → Roomy (L (q .before .before .before .before .before .before .before .before .before .before .before .before .before .before .before .before .before .before .before)) (q .before .before .before .before .before .before .before .before .before .before .before .before .before .before .before .before .before .before .before .args .pushed-labels .now) (q .before .before .before .before .before .before .before .before .before .before .before .before .before .before .before .before .before .before .before .args .pushed-blocks .now) (q .before .before .before .before .before .before .before .before .before .before .before .before .before .before .before .before .before .before .before .args .order .now) (q .before .before .before .before .before .before .before .before .before .before .before .before .before .before .before .before .before .before .before .args .spare .now)
+wide q z =
+    roomy-of (L (q .before .before .before .before .before .before .before .before .before .before .before .before .before .before .before .before .before .before .before)) (q .before .before .before .before .before .before .before .before .before .before .before .before .before .before .before .before .before .before .before .args .pushed-labels .now) (q .before .before .before .before .before .before .before .before .before .before .before .before .before .before .before .before .before .before .before .args .pushed-blocks .now) (q .before .before .before .before .before .before .before .before .before .before .before .before .before .before .before .before .before .before .before .args .order .now) (q .before .before .before .before .before .before .before .before .before .before .before .before .before .before .before .before .before .before .before .args .spare .now)
+    (and-right (Keys (q .before .before .before .before .before .before .before .before .before .before .before .before .before .before .before .before .before .before .before)) (roomy (L (q .before .before .before .before .before .before .before .before .before .before .before .before .before .before .before .before .before .before .before)) (Works (q .before .before .before .before .before .before .before .before .before .before .before .before .before .before .before .before .before .before .before))) (ready q z .enough))
+
+keyed : (q : tie.After-signature-refusal) → q .signature-refusal .result .number ≡ 0 → q .before .before .before .before .before .before .before .before .before .before .before .before .before .before .before .before .before .before .before .args .table .n ≤ length (q .before .before .before .before .before .before .before .before .before .before .before .before .before .before .before .before .before .before .before .args .state-to-key .now)
+keyed q z = leb-true _ _ (and-left (Keys (q .before .before .before .before .before .before .before .before .before .before .before .before .before .before .before .before .before .before .before)) (roomy (L (q .before .before .before .before .before .before .before .before .before .before .before .before .before .before .before .before .before .before .before)) (Works (q .before .before .before .before .before .before .before .before .before .before .before .before .before .before .before .before .before .before .before))) (ready q z .enough))
+
+roomy-requires : tie.Need-roomy-requires
+roomy-requires c κs = search needs
+
+cast-keys : tie.Need-cast-keys
+cast-keys c = search needs
+
+signature-refusal-requires : tie.Need-signature-refusal-requires
+signature-refusal-requires c κs = search needs
+
+refusing-number-requires : tie.Need-refusing-number-requires
+refusing-number-requires c κs = search needs
+
+returns : tie.Need-returns
+unfolding branchingBisimSignatureInductive
+returns c =
+    let a = c .before .before .before .before .before .before .before .before .before .before .before .before .before .before .before .before .before .before .before .before .before in
+    let e = answered (c .before .before) in
+    signing-refused (R a) (Pushed a) (Out a) (Works a) _ (λ z. c .before .if1 .taken (ap (λ (r : Refusal). r .number) e ∙ z))
+    (c .refusing-number .ensures ∙ ap (λ (r : Refusal). refused (r .number) (r .place)) e)
+
+push-inductive-requires : tie.Need-push-inductive-requires
+push-inductive-requires c κs =
+    let r = ready (c .before .before .before) (c .before .before .if1 .left) in
+    let w = wide (c .before .before .before) (c .before .before .if1 .left) in
+    (
+      (r .valid, r .known, keyed (c .before .before .before) (c .before .before .if1 .left)),
+      (
+        (r .sound .long .element-offset, r .sound .long .element-to-block),
+        (λ u l. block-known (P (c .before .before .before .before .before .before .before .before .before .before .before .before .before .before .before .before .before .before .before .before .before .before)) u _ refl (r .sound) l, (omega (arith, w .first), omega (arith, w .second))),
+      ),
+    )
+
+sign-requires : tie.Need-sign-requires
+sign-requires c κs =
+    let r = ready (c .before .before .before .before .before .before .before .before .before .before .before .before .before .before) (c .before .before .before .before .before .before .before .before .before .before .before .before .before .if1 .left) in
+    let w = wide (c .before .before .before .before .before .before .before .before .before .before .before .before .before .before) (c .before .before .before .before .before .before .before .before .before .before .before .before .before .if1 .left) in
+    let q = c .before .before .before .before .before .before .before .before .before .before .push-inductive in
+    let d = q .ensures .1 in
+    (
+      (
+        omega (arith, d, w .first, q .kept .1 .1 .1 .1 .1 .1 .1 .1 .1 .0),
+        omega (arith, d, w .second, q .kept .1 .1 .1 .1 .1 .1 .1 .1 .1 .1 .0),
+      ),
+      (omega (arith, d, w .third), omega (arith, d, w .fourth), omega (arith, d, r .valid .few-rows)),
+    )
+
+same-length : tie.Need-same-length
+same-length c = search needs
+
+same-length-2 : tie.Need-same-length-2
+same-length-2 c = search needs
+
+same-length-3 : tie.Need-same-length-3
+same-length-3 c = search needs
+
+same-length-4 : tie.Need-same-length-4
+same-length-4 c = search needs
+
+same-length-5 : tie.Need-same-length-5
+same-length-5 c = search needs
+
+same-length-6 : tie.Need-same-length-6
+same-length-6 c = search needs
+
+returns-2 : tie.Need-returns-2
+unfolding branchingBisimSignatureInductive
+returns-2 c =
+    let a = c .before .before .before .before .before .before .before .before .before .before .before .before .before .before .before .before .before .before .before .before .before .before .before .before .before .before .before .before .before .before .before .before .before .before .before .before .before .before .before .before .before .before .before .before .before .before in
+    let q = c .before .before .before .before .before .before .before .before .before .before .before .before .before .before .before .before .before .before .before .before .before .before .before .push-inductive in
+    let l : List ℕ = q .last .1 .1 .1 .1 .1 .1 .1 .1 .1 .0 in
+    let b : List ℕ = q .last .1 .1 .1 .1 .1 .1 .1 .1 .1 .1 .0 in
+    c .before .before .before .before .before .before .before .before .before .before .before .before .sign .ensures
+    ∙ signing-on (R a) (Pushed a) (Out a) (Works a) (sym (ap (λ (r : Refusal). r .number) (answered (c .before .before .before .before .before .before .before .before .before .before .before .before .before .before .before .before .before .before .before .before .before .before .before .before .before .before .before))) ∙ c .before .before .before .before .before .before .before .before .before .before .before .before .before .before .before .before .before .before .before .before .before .before .before .before .before .before .if1 .left)
+    (pairsOf (q .result) l b) (l ∷ b ∷ a .args .order .now ∷ a .args .spare .now ∷ []) (q .ensures .0 ∙ read a)
+    (cleared-alike l b (a .args .order .now) (a .args .spare .now) (a .args .pushed-labels .now) (a .args .pushed-blocks .now) (a .args .order .now)
+    (a .args .spare .now) (q .kept .1 .1 .1 .1 .1 .1 .1 .1 .1 .0) (q .kept .1 .1 .1 .1 .1 .1 .1 .1 .1 .1 .0) refl refl)
+
+pub branching-bisim-signature-inductive-spec : {M : Type 1} → statement M
+branching-bisim-signature-inductive-spec =
+    tie.close
+    (tie.spec
+    roomy-requires
+    cast-keys
+    signature-refusal-requires
+    refusing-number-requires
+    returns
+    push-inductive-requires
+    sign-requires
+    same-length
+    same-length-2
+    same-length-3
+    same-length-4
+    same-length-5
+    same-length-6
+    returns-2)

@@ -1,0 +1,142 @@
+-- `strong.strong_bisim_signature` meets its contract.
+use borrow.Author.Needs.{needs}
+use native.Mathlib.Omega.{arith}
+use Prim.Native.Nat.{ℕ}
+use mathlib.Core.Path.{_≡_, refl, sym, ap, _∙_}
+use mathlib.Core.Bool.{Bool}
+use mathlib.Core.List.{List, [], _∷_}
+use Rattle.columns.specs.declared.answers.Refusal.{Refusal}
+use Rattle.columns.specs.Answers.{refused}
+use Rattle.columns.specs.Rows.{pairsOf}
+use Rattle.columns.specs.Sets.{Pair}
+use Rattle.partition.specs.Partition.{Partition, parts}
+use Rattle.signatures.specs.Pairs.{Columns}
+use Rattle.signatures.specs.Signing.{roomy, signatureRefusal}
+use Rattle.signatures.specs.Strong.{strongPushed, strongBisimSignature}
+use Rattle.signatures.proofs.Outcomes.{cleared-alike, signing-refused, signing-on}
+use Rattle.signatures.proofs.Ready.{Ready, Roomy, signature-ready, roomy-of}
+use Rattle.signatures.proofs.strong.strong_bisim_signature.Statement.{statement}
+use Rattle.signatures.proofs.strong.strong_bisim_signature.Tie as tie
+use Rattle.table.specs.Lts.{Lts, lts}
+
+-- the table and the partition that are lent, the columns of the result, and the work slices
+abbrev L : tie.Start → Lts
+L a = lts (a .args .table) (a .args .source .now) (a .args .label .now) (a .args .target .now)
+
+abbrev P : tie.Start → Partition
+P a =
+    parts (a .args .elements .now) (a .args .element-offset .now) (a .args .element-to-block .now) (a .args .begin .now)
+    (a .args .marked-split .now) (a .args .end .now) (a .args .table .n) (a .args .count)
+
+abbrev Out : tie.Start → Columns
+Out a = (a .args .labels .now, a .args .blocks .now)
+
+abbrev Works : tie.Start → List (List ℕ)
+Works a = a .args .pushed-labels .now ∷ a .args .pushed-blocks .now ∷ a .args .order .now ∷ a .args .spare .now ∷ []
+
+abbrev R : tie.Start → Refusal
+R a = signatureRefusal (L a) (P a) (a .args .state) (roomy (L a) (Works a))
+
+abbrev Pushed : tie.Start → List Pair
+Pushed a = strongPushed (L a) (a .args .element-to-block .now) (a .args .state)
+
+-- the checks have answered R
+answered : (q : tie.After-signature-refusal) → q .signature-refusal .result ≡ R (q .before .before .before .before .before .before .before .before .before .before .before .before .before .before .before .before .before)
+unfolding roomy
+answered q =
+    q .signature-refusal .ensures
+    ∙ ap (λ (b : Bool). signatureRefusal (L (q .before .before .before .before .before .before .before .before .before .before .before .before .before .before .before .before .before)) (P (q .before .before .before .before .before .before .before .before .before .before .before .before .before .before .before .before .before)) (q .before .before .before .before .before .before .before .before .before .before .before .before .before .before .before .before .before .args .state) b) (q .before .roomy .ensures)
+
+-- and where they refuse nothing
+ready : (q : tie.After-signature-refusal) → q .signature-refusal .result .number ≡ 0
+    → Ready (L (q .before .before .before .before .before .before .before .before .before .before .before .before .before .before .before .before .before)) (P (q .before .before .before .before .before .before .before .before .before .before .before .before .before .before .before .before .before)) (q .before .before .before .before .before .before .before .before .before .before .before .before .before .before .before .before .before .args .state) (roomy (L (q .before .before .before .before .before .before .before .before .before .before .before .before .before .before .before .before .before)) (Works (q .before .before .before .before .before .before .before .before .before .before .before .before .before .before .before .before .before)))
+ready q z = signature-ready (L (q .before .before .before .before .before .before .before .before .before .before .before .before .before .before .before .before .before)) (P (q .before .before .before .before .before .before .before .before .before .before .before .before .before .before .before .before .before)) refl (q .before .before .before .before .before .before .before .before .before .before .before .before .before .before .before .before .before .args .state) (roomy (L (q .before .before .before .before .before .before .before .before .before .before .before .before .before .before .before .before .before)) (Works (q .before .before .before .before .before .before .before .before .before .before .before .before .before .before .before .before .before))) _ (answered q) z
+
+wide : (q : tie.After-signature-refusal) → q .signature-refusal .result .number ≡ 0
+    → Roomy (L (q .before .before .before .before .before .before .before .before .before .before .before .before .before .before .before .before .before)) (q .before .before .before .before .before .before .before .before .before .before .before .before .before .before .before .before .before .args .pushed-labels .now) (q .before .before .before .before .before .before .before .before .before .before .before .before .before .before .before .before .before .args .pushed-blocks .now) (q .before .before .before .before .before .before .before .before .before .before .before .before .before .before .before .before .before .args .order .now) (q .before .before .before .before .before .before .before .before .before .before .before .before .before .before .before .before .before .args .spare .now)
+wide q z =
+    roomy-of (L (q .before .before .before .before .before .before .before .before .before .before .before .before .before .before .before .before .before)) (q .before .before .before .before .before .before .before .before .before .before .before .before .before .before .before .before .before .args .pushed-labels .now) (q .before .before .before .before .before .before .before .before .before .before .before .before .before .before .before .before .before .args .pushed-blocks .now) (q .before .before .before .before .before .before .before .before .before .before .before .before .before .before .before .before .before .args .order .now) (q .before .before .before .before .before .before .before .before .before .before .before .before .before .before .before .before .before .args .spare .now)
+    (ready q z .enough)
+
+roomy-requires : tie.Need-roomy-requires
+roomy-requires c κs = search needs
+
+signature-refusal-requires : tie.Need-signature-refusal-requires
+signature-refusal-requires c κs = search needs
+
+refusing-number-requires : tie.Need-refusing-number-requires
+refusing-number-requires c κs = search needs
+
+returns : tie.Need-returns
+unfolding strongBisimSignature
+returns c =
+    let a = c .before .before .before .before .before .before .before .before .before .before .before .before .before .before .before .before .before .before .before in
+    let e = answered (c .before .before) in
+    signing-refused (R a) (Pushed a) (Out a) (Works a) _ (λ z. c .before .if1 .taken (ap (λ (r : Refusal). r .number) e ∙ z))
+    (c .refusing-number .ensures ∙ ap (λ (r : Refusal). refused (r .number) (r .place)) e)
+
+push-strong-requires : tie.Need-push-strong-requires
+push-strong-requires c κs =
+    let r = ready (c .before .before .before) (c .before .before .if1 .left) in
+    let w = wide (c .before .before .before) (c .before .before .if1 .left) in
+    ((r .valid, r .known, r .sound .long .element-to-block), (omega (arith, w .first), omega (arith, w .second)))
+
+sign-requires : tie.Need-sign-requires
+sign-requires c κs =
+    let r = ready (c .before .before .before .before .before .before .before .before .before .before .before .before .before .before) (c .before .before .before .before .before .before .before .before .before .before .before .before .before .if1 .left) in
+    let w = wide (c .before .before .before .before .before .before .before .before .before .before .before .before .before .before) (c .before .before .before .before .before .before .before .before .before .before .before .before .before .if1 .left) in
+    let q = c .before .before .before .before .before .before .before .before .before .before .push-strong in
+    let d = q .ensures .1 in
+    (
+      (omega (arith, d, w .first, q .kept .1 .1 .1 .1 .1 .1 .0), omega (arith, d, w .second, q .kept .1 .1 .1 .1 .1 .1 .1 .0)),
+      (omega (arith, d, w .third), omega (arith, d, w .fourth), omega (arith, d, r .valid .few-rows)),
+    )
+
+same-length : tie.Need-same-length
+same-length c = search needs
+
+same-length-2 : tie.Need-same-length-2
+same-length-2 c = search needs
+
+same-length-3 : tie.Need-same-length-3
+same-length-3 c = search needs
+
+same-length-4 : tie.Need-same-length-4
+same-length-4 c = search needs
+
+same-length-5 : tie.Need-same-length-5
+same-length-5 c = search needs
+
+same-length-6 : tie.Need-same-length-6
+same-length-6 c = search needs
+
+returns-2 : tie.Need-returns-2
+unfolding strongBisimSignature
+returns-2 c =
+    let a = c .before .before .before .before .before .before .before .before .before .before .before .before .before .before .before .before .before .before .before .before .before .before .before .before .before .before .before .before .before .before .before .before .before .before .before .before .before .before .before .before .before .before .before .before in
+    let q = c .before .before .before .before .before .before .before .before .before .before .before .before .before .before .before .before .before .before .before .before .before .before .before .push-strong in
+    let l : List ℕ = q .last .1 .1 .1 .1 .1 .1 .0 in
+    let b : List ℕ = q .last .1 .1 .1 .1 .1 .1 .1 .0 in
+    c .before .before .before .before .before .before .before .before .before .before .before .before .sign .ensures
+    ∙ signing-on (R a) (Pushed a) (Out a) (Works a) (sym (ap (λ (r : Refusal). r .number) (answered (c .before .before .before .before .before .before .before .before .before .before .before .before .before .before .before .before .before .before .before .before .before .before .before .before .before .before .before))) ∙ c .before .before .before .before .before .before .before .before .before .before .before .before .before .before .before .before .before .before .before .before .before .before .before .before .before .before .if1 .left)
+    (pairsOf (q .result) l b) (l ∷ b ∷ a .args .order .now ∷ a .args .spare .now ∷ []) (q .ensures .0)
+    (cleared-alike l b (a .args .order .now) (a .args .spare .now) (a .args .pushed-labels .now) (a .args .pushed-blocks .now) (a .args .order .now)
+    (a .args .spare .now) (q .kept .1 .1 .1 .1 .1 .1 .0) (q .kept .1 .1 .1 .1 .1 .1 .1 .0) refl refl)
+
+pub strong-bisim-signature-spec : {M : Type 1} → statement M
+strong-bisim-signature-spec =
+    tie.close
+    (tie.spec
+    roomy-requires
+    signature-refusal-requires
+    refusing-number-requires
+    returns
+    push-strong-requires
+    sign-requires
+    same-length
+    same-length-2
+    same-length-3
+    same-length-4
+    same-length-5
+    same-length-6
+    returns-2)

@@ -1,0 +1,5 @@
+pub mod Pairs
+pub mod Signing
+pub mod Strong
+pub mod Inductive
+pub mod TauHat

@@ -1,0 +1,108 @@
+// What each signature pushes, on columns that are checked already. No entry points: each says what it requires. The pairs pushed go
+// over the first cells of two columns, and their number is returned.
+ghost use mathlib.Core.Path.{_≡_};
+ghost use mathlib.Core.Bool.{cond};
+ghost use Prim.Native.Nat.{ℕ, _≤_, _<_};
+ghost use lib.ListN.{length, getD};
+ghost use Rattle.columns.specs.Rows.{pairsOf};
+ghost use Rattle.signatures.specs.Inductive.{inertb, markedIn, inductivePushed};
+ghost use Rattle.signatures.specs.Strong.{strongPushed};
+ghost use Rattle.table.specs.Lts.{lts, Valid};
+use columns::cells::at;
+use table::Table;
+use table::core::first_row;
+
+// (label, block of target) for each row of a state.
+pub fn push_strong(
+    table: Table,
+    source: &[u16],
+    label: &[u16],
+    target: &[u16],
+    element_to_block: &[u16],
+    state: usize,
+    pushed_labels: &mut [u16],
+    pushed_blocks: &mut [u16],
+) -> usize
+    requires { ⌜ Valid (lts table (now source) (now label) (now target)) × (state < table .n) × (table .n ≤ length (now «element_to_block»)) ⌝ }
+    requires { ⌜ (table .m ≤ length (now «pushed_labels»)) × (table .m ≤ length (now «pushed_blocks»)) ⌝ }
+    ensures { λ r. ⌜ (pairsOf r (now («pushed_labels» .exit)) (now («pushed_blocks» .exit)) ≡ strongPushed (lts table (now (source .entry)) (now (label .entry)) (now (target .entry))) (now («element_to_block» .entry)) state) × (r ≤ table .m) ⌝ }
+{
+    let m = table.m as usize;
+    let mut i = first_row(source, m, state);
+    let end = first_row(source, m, state + 1);
+    let mut d = 0;
+    while i < end {
+        let u = at(target, i);
+        pushed_labels[d] = label[i];
+        pushed_blocks[d] = element_to_block[u];
+        d += 1;
+        i += 1;
+    }
+    d
+}
+
+// Whether row i is hidden and leads to block b.
+pub fn inert(label: &[u16], target: &[u16], element_to_block: &[u16], b: usize, i: usize) -> bool
+    requires { ⌜ (i < length (now label)) × (i < length (now target)) × (getD (now target) i 0 < length (now «element_to_block»)) ⌝ }
+    ensures { λ r. ⌜ r ≡ inertb (now (label .entry)) (now (target .entry)) (now («element_to_block» .entry)) b i ⌝ }
+{
+    if at(label, i) != 0 {
+        return false;
+    }
+    at(element_to_block, at(target, i)) == b
+}
+
+// Whether state u is marked.
+fn marked(element_offset: &[u16], element_to_block: &[u16], marked_split: &[u16], u: usize) -> bool
+    requires { ⌜ (u < length (now «element_offset»)) × (u < length (now «element_to_block»)) × (getD (now «element_to_block») u 0 < length (now «marked_split»)) ⌝ }
+    ensures { λ r. ⌜ r ≡ markedIn (now («element_offset» .entry)) (now («element_to_block» .entry)) (now («marked_split» .entry)) u ⌝ }
+{
+    let split = at(marked_split, at(element_to_block, u));
+    if at(element_offset, u) < split { false } else { true }
+}
+
+// x or y.
+fn either(first: bool, x: u16, y: u16) -> u16
+    ensures { λ r. ⌜ r ≡ cond first x y ⌝ }
+{
+    if first { x } else { y }
+}
+
+// (tau_hat, key of target) for each hidden row of a state to a marked state of its block, and (label, block of target) for each other
+// row.
+pub fn push_inductive(
+    table: Table,
+    source: &[u16],
+    label: &[u16],
+    target: &[u16],
+    element_offset: &[u16],
+    element_to_block: &[u16],
+    marked_split: &[u16],
+    state: usize,
+    state_to_key: &[u16],
+    pushed_labels: &mut [u16],
+    pushed_blocks: &mut [u16],
+) -> usize
+    requires { ⌜ Valid (lts table (now source) (now label) (now target)) × (state < table .n) × (table .n ≤ length (now «state_to_key»)) ⌝ }
+    requires { ⌜ (table .n ≤ length (now «element_offset»)) × (table .n ≤ length (now «element_to_block»)) ⌝ }
+    requires { ⌜ ((u : ℕ) → u < table .n → getD (now «element_to_block») u 0 < length (now «marked_split»)) ⌝ }
+    requires { ⌜ (table .m ≤ length (now «pushed_labels»)) × (table .m ≤ length (now «pushed_blocks»)) ⌝ }
+    ensures { λ r. ⌜ (pairsOf r (now («pushed_labels» .exit)) (now («pushed_blocks» .exit)) ≡ inductivePushed (lts table (now (source .entry)) (now (label .entry)) (now (target .entry))) (now («element_to_block» .entry)) (markedIn (now («element_offset» .entry)) (now («element_to_block» .entry)) (now («marked_split» .entry))) (now («state_to_key» .entry)) state) × (r ≤ table .m) ⌝ }
+{
+    let m = table.m as usize;
+    let tau_hat = table.labels;
+    let b = at(element_to_block, state);
+    let mut i = first_row(source, m, state);
+    let end = first_row(source, m, state + 1);
+    let mut d = 0;
+    while i < end {
+        let u = at(target, i);
+        let stays = inert(label, target, element_to_block, b, i);
+        let key = stays & marked(element_offset, element_to_block, marked_split, u);
+        pushed_labels[d] = either(key, tau_hat, label[i]);
+        pushed_blocks[d] = either(key, state_to_key[u], element_to_block[u]);
+        d += 1;
+        i += 1;
+    }
+    d
+}

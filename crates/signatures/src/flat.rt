@@ -1,0 +1,108 @@
+// What was pushed, as a signature: sorted, and without duplicates. No entry points: each says what it requires.
+ghost use mathlib.Core.Path.{_≡_};
+ghost use mathlib.Core.List.{[], _∷_, map};
+ghost use Prim.Native.Nat.{_*_, _+_, _/_, _≤_};
+ghost use lib.ListN.{length};
+ghost use Rattle.columns.specs.Answers.{saidNumber, none};
+ghost use Rattle.columns.specs.Columns.{over, wiped, zeros, cell};
+ghost use Rattle.columns.specs.Rows.{pairsOf};
+ghost use Rattle.signatures.specs.Pairs.{signature, pairsOver, roomFor};
+ghost use Rattle.signatures.specs.Signing.{signing};
+use columns::answers::NumberAnswer;
+use columns::answers::number;
+use columns::answers::refuse;
+use columns::answers::refusing_number;
+use columns::cells::clear;
+use columns::rows::gather;
+use columns::rows::pick_rows;
+
+// Whether two columns have room for d pairs.
+pub fn has_room(d: usize, labels: usize, blocks: usize) -> bool
+    ensures { λ r. ⌜ r ≡ roomFor d labels blocks ⌝ }
+{
+    if labels < d {
+        return false;
+    }
+    if blocks < d { false } else { true }
+}
+
+// The pairs that the numbers of `order` name, over the first cells of x and y.
+fn write_pairs(x: &mut [u16], y: &mut [u16], order: &[u16], a: &[u16], b: &[u16])
+    requires { ⌜ (length (now order) ≤ length (now x)) × (length (now order) ≤ length (now y)) ⌝ }
+    ensures { λ _. ⌜ (now (x .exit) ≡ over (map (cell (now (a .entry))) (now (order .entry))) (now (x .entry))) × (now (y .exit) ≡ over (map (cell (now (b .entry))) (now (order .entry))) (now (y .entry))) ⌝ }
+{
+    gather(x, order, a);
+    gather(y, order, b);
+}
+
+// The first d pairs pushed, as a signature over the first cells of `labels` and `blocks`. Returns the number of its pairs.
+// The first d cells of `order` and half as many of `spare` are used, and zero then.
+pub fn flatten(
+    labels: &mut [u16],
+    blocks: &mut [u16],
+    d: usize,
+    pushed_labels: &[u16],
+    pushed_blocks: &[u16],
+    order: &mut [u16],
+    spare: &mut [u16],
+) -> usize
+    requires { ⌜ (d ≤ length (now «pushed_labels»)) × (d ≤ length (now «pushed_blocks»)) × (d ≤ length (now labels)) × (d ≤ length (now blocks)) ⌝ }
+    requires { ⌜ (d ≤ length (now order)) × (d ≤ 2 * length (now spare) + 1) × (d ≤ 65536) ⌝ }
+    ensures { λ r. ⌜ r ≡ length (signature (pairsOf d (now («pushed_labels» .entry)) (now («pushed_blocks» .entry)))) ⌝ }
+    ensures { λ _. ⌜ (now (labels .exit), now (blocks .exit)) ≡ pairsOver (signature (pairsOf d (now («pushed_labels» .entry)) (now («pushed_blocks» .entry)))) (now (labels .entry), now (blocks .entry)) ⌝ }
+    ensures { λ _. ⌜ (now (order .exit) ≡ wiped d (now (order .entry))) × (now (spare .exit) ≡ wiped (d / 2) (now (spare .entry))) ⌝ }
+{
+    let r = pick_rows(
+        &mut order[..d],
+        spare,
+        pushed_labels,
+        pushed_blocks,
+        pushed_blocks,
+    );
+    write_pairs(labels, blocks, &order[..r], pushed_labels, pushed_blocks);
+    clear(&mut order[..d]);
+    r
+}
+
+// Every cell of four columns becomes zero.
+pub fn wipe(a: &mut [u16], b: &mut [u16], c: &mut [u16], d: &mut [u16])
+    ensures { λ _. ⌜ (now (a .exit) ≡ zeros (length (now (a .entry)))) × (now (b .exit) ≡ zeros (length (now (b .entry)))) ⌝ }
+    ensures { λ _. ⌜ (now (c .exit) ≡ zeros (length (now (c .entry)))) × (now (d .exit) ≡ zeros (length (now (d .entry)))) ⌝ }
+{
+    clear(a);
+    clear(b);
+    clear(c);
+    clear(d);
+}
+
+// The signature of the first d pairs pushed over the first cells of `labels` and `blocks`, or 16 where they have no room for all d.
+// Every cell of the four work slices is zero then.
+pub fn sign(
+    labels: &mut [u16],
+    blocks: &mut [u16],
+    d: usize,
+    pushed_labels: &mut [u16],
+    pushed_blocks: &mut [u16],
+    order: &mut [u16],
+    spare: &mut [u16],
+) -> NumberAnswer
+    requires { ⌜ (d ≤ length (now «pushed_labels»)) × (d ≤ length (now «pushed_blocks»)) ⌝ }
+    requires { ⌜ (d ≤ length (now order)) × (d ≤ 2 * length (now spare) + 1) × (d ≤ 65536) ⌝ }
+    ensures { λ r. ⌜ (saidNumber r, ((now (labels .exit), now (blocks .exit)), now («pushed_labels» .exit) ∷ now («pushed_blocks» .exit) ∷ now (order .exit) ∷ now (spare .exit) ∷ [])) ≡ signing none (pairsOf d (now («pushed_labels» .entry)) (now («pushed_blocks» .entry))) (now (labels .entry), now (blocks .entry)) (now («pushed_labels» .entry) ∷ now («pushed_blocks» .entry) ∷ now (order .entry) ∷ now (spare .entry) ∷ []) ⌝ }
+{
+    if !has_room(d, labels.len(), blocks.len()) {
+        wipe(pushed_labels, pushed_blocks, order, spare);
+        return refusing_number(refuse(16, d as u64));
+    }
+    let r = flatten(
+        labels,
+        blocks,
+        d,
+        &*pushed_labels,
+        &*pushed_blocks,
+        &mut *order,
+        &mut *spare,
+    );
+    wipe(pushed_labels, pushed_blocks, order, spare);
+    number(r as u64)
+}
