@@ -8,7 +8,6 @@ pub mod tau_hat_cases;
 
 use crate::slices::read_results;
 use crate::slices::read_work;
-use cases::partition_cases::Lengths;
 use cases::partition_cases::read_columns;
 use columns::answers::NumberAnswer;
 use lines::answers::number;
@@ -26,7 +25,7 @@ use lines::rooms::Rows;
 use lines::rooms::Work;
 use signatures::inductive::branching_bisim_signature_inductive;
 use signatures::strong::strong_bisim_signature;
-use table_cases::tables::Given;
+use table::Table;
 use table_cases::tables::read_table;
 
 // What follows the partition's columns: the count, the state, how many cells of each slice are lent, and the first place of the next
@@ -78,66 +77,11 @@ fn read_tail(
     }
 }
 
-// A line: the operation, the table, how many cells of each of the partition's columns are lent, and what follows them.
-struct Case {
-    operation: usize,
-    given: Given,
-    to: Lengths,
-    tail: Tail,
-}
-
-fn read_case(
-    line: Line,
-    buffer: &mut Buffer,
-    source: &mut Rows,
-    label: &mut Rows,
-    target: &mut Rows,
-    a: &mut Column,
-    b: &mut Column,
-    c: &mut Column,
-    d: &mut Column,
-    e: &mut Column,
-    f: &mut Column,
-    keys: &mut Rows,
-    labels: &mut Rows,
-    blocks: &mut Rows,
-    g: &mut Work,
-    h: &mut Work,
-    k: &mut Work,
-    l: &mut Work,
-) -> Case
-    ensures { λ r. ⌜ Counts (r .given .source) (now (source .exit)) × Counts (r .given .label) (now (label .exit)) × Counts (r .given .target) (now (target .exit)) ⌝ }
-    ensures { λ r. ⌜ Counts (r .to .a) (now (a .exit)) × Counts (r .to .b) (now (b .exit)) × Counts (r .to .c) (now (c .exit)) × Counts (r .to .d) (now (d .exit)) × Counts (r .to .e) (now (e .exit)) × Counts (r .to .f) (now (f .exit)) ⌝ }
-    ensures { λ r. ⌜ Counts (r .tail .keys) (now (keys .exit)) × Counts (r .tail .labels) (now (labels .exit)) × Counts (r .tail .blocks) (now (blocks .exit)) ⌝ }
-    ensures { λ r. ⌜ Counts (r .tail .g) (now (g .exit)) × Counts (r .tail .h) (now (h .exit)) × Counts (r .tail .k) (now (k .exit)) × Counts (r .tail .l) (now (l .exit)) ⌝ }
-{
-    let operation = line.operation;
-    let given = read_table(line.input, buffer, source, label, target);
-    let columns = read_columns(given.input, buffer, a, b, c, d, e, f);
-    let to = columns.lengths;
-    let tail = read_tail(
-        operation,
-        columns.input,
-        buffer,
-        keys,
-        labels,
-        blocks,
-        g,
-        h,
-        k,
-        l,
-    );
-    Case {
-        operation,
-        given,
-        to,
-        tail,
-    }
-}
-
 // The answer of the operation on lent slices.
 fn sign(
-    case: Case,
+    operation: usize,
+    table: Table,
+    tail: Tail,
     source: &[u16],
     label: &[u16],
     target: &[u16],
@@ -155,47 +99,32 @@ fn sign(
     k: &mut [u16],
     l: &mut [u16],
 ) -> NumberAnswer {
-    let given = case.given;
-    let t = given.table;
-    let tail = case.tail;
     let n = tail.count;
     let s = tail.state;
-    if case.operation == names::STRONG {
+    if operation == names::STRONG {
         return strong_bisim_signature(
-            t, source, label, target, a, b, c, d, e, f, n, s, labels, blocks, g, h, k, l,
+            table,
+            source,
+            label,
+            target,
+            a,
+            b,
+            c,
+            d,
+            e,
+            f,
+            n,
+            s,
+            labels,
+            blocks,
+            g,
+            h,
+            k,
+            l,
         );
     }
     branching_bisim_signature_inductive(
-        t, source, label, target, a, b, c, d, e, f, n, s, keys, labels, blocks, g, h, k, l,
-    )
-}
-
-// The answer of the operation; of the result and work slices as many cells are lent as the line gave.
-fn act(
-    case: Case,
-    source: &[u16],
-    label: &[u16],
-    target: &[u16],
-    a: &[u16],
-    b: &[u16],
-    c: &[u16],
-    d: &[u16],
-    e: &[u16],
-    f: &[u16],
-    keys: &[u16],
-    labels: &mut Rows,
-    blocks: &mut Rows,
-    g: &mut Work,
-    h: &mut Work,
-    k: &mut Work,
-    l: &mut Work,
-) -> NumberAnswer
-    requires { ⌜ Counts (case .tail .labels) (now labels) × Counts (case .tail .blocks) (now blocks) ⌝ }
-    requires { ⌜ Counts (case .tail .g) (now g) × Counts (case .tail .h) (now h) × Counts (case .tail .k) (now k) × Counts (case .tail .l) (now l) ⌝ }
-{
-    let tail = case.tail;
-    sign(
-        case,
+        table,
         source,
         label,
         target,
@@ -205,13 +134,15 @@ fn act(
         d,
         e,
         f,
+        n,
+        s,
         keys,
-        &mut labels[..tail.labels],
-        &mut blocks[..tail.blocks],
-        &mut g[..tail.g],
-        &mut h[..tail.h],
-        &mut k[..tail.k],
-        &mut l[..tail.l],
+        labels,
+        blocks,
+        g,
+        h,
+        k,
+        l,
     )
 }
 
@@ -235,6 +166,73 @@ fn show(
     column(out, after_k, l, tail.l)
 }
 
+// What follows the partition's columns, and the answer.
+fn replay_tail(
+    operation: usize,
+    table: Table,
+    first: Input,
+    buffer: &mut Buffer,
+    source: &[u16],
+    label: &[u16],
+    target: &[u16],
+    a: &[u16],
+    b: &[u16],
+    c: &[u16],
+    d: &[u16],
+    e: &[u16],
+    f: &[u16],
+    out: &mut Buffer,
+    used: usize,
+) -> Answered {
+    let mut keys = [0u16; 8400];
+    let mut labels = [0u16; 8400];
+    let mut blocks = [0u16; 8400];
+    let mut g = [0u16; 12600];
+    let mut h = [0u16; 12600];
+    let mut k = [0u16; 12600];
+    let mut l = [0u16; 12600];
+    let tail = read_tail(
+        operation,
+        first,
+        buffer,
+        &mut keys,
+        &mut labels,
+        &mut blocks,
+        &mut g,
+        &mut h,
+        &mut k,
+        &mut l,
+    );
+    let rest = tail.rest;
+    if !rest.good {
+        return bad_case(rest, out, used);
+    }
+    let answer = sign(
+        operation,
+        table,
+        tail,
+        source,
+        label,
+        target,
+        a,
+        b,
+        c,
+        d,
+        e,
+        f,
+        &keys[..tail.keys],
+        &mut labels[..tail.labels],
+        &mut blocks[..tail.blocks],
+        &mut g[..tail.g],
+        &mut h[..tail.h],
+        &mut k[..tail.k],
+        &mut l[..tail.l],
+    );
+    let answered = said(out, used, number(answer));
+    let shown = show(tail, &labels, &blocks, &g, &h, &k, &l, out, answered);
+    end_case(rest, out, shown)
+}
+
 // The rest of a line, and its answer.
 pub fn replay(line: Line, buffer: &mut Buffer, out: &mut Buffer, used: usize) -> Answered {
     let mut source = [0u16; 8400];
@@ -246,42 +244,25 @@ pub fn replay(line: Line, buffer: &mut Buffer, out: &mut Buffer, used: usize) ->
     let mut d = [0u16; 5000];
     let mut e = [0u16; 5000];
     let mut f = [0u16; 5000];
-    let mut keys = [0u16; 8400];
-    let mut labels = [0u16; 8400];
-    let mut blocks = [0u16; 8400];
-    let mut g = [0u16; 12600];
-    let mut h = [0u16; 12600];
-    let mut k = [0u16; 12600];
-    let mut l = [0u16; 12600];
-    let case = read_case(
-        line,
+    let given = read_table(line.input, buffer, &mut source, &mut label, &mut target);
+    let columns = read_columns(
+        given.input,
         buffer,
-        &mut source,
-        &mut label,
-        &mut target,
         &mut a,
         &mut b,
         &mut c,
         &mut d,
         &mut e,
         &mut f,
-        &mut keys,
-        &mut labels,
-        &mut blocks,
-        &mut g,
-        &mut h,
-        &mut k,
-        &mut l,
     );
-    let tail = case.tail;
-    let rest = tail.rest;
-    if !rest.good {
-        return bad_case(rest, out, used);
-    }
-    let given = case.given;
-    let to = case.to;
-    let answer = act(
-        case,
+    let to = columns.lengths;
+    let table = given.table;
+    let rest = columns.input;
+    replay_tail(
+        line.operation,
+        table,
+        rest,
+        buffer,
         &source[..given.source],
         &label[..given.label],
         &target[..given.target],
@@ -291,15 +272,7 @@ pub fn replay(line: Line, buffer: &mut Buffer, out: &mut Buffer, used: usize) ->
         &d[..to.d],
         &e[..to.e],
         &f[..to.f],
-        &keys[..tail.keys],
-        &mut labels,
-        &mut blocks,
-        &mut g,
-        &mut h,
-        &mut k,
-        &mut l,
-    );
-    let answered = said(out, used, number(answer));
-    let shown = show(tail, &labels, &blocks, &g, &h, &k, &l, out, answered);
-    end_case(rest, out, shown)
+        out,
+        used,
+    )
 }

@@ -22,7 +22,8 @@ fn act(operation: usize, label: u16, labels: u16) -> Said {
 
 // The rest of a line, and its answer.
 pub fn replay(line: Line, buffer: &mut Buffer, out: &mut Buffer, used: usize) -> Answered {
-    let label = line.input.small_if(line.operation == names::IS_TAU_HAT, buffer);
+    let label = line.input
+        .small_if(line.operation == names::IS_TAU_HAT, buffer);
     let labels = label.input.small(buffer);
     let rest = labels.input.end_line(buffer);
     if !rest.good {
