@@ -80,7 +80,9 @@ def completed(operation, rng, v):
 
 def sound(operation, rng):
     """A random sound case; columns exact or longer."""
-    v = completed(operation, rng, tables.random_table(rng, small_size(rng)))
+    n = small_size(rng)
+    number = signatures.number_of_rows(rng, n) if operation.name in signatures.OPERATIONS else None
+    v = completed(operation, rng, tables.random_table(rng, n, number))
     tables.lengthen(rng, v)
     return partitions.lengthen(rng, v) if takes_partition(operation) else v
 

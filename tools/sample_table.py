@@ -3,6 +3,7 @@ from itertools import cycle, product
 
 import cases_bad
 import cases_table
+import signatures
 import tables
 from operations import BY_NAME, FLAGS, Case, written
 from partitions import LARGEST, laid_out
@@ -104,7 +105,7 @@ def of_rows(operation, v):
 
 def of_order(operation, v):
     """Faults in the order in which 01 ranks them, the first taken away each time."""
-    last = cases_table.slices_besides(operation)[-1]
+    last = list(operation.needs)[-1]
     faults = [{'n': 0}, {'labels': 0}, {'m': MOST_ROWS + 1}, {'initial': 3}, {last: v[last][:-1]}, {'target': [3, 2]},
               {'source': [1, 1], 'label': [1, 1], 'target': [2, 1]}]
     faults += [{name: number} for name, number in (('count', 0), ('block', X), ('state', X)) if name in v]
@@ -164,7 +165,7 @@ def of_size():
 
 def of_no_case():
     """A word too few, a word too many, a flag of 2, and a cell that is too large in the last slice."""
-    for name in OPERATIONS:
+    for name in OPERATIONS + signatures.OPERATIONS:
         operation, example = BY_NAME[name], cases_table.example(BY_NAME[name])
         lines = list(cases_bad.cases(operation, example))
         flags = [Case(operation, None, written(operation, {**example, flag: 2})) for flag in FLAGS if flag in example]

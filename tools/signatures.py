@@ -10,6 +10,11 @@ OPERATIONS = ('strong_bisim_signature', 'branching_bisim_signature_inductive')
 SMALL = ((1, 1), (1, 2), (2, 1), (2, 2))
 
 
+def number_of_rows(rng, n):
+    """As many rows as any table has, or so many that each state pushes a lot of pairs."""
+    return rng.choice((None, None, 8 * n))
+
+
 def every_argument(operation, n):
     """Every partition and state; where there are keys, every two of them."""
     every = [{**v, 'state': state} for v, state in product(partitions.every(n), range(n))]
