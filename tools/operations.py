@@ -81,7 +81,7 @@ def on_partition(name, arguments=(), changed=(), tests=(), **more):
 
 
 def on_table(name, arguments, needs, changed, tests=(), last=(), **more):
-    """An operation on a lent table: its header, lengths, the rows, tests, the arguments in their order, the last tests."""
+    """An operation on a lent table: its header, lengths, the rows, tests, the arguments in order, the last tests."""
     needs = {**dict.fromkeys(ROWS, a_row), **needs}
     header = (refusals.states, refusals.labels, refusals.rows, refusals.initial)
     chain = (*header, refusals.short(needs), refusals.each_row, *tests, *ranges(arguments), *last)

@@ -13,7 +13,7 @@ OPERATIONS = ('is_subset_of', 'tau_hat', 'is_tau_hat')
 # Stands where nothing is read.
 X = LARGEST
 
-# Words, the rows of a table of four states, and the blocks of its states in the order 3 1 0 2; the signature is that of state 1.
+# Words, the rows of a table of four states, and the blocks of its states in the order 3 1 0 2. State 1 is asked for.
 SIGNED = (
     ('no way out of the state', [(0, 0, 1), (2, 1, 1)], [(0, 1, 4)]),
     ('no rows', [], [(0, 4, 4)]),
