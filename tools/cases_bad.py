@@ -9,7 +9,7 @@ def lines(operation, example):
     right = written(operation, example)
     words = right.split(' ')
     yield ' '.join(words[:-1])
-    yield ' '.join(words[:2])
+    yield ' '.join(words[:min(2, len(words) - 1)])
     yield right + ' 0'
     yield words[0]
     yield ' '.join([words[0] + 's', *words[1:]])

@@ -2,6 +2,7 @@
 from itertools import product
 
 import partitions
+import signatures
 import splits
 import tables
 from cases_partition import small_size
@@ -12,6 +13,8 @@ from refusals import COLUMNS, MOST_LABELS, MOST_ROWS, MOST_STATES, ROWS
 from splits import junk_cells, more
 
 SMALL = ((1, 1), (1, 2), (2, 1), (2, 2), (3, 1))
+# Of so many slices every length is tried together.
+MOST_AT_ONCE = 6
 
 
 def takes_partition(operation):
@@ -24,13 +27,13 @@ def argument_names(operation):
 
 
 def slices_besides(operation):
-    """The result and work slices."""
-    return [name for name in operation.needs if name not in ROWS + COLUMNS]
+    """The result and work slices, and keys."""
+    return [name for name in operation.lengths() if name not in ROWS + COLUMNS]
 
 
 def lent(operation, rng, v):
     """Result and work slices for these values: mostly exact, with junk."""
-    needed = {name: operation.needs[name](v) for name in slices_besides(operation)}
+    needed = {name: operation.lengths()[name](v) for name in slices_besides(operation)}
     return {name: junk_cells(rng, v['n'], cells + more(rng, 0)) for name, cells in needed.items()}
 
 
@@ -41,18 +44,20 @@ def orderly_partitions(n):
 
 def every_argument(operation, n):
     """Every flag, start state, partition and block."""
-    if takes_partition(operation):
+    if 'block' in operation.parameters:
         return [{**v, 'block': block} for v in orderly_partitions(n) for block in range(v['count'])]
+    if operation.name in signatures.OPERATIONS:
+        return signatures.every_argument(operation, n)
     choices = {name: range(n) if name == 'state' else (0, 1) for name in argument_names(operation)}
     return [dict(zip(choices, chosen)) for chosen in product(*choices.values())]
 
 
 def every_small(operation, rng):
     """Every table of a few states with every argument."""
-    for n, labels in SMALL:
+    for n, labels in signatures.SMALL if operation.name in signatures.OPERATIONS else SMALL:
         arguments = every_argument(operation, n)
         for v, chosen in product(tables.every(n, labels), arguments):
-            yield {**v, **chosen, **lent(operation, rng, v)}
+            yield {**v, **lent(operation, rng, {**v, **chosen}), **chosen}
 
 
 def arguments(operation, rng, v):
@@ -62,18 +67,22 @@ def arguments(operation, rng, v):
         chosen['state'] = rng.choice((0, v['initial'], rng.randrange(v['n'])))
     if takes_partition(operation):
         chosen |= random_partition(rng, v['n'], rng.choice((None, min(2, v['n']), 1)))
+    if 'block' in operation.parameters:
         chosen |= {'block': splits.a_block(rng, chosen)}
     return chosen
 
 
 def completed(operation, rng, v):
     """A sound case with this table."""
-    return {**v, **arguments(operation, rng, v), **lent(operation, rng, v)}
+    v = {**v, **arguments(operation, rng, v)}
+    return {**v, **lent(operation, rng, v)}
 
 
 def sound(operation, rng):
     """A random sound case; columns exact or longer."""
-    v = completed(operation, rng, tables.random_table(rng, small_size(rng)))
+    n = small_size(rng)
+    number = signatures.number_of_rows(rng, n) if operation.name in signatures.OPERATIONS else None
+    v = completed(operation, rng, tables.random_table(rng, n, number))
     tables.lengthen(rng, v)
     return partitions.lengthen(rng, v) if takes_partition(operation) else v
 
@@ -115,6 +124,8 @@ def large(rng):
 
 def many_arguments(operation, rng, v):
     """Arguments for a large table: every flag, the first and the last state; one block with little marked, and any."""
+    if operation.name in signatures.OPERATIONS:
+        return [{**arguments(operation, rng, v), 'state': state} for state in {0, v['n'] - 1, v['initial']}]
     if not takes_partition(operation):
         choices = {name: (0, v['n'] - 1) if name == 'state' else (0, 1) for name in argument_names(operation)}
         return [dict(zip(choices, chosen)) for chosen in product(*choices.values())]
@@ -128,20 +139,22 @@ def of_size(operation, rng):
     """The limits and the large tables."""
     for v in (*limits(rng), *large(rng)):
         chosen = many_arguments(operation, rng, v)
-        yield from ({**v, **one, **lent(operation, rng, v)} for one in chosen)
+        yield from ({**v, **one, **lent(operation, rng, {**v, **one})} for one in chosen)
 
 
 def at_room(operation, rng):
     """The largest table with every slice as long as `replay` takes it, and with each slice one short."""
     v = completed(operation, rng, tables.full(rng, MOST_STATES))
-    yield {**v, **{name: v[name] + [1] * (operation.room(name) - len(v[name])) for name in operation.needs}}
-    yield from ({**v, name: v[name][:needed(v) - 1]} for name, needed in operation.needs.items())
+    yield {**v, **{name: v[name] + [1] * (operation.room(name) - len(v[name])) for name in operation.lengths()}}
+    yield from ({**v, name: v[name][:needed(v) - 1]} for name, needed in operation.lengths().items())
 
 
 def every_short_slice(operation, rng):
-    """The columns of rows and the slices besides at every length."""
+    """The columns of rows and the slices besides at every length, some at a time."""
     v = completed(operation, rng, tables.given(2, 1, [(0, 0, 1), (1, 0, 1)]))
-    yield from every_length(operation, v, [*ROWS, *slices_besides(operation)])
+    names = [*ROWS, *slices_besides(operation)]
+    for first in range(0, len(names), MOST_AT_ONCE):
+        yield from every_length(operation, v, names[first:first + MOST_AT_ONCE])
 
 
 def every_changed_field(operation, rng):
@@ -158,6 +171,7 @@ def faults_of(operation):
         'reachable': [outside('state', 'n')],
         'mark_backward_closure': [outside('block', 'count'), damage],
         'sort_topological': [tables.make_cycle],
+        **dict.fromkeys(signatures.OPERATIONS, [signatures.little_room, outside('state', 'n'), damage]),
     }
     of_rows = [tables.order_broken, tables.field_outside, shorten(operation)]
     of_header = [outside('initial', 'n'), tables.rows_outside, tables.labels_outside, partitions.n_outside]
@@ -172,6 +186,8 @@ def values(operation, rng, number):
     yield from every_short_slice(operation, rng)
     yield from every_changed_field(operation, rng)
     yield from (sound(operation, rng) for _ in range(number))
+    if operation.name in signatures.OPERATIONS:
+        yield from signatures.every_room(lambda: sound(operation, rng), 400)
     faults, faultless = faults_of(operation), lambda: sound(operation, rng)
     yield from several(faultless, rng, faults, 20)
     yield from damaged(faultless, rng, faults, number // 2)
@@ -181,7 +197,7 @@ def example(operation):
     """A sound case of the operation."""
     v = {**tables.given(4, 2, [(0, 0, 1), (1, 1, 2), (2, 0, 3)], 3), **dict.fromkeys(FLAGS, 1), 'state': 2}
     v |= {**partitions.laid_out([2, 3, 0, 1], [(0, 1, 3), (3, 4, 4)]), 'block': 0}
-    v |= {name: [7] * operation.needs[name](v) for name in slices_besides(operation)}
+    v |= {name: [7] * operation.lengths()[name](v) for name in slices_besides(operation)}
     return {name: v[name] for name in operation.parameters}
 
 

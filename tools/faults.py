@@ -52,6 +52,6 @@ def shorten(operation):
 def every_length(operation, v, names):
     """These slices exact, one short, empty, or one longer, in all combinations."""
     for changes in product((0, -1, None, 1), repeat=len(names)):
-        needed = {name: operation.needs[name](v) for name in names}
+        needed = {name: operation.lengths()[name](v) for name in names}
         lengths = {name: 0 if change is None else needed[name] + change for name, change in zip(names, changes)}
         yield {**v, **{name: (v[name] + [1])[:length] for name, length in lengths.items()}}

@@ -3,7 +3,7 @@ from typing import Callable, NamedTuple
 
 import plain
 import refusals
-from refusals import COLUMNS, ROWS, WORK, WORKED, a_row, a_state, below, worked
+from refusals import COLUMNS, RESULT, ROWS, WORK, WORKED, a_row, a_state, below, pushed, worked
 
 
 class Operation(NamedTuple):
@@ -12,6 +12,7 @@ class Operation(NamedTuple):
     tests: tuple  # 01's refusals in 01's order
     changed: tuple = ()  # the parameters that are `&mut` slices
     needs: dict = {}  # for a slice that has a length in 01, the cells needed
+    rooms: dict = {}  # the same for a slice whose shortness is 16
     has_rust: bool = True
     computed: Callable = None  # a plain computation of the answer
     answers_part: bool = False
@@ -24,6 +25,10 @@ class Operation(NamedTuple):
                 return found
         return None
 
+    def lengths(self):
+        """For each slice the cells needed."""
+        return {**self.needs, **self.rooms}
+
     def work(self):
         """The work slices."""
         return [slice for slice, cells in self.needs.items() if cells is worked]
@@ -32,7 +37,7 @@ class Operation(NamedTuple):
         """The longest slice that `replay` takes here."""
         if slice == 'text':
             return TEXT_ROOM
-        if slice in COLUMNS or 'm' not in self.parameters:
+        if slice in COLUMNS or slice not in PAIRS and 'm' not in self.parameters:
             return COLUMN_ROOM
         return WORK_ROOM if slice in self.work() else ROWS_ROOM
 
@@ -48,6 +53,12 @@ FLAGS = ('hidden', 'reversed')
 
 PARTITION = ('n', 'count') + COLUMNS
 TABLE = ('n', 'labels', 'm', 'initial') + ROWS
+# Two lists of pairs, each in two columns.
+SELF = ('self_labels', 'self_blocks')
+OTHER = ('other_labels', 'other_blocks')
+PAIRS = SELF + OTHER
+# The work slices of a signature.
+PUSHING = ('pushed_labels', 'pushed_blocks', 'order', 'spare')
 BLOCK = ('begin', 'marked_split', 'end')
 EACH_STATE = dict.fromkeys(COLUMNS, a_state)
 # The slices that have a length in 01 and stand beside a partition's columns.
@@ -69,12 +80,20 @@ def on_partition(name, arguments=(), changed=(), tests=(), **more):
     return Operation(name, PARTITION + arguments, chain, changed, needs, **more)
 
 
-def on_table(name, arguments, needs, changed, tests=(), **more):
-    """An operation on a lent table: its header, lengths, the rows, then the rest."""
+def on_table(name, arguments, needs, changed, tests=(), last=(), **more):
+    """An operation on a lent table: its header, lengths, the rows, tests, the arguments in order, the last tests."""
     needs = {**dict.fromkeys(ROWS, a_row), **needs}
     header = (refusals.states, refusals.labels, refusals.rows, refusals.initial)
-    chain = (*header, refusals.short(needs), refusals.each_row, *tests, *ranges(arguments))
+    chain = (*header, refusals.short(needs), refusals.each_row, *tests, *ranges(arguments), *last)
     return Operation(name, TABLE + arguments, chain, changed, needs, **more)
+
+
+def signature(name, keys=()):
+    """A signature of a state, with a key for each state or without."""
+    needs = {**EACH_STATE, **dict.fromkeys(keys, a_state), **dict.fromkeys(PUSHING, worked)}
+    arguments = COLUMNS + ('count', 'state') + keys + RESULT + PUSHING
+    return on_table(name, arguments, needs, RESULT + PUSHING, (refusals.partition,), (refusals.pairs_room,),
+                    rooms=dict.fromkeys(RESULT, pushed))
 
 
 ALL = (
@@ -109,6 +128,12 @@ ALL = (
              computed=plain.mark_backward_closure),
     on_table('sort_topological', ('hidden', 'reversed', 'places', 'marks', 'stack'),
              {'places': a_state, 'marks': worked, 'stack': worked}, ('places', 'marks', 'stack'), (refusals.cycle,)),
+    signature('strong_bisim_signature'),
+    signature('branching_bisim_signature_inductive', ('state_to_key',)),
+    Operation('is_subset_of', PAIRS + ('label', 'block'),
+              (refusals.not_ascending(*SELF), refusals.not_ascending(*OTHER))),
+    Operation('tau_hat', ('labels',), (refusals.labels,)),
+    Operation('is_tau_hat', ('label', 'labels'), (refusals.labels,)),
 )
 BY_NAME = {operation.name: operation for operation in ALL}
 

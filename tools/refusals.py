@@ -7,6 +7,8 @@ import plain
 COLUMNS = ('elements', 'element_offset', 'element_to_block', 'begin', 'marked_split', 'end')
 ROWS = ('source', 'label', 'target')
 WORK = ('old_elements', 'block_sizes', 'spare')
+# The columns that a signature is written to.
+RESULT = ('result_labels', 'result_blocks')
 MOST_STATES = 4096
 MOST_LABELS = 1024
 MOST_ROWS = 8192
@@ -153,3 +155,23 @@ def room(v):
     """16: room below the bytes to write; the place is the number needed."""
     needed = len(shown(v))
     return None if needed <= len(v['text']) else (16, needed)
+
+
+def pushed(v):
+    """The pairs pushed for the state's signature: one for each of its rows."""
+    return sum(row[0] == v['state'] for row in plain.rows(v))
+
+
+def pairs_room(v):
+    """16: room below the pairs pushed, duplicates among them; the place is the number needed."""
+    needed = pushed(v)
+    return None if all(needed <= len(v[column]) for column in RESULT) else (16, needed)
+
+
+def not_ascending(labels, blocks):
+    """15: a list of pairs, which ends with the shorter column; the place is the first not above the one before."""
+    def test(v):
+        pairs = list(zip(v[labels], v[blocks]))
+        bad = (place for place in range(1, len(pairs)) if pairs[place] <= pairs[place - 1])
+        return next(((15, place) for place in bad), None)
+    return test

@@ -7,8 +7,10 @@ from itertools import product
 import cases_bad
 import cases_block
 import cases_partition
+import sample_signature
 import sample_split
 import sample_table
+import signatures
 from operations import ALL, BOUNDS, BY_NAME, Case
 from partitions import LARGEST, copied, laid_out, wrapped_sum
 from refusals import COLUMNS, MOST_STATES, shown
@@ -166,6 +168,7 @@ def of_no_case():
     yield Case(operation, None, 'no_such_operation 1')
     yield from sample_split.of_no_case()
     yield from sample_table.of_no_case()
+    yield from sample_signature.of_no_case()
 
 
 def entries():
@@ -183,6 +186,8 @@ def entries():
             yield from sample_split.of_split()
         elif operation.name in sample_table.OPERATIONS:
             yield from sample_table.of(operation.name)
+        elif operation.name in sample_signature.OPERATIONS + signatures.OPERATIONS:
+            yield from sample_signature.of(operation.name)
         else:
             yield from of_partition(operation, DAMAGED if operation.name in everything else DAMAGED[index % 3::3])
     yield ''

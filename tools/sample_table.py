@@ -1,8 +1,9 @@
 """The sample's part for the operations on a table: absences, shapes, each refusal, several faults at once."""
-from itertools import product
+from itertools import cycle, product
 
 import cases_bad
 import cases_table
+import signatures
 import tables
 from operations import BY_NAME, FLAGS, Case, written
 from partitions import LARGEST, laid_out
@@ -47,7 +48,7 @@ CLOSED = (
 def lent(operation, v):
     """Result and work slices of exact length, with other content."""
     slices = cases_table.slices_besides(operation)
-    return {name: [fill] * operation.needs[name](v) for name, fill in zip(slices, (9, X, 1))}
+    return {name: [fill] * operation.lengths()[name](v) for name, fill in zip(slices, cycle((9, X, 1)))}
 
 
 def of_sound(operation):
@@ -99,18 +100,16 @@ def of_rows(operation, v):
                  [(0, 1, 0), (0, 0, 1)], [(1, 0, 0), (0, 1, 2)], [(0, 0, 2), (0, 0, 1)], [(1, 0, 0), (0, 2, 0)],
                  [(0, 0, 1), (0, 0, 0), (3, 0, 0)], [(0, 0, 1), (X, 0, 0), (0, 0, 0)]):
         table = tables.given(3, 2, rows)
-        yield Case(operation, {**v, **table, **lent(operation, table)})
+        yield Case(operation, {**v, **table, **lent(operation, {**v, **table})})
 
 
 def of_order(operation, v):
     """Faults in the order in which 01 ranks them, the first taken away each time."""
-    last = cases_table.slices_besides(operation)[-1]
+    last = list(operation.needs)[-1]
     faults = [{'n': 0}, {'labels': 0}, {'m': MOST_ROWS + 1}, {'initial': 3}, {last: v[last][:-1]}, {'target': [3, 2]},
               {'source': [1, 1], 'label': [1, 1], 'target': [2, 1]}]
-    if 'count' in v:
-        faults += [{'count': 0}, {'block': X}]
-    if 'state' in v:
-        faults.append({'state': X})
+    faults += [{name: number} for name, number in (('count', 0), ('block', X), ('state', X)) if name in v]
+    faults += [dict.fromkeys(operation.rooms, [])] if operation.rooms else []
     if 'places' in v:
         faults.append({'source': [0, 1], 'label': [0, 0], 'target': [1, 0]})
     yield f'# {operation.name}: several faults at once'
@@ -122,28 +121,38 @@ def of_order(operation, v):
 
 
 def of_partition(operation, v):
-    """14 and 8."""
-    yield f'# {operation.name}: a damaged partition, a block out of range'
+    """14."""
+    yield f'# {operation.name}: a damaged partition'
     broken = {'elements': [2, 2, 1], 'element_offset': [0, 1, 2], 'element_to_block': [0, 1, 0], 'begin': [3, 0, 0],
               'marked_split': [4, 3, 3], 'end': [4, 3, 3]}
     yield from (Case(operation, {**v, column: cells}) for column, cells in broken.items())
     yield from (Case(operation, {**v, 'count': count}) for count in (0, 4, X))
-    yield from (Case(operation, {**v, 'block': block}) for block in (1, 3, X))
 
 
-def of(name):
-    operation = BY_NAME[name]
+def of_arguments(operation, v):
+    """8."""
+    for name, numbers in (('block', (1, 3, X)), ('state', (3, X))):
+        if name in v:
+            yield f'# {operation.name}: a {name} out of range'
+            yield from (Case(operation, {**v, name: number}) for number in numbers)
+
+
+def of_faults(operation):
+    """Each refusal, and several faults at once."""
     v = a_case(operation)
-    yield from of_closed(operation) if 'count' in v else of_sound(operation)
     yield from of_header(operation, v)
     yield from of_length(operation, v)
     yield from of_rows(operation, v)
     if 'count' in v:
         yield from of_partition(operation, v)
-    if 'state' in v:
-        yield f'# {name}: a start out of range'
-        yield from (Case(operation, {**v, 'state': state}) for state in (3, X))
+    yield from of_arguments(operation, v)
     yield from of_order(operation, v)
+
+
+def of(name):
+    operation = BY_NAME[name]
+    yield from of_closed(operation) if 'count' in operation.parameters else of_sound(operation)
+    yield from of_faults(operation)
 
 
 def of_size():
@@ -156,7 +165,7 @@ def of_size():
 
 def of_no_case():
     """A word too few, a word too many, a flag of 2, and a cell that is too large in the last slice."""
-    for name in OPERATIONS:
+    for name in OPERATIONS + signatures.OPERATIONS:
         operation, example = BY_NAME[name], cases_table.example(BY_NAME[name])
         lines = list(cases_bad.cases(operation, example))
         flags = [Case(operation, None, written(operation, {**example, flag: 2})) for flag in FLAGS if flag in example]

@@ -64,6 +64,21 @@ pub const CLOSURES: usize = 700;
 
 pub const ORDERS: usize = 800;
 
+// The operations that write a signature, that compare two, and on tau_hat.
+pub const SIGNATURES: usize = 900;
+
+pub const STRONG: usize = 901;
+
+pub const INDUCTIVE: usize = 902;
+
+pub const SUBSETS: usize = 1000;
+
+pub const TAU_HATS: usize = 1100;
+
+pub const TAU_HAT: usize = 1101;
+
+pub const IS_TAU_HAT: usize = 1102;
+
 // The operation with this name. The names of a family stand in the order of their numbers, each with a blank after it.
 pub fn operation(name: &[u8]) -> usize {
     let block = place(
@@ -111,6 +126,25 @@ fn on_table(name: &[u8]) -> usize {
     }
     if place(name, b"sort_topological ") != 0 {
         return ORDERS;
+    }
+    on_signature(name)
+}
+
+// The operation with this name among those on signatures.
+fn on_signature(name: &[u8]) -> usize {
+    let signature = place(
+        name,
+        b"strong_bisim_signature branching_bisim_signature_inductive ",
+    );
+    if signature != 0 {
+        return SIGNATURES + signature;
+    }
+    let tau_hat = place(name, b"tau_hat is_tau_hat ");
+    if tau_hat != 0 {
+        return TAU_HATS + tau_hat;
+    }
+    if place(name, b"is_subset_of ") != 0 {
+        return SUBSETS;
     }
     UNKNOWN
 }

@@ -14,6 +14,8 @@ use lines::lines::bad_case;
 use lines::lines::next_line;
 use lines::names;
 use lines::output;
+use signature_cases::subset_cases;
+use signature_cases::tau_hat_cases;
 
 // The rest of a line, and its answer.
 fn replay(line: Line, buffer: &mut Buffer, out: &mut Buffer, used: usize) -> Answered {
@@ -26,6 +28,9 @@ fn replay(line: Line, buffer: &mut Buffer, out: &mut Buffer, used: usize) -> Ans
         names::TABLES => table_cases::replay(line, buffer, out, used),
         names::CLOSURES => closure_cases::replay(line, buffer, out, used),
         names::ORDERS => order_cases::replay(line, buffer, out, used),
+        names::SIGNATURES => signature_cases::replay(line, buffer, out, used),
+        names::SUBSETS => subset_cases::replay(line, buffer, out, used),
+        names::TAU_HATS => tau_hat_cases::replay(line, buffer, out, used),
         _ => bad_case(line.input.skip_line(buffer), out, used),
     }
 }

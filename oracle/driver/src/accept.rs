@@ -48,3 +48,8 @@ pub fn dense(list: &[usize]) -> Result<(), Stop> {
 pub fn inverse(list: &[usize], places: &[usize]) -> Result<(), Stop> {
     list.iter().enumerate().try_for_each(|(place, &number)| accept(places[number] == place))
 }
+
+/// Each entry of a list is above the one before.
+pub fn ascending<T: Ord>(list: &[T]) -> Result<(), Stop> {
+    accept(list.windows(2).all(|pair| pair[0] < pair[1]))
+}

@@ -50,7 +50,7 @@ impl Columns {
 }
 
 /// Writes the numbers over the first cells of a column.
-fn put(column: &mut [usize], numbers: impl ExactSizeIterator<Item = usize>) {
+pub fn put(column: &mut [usize], numbers: impl ExactSizeIterator<Item = usize>) {
     assert!(numbers.len() <= column.len(), "the result has room");
     for (cell, number) in column.iter_mut().zip(numbers) {
         *cell = number;

@@ -10,6 +10,7 @@ mod lent;
 mod line;
 mod partition;
 mod run;
+mod signature;
 mod split;
 mod steps;
 mod table;
@@ -21,7 +22,7 @@ use run::Operation;
 
 /// The operations, a table for each file that holds some.
 const TABLES: &[&[(&str, Operation)]] =
-    &[block::OPERATIONS, partition::OPERATIONS, split::OPERATIONS, steps::OPERATIONS];
+    &[block::OPERATIONS, partition::OPERATIONS, split::OPERATIONS, steps::OPERATIONS, signature::OPERATIONS];
 
 fn case(text: &str) -> Result<String, Stop> {
     let mut line = Line::new(text);

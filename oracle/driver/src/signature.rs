@@ -1,0 +1,139 @@
+//! The operations on signatures.
+
+use merc_collections::BlockIndex;
+use merc_lts::{LabelIndex, LabelledTransitionSystem, StateIndex};
+use merc_reduction::{BlockPartition, Signature, SignatureBuilder};
+
+use crate::accept::{self, accept};
+use crate::answer::done;
+use crate::lent::{Columns, Lent, put};
+use crate::line::{Line, Stop};
+use crate::run::{Operation, rust};
+use crate::table::{self, Table};
+
+pub const OPERATIONS: &[(&str, Operation)] = &[
+    ("is_subset_of", is_subset_of),
+    ("tau_hat", tau_hat),
+    ("is_tau_hat", is_tau_hat),
+    ("strong_bisim_signature", strong_bisim_signature),
+    ("branching_bisim_signature_inductive", branching_bisim_signature_inductive),
+];
+
+fn pair((label, block): (usize, usize)) -> (LabelIndex, BlockIndex) {
+    (LabelIndex::new(label), BlockIndex::new(block))
+}
+
+/// A list of pairs in two columns; it ends with the shorter one.
+fn read_pairs(line: &mut Line) -> Result<Vec<(usize, usize)>, Stop> {
+    let (labels, blocks) = (line.rows()?, line.rows()?);
+    Ok(labels.into_iter().zip(blocks).collect())
+}
+
+fn is_subset_of(line: &mut Line) -> Result<String, Stop> {
+    let (this, other) = (read_pairs(line)?, read_pairs(line)?);
+    let excluded = pair((line.number()?, line.number()?));
+    line.end()?;
+    accept::ascending(&this)?;
+    accept::ascending(&other)?;
+    let [this, other] = [this, other].map(|pairs| pairs.into_iter().map(pair).collect::<SignatureBuilder>());
+    let inside = rust(|| Signature::new(&this).is_subset_of(&other, excluded))?;
+    Ok(done(&[inside.into()], &[]))
+}
+
+/// The Rust's transition system with one state, no transition and so many labels.
+fn with_labels(labels: usize) -> Result<LabelledTransitionSystem<String>, Stop> {
+    table::accept_labels(labels)?;
+    Ok(LabelledTransitionSystem::from_rows(StateIndex::new(0), 1, table::named(labels), &[]))
+}
+
+fn tau_hat(line: &mut Line) -> Result<String, Stop> {
+    let labels = line.number()?;
+    line.end()?;
+    let system = with_labels(labels)?;
+    Ok(done(&[rust(|| merc_reduction::tau_hat(&system))?.value()], &[]))
+}
+
+fn is_tau_hat(line: &mut Line) -> Result<String, Stop> {
+    let (label, labels) = (line.number()?, line.number()?);
+    line.end()?;
+    let system = with_labels(labels)?;
+    Ok(done(&[rust(|| merc_reduction::is_tau_hat(LabelIndex::new(label), &system))?.into()], &[]))
+}
+
+/// What a signature of a state takes beside keys.
+struct Given {
+    table: Table,
+    lent: Lent,
+    state: usize,
+}
+
+/// Result and work slices.
+struct Slices {
+    result: [Vec<usize>; 2],
+    work: [Vec<usize>; 4],
+}
+
+impl Given {
+    fn read(line: &mut Line) -> Result<Given, Stop> {
+        let (table, columns) = (Table::read(line)?, Columns::read(line)?);
+        let lent = Lent { n: table.n, count: line.number()?, columns };
+        Ok(Given { table, lent, state: line.number()? })
+    }
+
+    fn accept(&self, slices: &Slices) -> Result<(), Stop> {
+        self.table.accept()?;
+        slices.work.iter().try_for_each(|slice| self.table.accept_work(slice))?;
+        self.lent.accept()?;
+        self.lent.accept_state(self.state)?;
+        let pushed = self.table.outgoing(self.state);
+        accept(slices.result.iter().all(|column| column.len() >= pushed))
+    }
+}
+
+impl Slices {
+    fn read(line: &mut Line) -> Result<Slices, Stop> {
+        let result = [line.rows()?, line.rows()?];
+        Ok(Slices { result, work: [line.work()?, line.work()?, line.work()?, line.work()?] })
+    }
+
+    /// The answer of a call that made this signature.
+    fn answer(mut self, signature: &SignatureBuilder) -> String {
+        let [labels, blocks] = &mut self.result;
+        put(labels, signature.iter().map(|(label, _)| label.value()));
+        put(blocks, signature.iter().map(|(_, block)| block.value()));
+        self.work.iter_mut().for_each(|slice| slice.fill(0));
+        let slices: Vec<_> = self.result.iter().chain(&self.work).map(Vec::as_slice).collect();
+        done(&[signature.len()], &slices)
+    }
+}
+
+type System = LabelledTransitionSystem<String>;
+
+/// Runs a signature of the Rust, which is handed the state, the system, the partition and a builder.
+fn signed(
+    given: &Given,
+    slices: Slices,
+    call: impl FnOnce(StateIndex, &System, &BlockPartition, &mut SignatureBuilder),
+) -> Result<String, Stop> {
+    given.accept(&slices)?;
+    let (system, partition, state) = (given.table.system(), given.lent.partition(), StateIndex::new(given.state));
+    let mut builder = SignatureBuilder::new();
+    rust(|| call(state, &system, &partition, &mut builder))?;
+    Ok(slices.answer(&builder))
+}
+
+fn strong_bisim_signature(line: &mut Line) -> Result<String, Stop> {
+    let (given, slices) = (Given::read(line)?, Slices::read(line)?);
+    line.end()?;
+    signed(&given, slices, merc_reduction::strong_bisim_signature)
+}
+
+fn branching_bisim_signature_inductive(line: &mut Line) -> Result<String, Stop> {
+    let (given, keys, slices) = (Given::read(line)?, line.rows()?, Slices::read(line)?);
+    line.end()?;
+    accept(keys.len() >= given.table.n)?;
+    let keys: Vec<_> = keys.into_iter().map(BlockIndex::new).collect();
+    signed(&given, slices, |state, system, partition, builder| {
+        merc_reduction::branching_bisim_signature_inductive(state, system, partition, &keys, builder)
+    })
+}
