@@ -3,3 +3,7 @@ pub mod Trees
 pub mod Ranks
 pub mod Places
 pub mod Merging
+pub mod Rests
+pub mod Puts
+pub mod Bests
+pub mod Advances
