@@ -7,3 +7,4 @@ pub mod Rests
 pub mod Puts
 pub mod Bests
 pub mod Advances
+pub mod Turns
