@@ -8,3 +8,4 @@ pub mod Puts
 pub mod Bests
 pub mod Advances
 pub mod Turns
+pub mod Fronts

@@ -1,4 +1,5 @@
 // The merge of ascending lists of pairs.
+pub mod front;
 pub mod heads;
 pub mod merge;
 pub mod put;
