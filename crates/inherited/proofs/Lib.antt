@@ -3,3 +3,9 @@ pub mod Trees
 pub mod Ranks
 pub mod Places
 pub mod Merging
+pub mod Rests
+pub mod Puts
+pub mod Bests
+pub mod Advances
+pub mod Turns
+pub mod Fronts

@@ -1,2 +1,4 @@
 pub mod Tree
 pub mod Merged
+pub mod Rest
+pub mod Put

@@ -1,3 +1,6 @@
 // The merge of ascending lists of pairs.
+pub mod front;
 pub mod heads;
+pub mod merge;
+pub mod put;
 pub mod tree;
