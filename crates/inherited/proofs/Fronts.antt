@@ -2,17 +2,16 @@
 use Prim.Native.Nat.{ℕ, zero, suc, _+_, _-_, _*_, _≤_, _<_}
 use native.Mathlib.Omega.{arith}
 use mathlib.Core.Path.{_≡_, refl, ap, ap₂, sym, _∙_, subst}
-use mathlib.Core.Logic.{⊎-elim}
 use mathlib.Core.List.{List, [], _∷_, _++_, List·Memᴰ·tail}
 use lib.ListN.{length, getD, take, drop, length-replicate, length-append}
 use lib.Seq.{getD-take, length-take-le, drop-at}
 use Rattle.columns.specs.Columns.{listed, over, zeros, wiped}
 use Rattle.columns.specs.Sets.{Mem, Pair, pairLt, Ascending, addAll, gather}
-use Rattle.columns.proofs.All.{lt-or-le}
+use Rattle.columns.proofs.Lists.{front-zeros}
 use Rattle.columns.proofs.Sets.{here}
 use Rattle.columns.proofs.Sums.{sum-cong}
 use Rattle.subset.proofs.Risings.{listed-out}
-use Rattle.inherited.specs.Merged.{Heads, heads, wide, placeOf, endAt, Fit}
+use Rattle.inherited.specs.Merged.{Heads, heads, wide, placeOf, endAt}
 use Rattle.inherited.specs.Rest.{between, restOf, leftOf, leftIn, mergeOf, Ready}
 
 gather-cong : (g h : ℕ → List Pair) (rs : List ℕ) → ((r : ℕ) → Mem r rs → g r ≡ h r) → gather pairLt g rs ≡ gather pairLt h rs
@@ -98,3 +97,9 @@ wiped-changed h x z e =
 
 pub reach-changed : (h : ℕ) (x z : List ℕ) → length z ≡ length (take h x) → h ≤ length x → h ≤ length (z ++ drop h x)
 reach-changed h x z e w = omega (arith, length-append z (drop h x), e, length-take-le h x w)
+
+-- cleared, where the other cells are zero already
+pub wiped-all : (h : ℕ) (x : List ℕ) → h ≤ length x → ((i : ℕ) → h ≤ i → getD x i 0 ≡ 0) → wiped h x ≡ zeros (length x)
+unfolding wiped over
+wiped-all h x w f =
+    ap (λ (n : ℕ). zeros h ++ drop n x) (length-replicate {A = ℕ} h 0) ∙ front-zeros h x (zeros h) w (ap zeros (sym (length-take-le h x w))) f

@@ -9,3 +9,4 @@ pub mod Bests
 pub mod Advances
 pub mod Turns
 pub mod Fronts
+pub mod Examples
