@@ -88,11 +88,12 @@ def on_table(name, arguments, needs, changed, tests=(), last=(), **more):
     return Operation(name, TABLE + arguments, chain, changed, needs, **more)
 
 
-def signature(name, keys=()):
-    """A signature of a state, with a key for each state or without."""
-    needs = {**EACH_STATE, **dict.fromkeys(keys, a_state), **dict.fromkeys(PUSHING, worked)}
-    arguments = COLUMNS + ('count', 'state') + keys + RESULT + PUSHING
-    return on_table(name, arguments, needs, RESULT + PUSHING, (refusals.partition,), (refusals.pairs_room,),
+def signature(name, keys=(), searching=()):
+    """A signature of a state, with a key for each state or without, and with work slices for a search or without."""
+    work = PUSHING + searching
+    needs = {**EACH_STATE, **dict.fromkeys(keys, a_state), **dict.fromkeys(work, worked)}
+    arguments = COLUMNS + ('count', 'state') + keys + RESULT + work
+    return on_table(name, arguments, needs, RESULT + work, (refusals.partition,), (refusals.pairs_room,),
                     rooms=dict.fromkeys(RESULT, pushed))
 
 
@@ -130,6 +131,7 @@ ALL = (
              {'places': a_state, 'marks': worked, 'stack': worked}, ('places', 'marks', 'stack'), (refusals.cycle,)),
     signature('strong_bisim_signature'),
     signature('branching_bisim_signature_inductive', ('state_to_key',)),
+    signature('branching_bisim_signature', searching=('marks', 'queue')),
     Operation('is_subset_of', PAIRS + ('label', 'block'),
               (refusals.not_ascending(*SELF), refusals.not_ascending(*OTHER))),
     Operation('tau_hat', ('labels',), (refusals.labels,)),

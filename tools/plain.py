@@ -23,15 +23,28 @@ def incoming(v):
     return [v['m']], {'incoming': over(order, v['incoming'])}
 
 
-def reachable(v):
+def reached_from(state, left):
     """The start, and what some step leads to from what is reached, until there is nothing new."""
-    reached, left = {v['state']}, steps(v)
+    reached = {state}
     while True:
         new = {target for source, target in left if source in reached} - reached
         if not new:
-            return [len(reached)], {'reached': over([int(s in reached) for s in range(v['n'])], v['reached'])}
+            return reached
         left = [step for step in left if step[0] not in reached]
         reached |= new
+
+
+def reachable(v):
+    reached = reached_from(v['state'], steps(v))
+    return [len(reached)], {'reached': over([int(s in reached) for s in range(v['n'])], v['reached'])}
+
+
+def outer_rows(v):
+    """The rows of the states reached by hidden steps that stay in the state's block, without these steps."""
+    block_of = dict(enumerate(v['element_to_block'])).get
+    inner = {row for row in rows(v) if row[1] == 0 and block_of(row[2]) == block_of(v['state'])}
+    reached = reached_from(v['state'], [(source, target) for source, _, target in inner])
+    return [row for row in rows(v) if row[0] in reached and row not in inner]
 
 
 def mark(v, elements, offsets, splits, state):

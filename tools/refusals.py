@@ -157,9 +157,14 @@ def room(v):
     return None if needed <= len(v['text']) else (16, needed)
 
 
+def pushed_rows(v):
+    """The rows that push a pair for the state's signature: its own, or, where there is a queue, the branching one's."""
+    return plain.outer_rows(v) if 'queue' in v else [row for row in plain.rows(v) if row[0] == v['state']]
+
+
 def pushed(v):
-    """The pairs pushed for the state's signature: one for each of its rows."""
-    return sum(row[0] == v['state'] for row in plain.rows(v))
+    """The pairs pushed for the state's signature: one for each of these rows."""
+    return len(pushed_rows(v))
 
 
 def pairs_room(v):

@@ -2,10 +2,9 @@
 from itertools import product
 
 import partitions
-import plain
-from refusals import RESULT, pushed
+from refusals import RESULT, pushed, pushed_rows
 
-OPERATIONS = ('strong_bisim_signature', 'branching_bisim_signature_inductive')
+OPERATIONS = ('strong_bisim_signature', 'branching_bisim_signature_inductive', 'branching_bisim_signature')
 # States and labels of the tables that are tried with every argument.
 SMALL = ((1, 1), (1, 2), (2, 1), (2, 2))
 
@@ -33,7 +32,7 @@ def pair_of(v, label, target):
 
 def distinct(v):
     """How many pairs a sound case leaves of those that are pushed."""
-    return len({pair_of(v, label, target) for source, label, target in plain.rows(v) if source == v['state']})
+    return len({pair_of(v, label, target) for _, label, target in pushed_rows(v)})
 
 
 def little_room(rng, v):

@@ -17,6 +17,7 @@ pub const OPERATIONS: &[(&str, Operation)] = &[
     ("is_tau_hat", is_tau_hat),
     ("strong_bisim_signature", strong_bisim_signature),
     ("branching_bisim_signature_inductive", branching_bisim_signature_inductive),
+    ("branching_bisim_signature", branching_bisim_signature),
 ];
 
 fn pair((label, block): (usize, usize)) -> (LabelIndex, BlockIndex) {
@@ -70,7 +71,7 @@ struct Given {
 /// Result and work slices.
 struct Slices {
     result: [Vec<usize>; 2],
-    work: [Vec<usize>; 4],
+    work: Vec<Vec<usize>>,
 }
 
 impl Given {
@@ -80,20 +81,41 @@ impl Given {
         Ok(Given { table, lent, state: line.number()? })
     }
 
-    fn accept(&self, slices: &Slices) -> Result<(), Stop> {
+    fn accept(&self, slices: &Slices, pushed: fn(&Given) -> usize) -> Result<(), Stop> {
         self.table.accept()?;
         slices.work.iter().try_for_each(|slice| self.table.accept_work(slice))?;
         self.lent.accept()?;
         self.lent.accept_state(self.state)?;
-        let pushed = self.table.outgoing(self.state);
+        let pushed = pushed(self);
         accept(slices.result.iter().all(|column| column.len() >= pushed))
+    }
+
+    /// A pair is pushed for each row of the state.
+    fn own(&self) -> usize {
+        self.table.outgoing(self.state)
+    }
+
+    /// A pair is pushed for each row of a state reached by hidden steps within the block, but for these steps.
+    fn outer(&self) -> usize {
+        let home = &self.lent.columns.element_to_block;
+        let inner = |row: &(usize, usize, usize)| row.1 == 0 && home[row.2] == home[self.state];
+        let mut reached = vec![false; self.table.n];
+        let mut open = vec![self.state];
+        while let Some(state) = open.pop() {
+            if !std::mem::replace(&mut reached[state], true) {
+                open.extend(self.table.rows().filter(|row| row.0 == state && inner(row)).map(|row| row.2));
+            }
+        }
+        self.table.rows().filter(|row| reached[row.0] && !inner(row)).count()
     }
 }
 
 impl Slices {
-    fn read(line: &mut Line) -> Result<Slices, Stop> {
+    /// Two result columns, and so many work slices.
+    fn read(line: &mut Line, works: usize) -> Result<Slices, Stop> {
         let result = [line.rows()?, line.rows()?];
-        Ok(Slices { result, work: [line.work()?, line.work()?, line.work()?, line.work()?] })
+        let work = (0..works).map(|_| line.work()).collect::<Result<_, _>>()?;
+        Ok(Slices { result, work })
     }
 
     /// The answer of a call that made this signature.
@@ -113,9 +135,10 @@ type System = LabelledTransitionSystem<String>;
 fn signed(
     given: &Given,
     slices: Slices,
+    pushed: fn(&Given) -> usize,
     call: impl FnOnce(StateIndex, &System, &BlockPartition, &mut SignatureBuilder),
 ) -> Result<String, Stop> {
-    given.accept(&slices)?;
+    given.accept(&slices, pushed)?;
     let (system, partition, state) = (given.table.system(), given.lent.partition(), StateIndex::new(given.state));
     let mut builder = SignatureBuilder::new();
     rust(|| call(state, &system, &partition, &mut builder))?;
@@ -123,17 +146,26 @@ fn signed(
 }
 
 fn strong_bisim_signature(line: &mut Line) -> Result<String, Stop> {
-    let (given, slices) = (Given::read(line)?, Slices::read(line)?);
+    let (given, slices) = (Given::read(line)?, Slices::read(line, 4)?);
     line.end()?;
-    signed(&given, slices, merc_reduction::strong_bisim_signature)
+    signed(&given, slices, Given::own, merc_reduction::strong_bisim_signature)
 }
 
 fn branching_bisim_signature_inductive(line: &mut Line) -> Result<String, Stop> {
-    let (given, keys, slices) = (Given::read(line)?, line.rows()?, Slices::read(line)?);
+    let (given, keys, slices) = (Given::read(line)?, line.rows()?, Slices::read(line, 4)?);
     line.end()?;
     accept(keys.len() >= given.table.n)?;
     let keys: Vec<_> = keys.into_iter().map(BlockIndex::new).collect();
-    signed(&given, slices, |state, system, partition, builder| {
+    signed(&given, slices, Given::own, |state, system, partition, builder| {
         merc_reduction::branching_bisim_signature_inductive(state, system, partition, &keys, builder)
+    })
+}
+
+fn branching_bisim_signature(line: &mut Line) -> Result<String, Stop> {
+    let (given, slices) = (Given::read(line)?, Slices::read(line, 6)?);
+    line.end()?;
+    signed(&given, slices, Given::outer, |state, system, partition, builder| {
+        let (mut visited, mut stack) = (Default::default(), Vec::new());
+        merc_reduction::branching_bisim_signature(state, system, partition, builder, &mut visited, &mut stack)
     })
 }

@@ -59,7 +59,7 @@ impl Table {
         accept(slice.len() > self.n + self.m)
     }
 
-    fn rows(&self) -> impl Iterator<Item = (usize, usize, usize)> + '_ {
+    pub fn rows(&self) -> impl Iterator<Item = (usize, usize, usize)> + '_ {
         (0..self.m).map(|row| (self.source[row], self.label[row], self.target[row]))
     }
 
