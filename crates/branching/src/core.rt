@@ -111,7 +111,7 @@ fn reach(
 
 // The pairs of the rows of x that are visible or lead to another block than b, behind the first d pairs. Returns the number of pairs
 // then.
-fn push_outer(
+pub fn push_outer(
     table: Table,
     source: &[u16],
     label: &[u16],

@@ -12,7 +12,14 @@ use crate::pairs::equal;
 use crate::pairs::shorter;
 
 // The first of the pairs from i to before n that is not below (label, block); n if there is none.
-fn pass_below(labels: &[u16], blocks: &[u16], n: usize, i: usize, label: u16, block: u16) -> usize
+pub fn pass_below(
+    labels: &[u16],
+    blocks: &[u16],
+    n: usize,
+    i: usize,
+    label: u16,
+    block: u16,
+) -> usize
     requires { ⌜ (i ≤ n) × (n ≤ length (now labels)) × (n ≤ length (now blocks)) ⌝ }
     ensures { λ r. ⌜ r ≡ notBelow (now (labels .entry)) (now (blocks .entry)) n i (label, block) ⌝ }
 {
@@ -27,7 +34,7 @@ fn pass_below(labels: &[u16], blocks: &[u16], n: usize, i: usize, label: u16, bl
 }
 
 // Whether k is below n and pair k is (label, block).
-fn stands(labels: &[u16], blocks: &[u16], n: usize, k: usize, label: u16, block: u16) -> bool
+pub fn stands(labels: &[u16], blocks: &[u16], n: usize, k: usize, label: u16, block: u16) -> bool
     requires { ⌜ (n ≤ length (now labels)) × (n ≤ length (now blocks)) ⌝ }
     ensures { λ r. ⌜ r ≡ (ltb k n && pairEq (pairAt (now (labels .entry)) (now (blocks .entry)) k) (label, block)) ⌝ }
 {

@@ -1,0 +1,106 @@
+// The union of two sets of pairs, where the first of them lies. No entry points.
+ghost use mathlib.Core.Path.{_≡_};
+ghost use Prim.Native.Nat.{_+_, _≤_};
+ghost use lib.ListN.{length};
+ghost use Rattle.columns.specs.Columns.{over};
+ghost use Rattle.columns.specs.Rows.{pairsOf, firstOf, lastOf};
+ghost use Rattle.columns.specs.Sets.{pairLt, Ascending, addAll};
+ghost use Rattle.inherited.specs.Union.{without};
+use subset::core::pass_below;
+use subset::core::stands;
+use subset::pairs::below;
+
+// Of the first e own pairs those that are not among the first r of the other columns, over their first cells. Returns how many.
+fn keep_new(
+    labels: &[u16],
+    blocks: &[u16],
+    r: usize,
+    own_labels: &mut [u16],
+    own_blocks: &mut [u16],
+    e: usize,
+) -> usize
+    requires { ⌜ (r ≤ length (now labels)) × (r ≤ length (now blocks)) × (e ≤ length (now «own_labels»)) × (e ≤ length (now «own_blocks»)) ⌝ }
+    requires { ⌜ Ascending pairLt (pairsOf r (now labels) (now blocks)) × Ascending pairLt (pairsOf e (now «own_labels») (now «own_blocks»)) ⌝ }
+    ensures { λ c. ⌜ (pairsOf c (now («own_labels» .exit)) (now («own_blocks» .exit)) ≡ without (pairsOf r (now (labels .entry)) (now (blocks .entry))) (pairsOf e (now («own_labels» .entry)) (now («own_blocks» .entry)))) × (c ≤ e) ⌝ }
+{
+    let mut i = 0;
+    let mut j = 0;
+    let mut c = 0;
+    while j < e {
+        let l = own_labels[j];
+        let b = own_blocks[j];
+        i = pass_below(labels, blocks, r, i, l, b);
+        if stands(labels, blocks, r, i, l, b) {
+            j += 1;
+        } else {
+            own_labels[c] = l;
+            own_blocks[c] = b;
+            c += 1;
+            j += 1;
+        }
+    }
+    c
+}
+
+// Whether the last of the first i pairs of the one is above the last of the first j of the other.
+fn above(
+    labels: &[u16],
+    blocks: &[u16],
+    i: usize,
+    own_labels: &[u16],
+    own_blocks: &[u16],
+    j: usize,
+) -> bool {
+    if i == 0 {
+        return false;
+    }
+    below(
+        own_labels[j - 1],
+        own_blocks[j - 1],
+        labels[i - 1],
+        blocks[i - 1],
+    )
+}
+
+// The first r pairs and the first c own pairs, none of which is among them, in order over the first r + c cells, from the last on.
+fn weave(
+    labels: &mut [u16],
+    blocks: &mut [u16],
+    r: usize,
+    own_labels: &[u16],
+    own_blocks: &[u16],
+    c: usize,
+) {
+    let mut i = r;
+    let mut j = c;
+    while 0 < j {
+        if above(&*labels, &*blocks, i, own_labels, own_blocks, j) {
+            labels[i + j - 1] = labels[i - 1];
+            blocks[i + j - 1] = blocks[i - 1];
+            i -= 1;
+        } else {
+            labels[i + j - 1] = own_labels[j - 1];
+            blocks[i + j - 1] = own_blocks[j - 1];
+            j -= 1;
+        }
+    }
+}
+
+// The set of the first r pairs and the first e own pairs over the first cells of the result columns. Returns how many there are. The
+// own columns are work space then.
+pub fn unite(
+    labels: &mut [u16],
+    blocks: &mut [u16],
+    r: usize,
+    own_labels: &mut [u16],
+    own_blocks: &mut [u16],
+    e: usize,
+) -> usize
+    requires { ⌜ (r + e ≤ length (now labels)) × (r + e ≤ length (now blocks)) × (e ≤ length (now «own_labels»)) × (e ≤ length (now «own_blocks»)) ⌝ }
+    requires { ⌜ Ascending pairLt (pairsOf r (now labels) (now blocks)) × Ascending pairLt (pairsOf e (now «own_labels») (now «own_blocks»)) ⌝ }
+    ensures { λ k. ⌜ (k ≡ length (addAll pairLt (pairsOf e (now («own_labels» .entry)) (now («own_blocks» .entry))) (pairsOf r (now (labels .entry)) (now (blocks .entry))))) × (now (labels .exit) ≡ over (firstOf (addAll pairLt (pairsOf e (now («own_labels» .entry)) (now («own_blocks» .entry))) (pairsOf r (now (labels .entry)) (now (blocks .entry))))) (now (labels .entry))) × (now (blocks .exit) ≡ over (lastOf (addAll pairLt (pairsOf e (now («own_labels» .entry)) (now («own_blocks» .entry))) (pairsOf r (now (labels .entry)) (now (blocks .entry))))) (now (blocks .entry))) ⌝ }
+{
+    let c = keep_new(&*labels, &*blocks, r, &mut *own_labels, &mut *own_blocks, e);
+    weave(labels, blocks, r, &*own_labels, &*own_blocks, c);
+    r + c
+}
