@@ -5,3 +5,6 @@ pub mod Unmarking
 pub mod Endings
 pub mod SixWorks
 pub mod BranchingSigs
+pub mod InertSteps
+pub mod Matches
+pub mod BranchingAlike

@@ -1,10 +1,13 @@
 // The union of two sets of pairs, where the first of them lies. No entry points.
 ghost use mathlib.Core.Path.{_≡_};
-ghost use Prim.Native.Nat.{_+_, _≤_};
+ghost use mathlib.Core.Bool.{_&&_};
+ghost use Prim.Native.Nat.{_+_, _-_, _≤_, _<_};
+ghost use lib.Dec.{ltb};
 ghost use lib.ListN.{length};
 ghost use Rattle.columns.specs.Columns.{over};
 ghost use Rattle.columns.specs.Rows.{pairsOf, firstOf, lastOf};
-ghost use Rattle.columns.specs.Sets.{pairLt, Ascending, addAll};
+ghost use Rattle.columns.specs.Sets.{Mem, Pair, pairLt, Ascending, addAll};
+ghost use Rattle.subset.specs.Pairs.{pairAt};
 ghost use Rattle.inherited.specs.Union.{without};
 use subset::core::pass_below;
 use subset::core::stands;
@@ -50,7 +53,10 @@ fn above(
     own_labels: &[u16],
     own_blocks: &[u16],
     j: usize,
-) -> bool {
+) -> bool
+    requires { ⌜ (i ≤ length (now labels)) × (i ≤ length (now blocks)) × (0 < j) × (j ≤ length (now «own_labels»)) × (j ≤ length (now «own_blocks»)) ⌝ }
+    ensures { λ t. ⌜ t ≡ (ltb 0 i && pairLt (pairAt (now («own_labels» .entry)) (now («own_blocks» .entry)) (j - 1)) (pairAt (now (labels .entry)) (now (blocks .entry)) (i - 1))) ⌝ }
+{
     if i == 0 {
         return false;
     }
@@ -70,18 +76,24 @@ fn weave(
     own_labels: &[u16],
     own_blocks: &[u16],
     c: usize,
-) {
+)
+    requires { ⌜ (r + c ≤ length (now labels)) × (r + c ≤ length (now blocks)) × (c ≤ length (now «own_labels»)) × (c ≤ length (now «own_blocks»)) ⌝ }
+    requires { ⌜ Ascending pairLt (pairsOf r (now labels) (now blocks)) × Ascending pairLt (pairsOf c (now «own_labels») (now «own_blocks»)) ⌝ }
+    requires { ⌜ ((x : Pair) → Mem x (pairsOf c (now «own_labels») (now «own_blocks»)) → Mem x (pairsOf r (now labels) (now blocks)) → ⊥) ⌝ }
+    ensures { λ _. ⌜ (r + c ≡ length (addAll pairLt (pairsOf c (now («own_labels» .entry)) (now («own_blocks» .entry))) (pairsOf r (now (labels .entry)) (now (blocks .entry))))) × (now (labels .exit) ≡ over (firstOf (addAll pairLt (pairsOf c (now («own_labels» .entry)) (now («own_blocks» .entry))) (pairsOf r (now (labels .entry)) (now (blocks .entry))))) (now (labels .entry))) × (now (blocks .exit) ≡ over (lastOf (addAll pairLt (pairsOf c (now («own_labels» .entry)) (now («own_blocks» .entry))) (pairsOf r (now (labels .entry)) (now (blocks .entry))))) (now (blocks .entry))) ⌝ }
+{
     let mut i = r;
     let mut j = c;
     while 0 < j {
+        let t = i + j - 1;
         if above(&*labels, &*blocks, i, own_labels, own_blocks, j) {
-            labels[i + j - 1] = labels[i - 1];
-            blocks[i + j - 1] = blocks[i - 1];
             i -= 1;
+            labels[t] = labels[i];
+            blocks[t] = blocks[i];
         } else {
-            labels[i + j - 1] = own_labels[j - 1];
-            blocks[i + j - 1] = own_blocks[j - 1];
             j -= 1;
+            labels[t] = own_labels[j];
+            blocks[t] = own_blocks[j];
         }
     }
 }

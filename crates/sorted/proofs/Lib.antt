@@ -1,0 +1,13 @@
+pub mod FlatMaps
+pub mod SortedSigs
+pub mod Right
+pub mod Chosen
+pub mod Openings
+pub mod Turning
+pub mod Counted
+pub mod SortedAlike
+pub mod Examples
+pub mod Refused
+pub mod Pushed
+pub mod Joined
+pub mod Works

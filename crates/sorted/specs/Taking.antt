@@ -7,8 +7,10 @@ use lib.Dec.{eqb}
 use lib.ListN.{length, getD}
 use Rattle.columns.specs.Answers.{Said, done, refused}
 use Rattle.columns.specs.Counting.{members}
-use Rattle.columns.specs.Sets.{Pair}
-use Rattle.inherited.specs.Merged.{wide}
+use Rattle.columns.specs.Rows.{pairsOf}
+use Rattle.columns.specs.Sets.{Pair, pairLt, addAll}
+use Rattle.inherited.specs.Merged.{Heads, wide}
+use Rattle.inherited.specs.Rest.{mergeOf}
 use Rattle.signatures.specs.Inductive.{inertb}
 use Rattle.signatures.specs.Pairs.{Columns, fits, pairsOver}
 use Rattle.signatures.specs.Signing.{Left, cleared}
@@ -30,6 +32,11 @@ pub record Opened (starts states : List ℕ) (k : ℕ) (high low endHigh endLow 
   pub count : k ≡ length states
   pub place : (j : ℕ) → j < k → wide high low j ≡ startAt starts (getD states j 0)
   pub end : (j : ℕ) → j < k → wide endHigh endLow j ≡ startAt starts (getD states j 0 + 1)
+
+-- the first own pairs, and those of k lists, as a set
+unfoldable pub joined : ℕ → List ℕ → List ℕ → Heads → ℕ → List Pair
+unfolding addAll pairLt pairsOf mergeOf
+joined own labels blocks d k = addAll pairLt (pairsOf own labels blocks) (mergeOf d k)
 
 -- a signature is written, or 16 where there is no room for what was pushed
 unfoldable pub finishing : ℕ → List Pair → Columns → List (List ℕ) → Said × Left

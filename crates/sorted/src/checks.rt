@@ -31,7 +31,7 @@ pub fn sorted_refusal(
     blocks: &[u16],
     room: bool,
 ) -> Refusal
-    requires { ⌜ room ≡ true → table .n + 1 ≤ length (now starts) ⌝ }
+    requires { ⌜ (room ≡ true → table .n + 1 ≤ length (now starts)) ⌝ }
     ensures { λ r. ⌜ r ≡ sortedRefusal (lts table (now (source .entry)) (now (label .entry)) (now (target .entry))) (parts (now (elements .entry)) (now («element_offset» .entry)) (now («element_to_block» .entry)) (now (begin .entry)) (now («marked_split» .entry)) (now (end .entry)) (table .n) count) state (flat (now (starts .entry)) (now (labels .entry)) (now (blocks .entry))) room ⌝ }
 {
     let t = signature_refusal(

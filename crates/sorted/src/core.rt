@@ -7,11 +7,11 @@ ghost use Rattle.branching.specs.Visiting.{outerPairs};
 ghost use Rattle.columns.specs.Answers.{saidNumber};
 ghost use Rattle.columns.specs.Columns.{zeros};
 ghost use Rattle.columns.specs.Rows.{pairsOf};
-ghost use Rattle.columns.specs.Sets.{pairLt, Ascending, addAll};
+ghost use Rattle.columns.specs.Sets.{pairLt, Ascending};
 ghost use Rattle.inherited.specs.Merged.{heads};
-ghost use Rattle.inherited.specs.Rest.{leftIn, mergeOf, Ready};
-ghost use Rattle.signatures.specs.Pairs.{signature};
-ghost use Rattle.sorted.specs.Taking.{innerTargets, Opened, finishing};
+ghost use Rattle.inherited.specs.Rest.{leftIn, Ready};
+ghost use Rattle.signatures.specs.Pairs.{signature, pairsOver};
+ghost use Rattle.sorted.specs.Taking.{innerTargets, Opened, joined, finishing};
 ghost use Rattle.table.specs.Lts.{lts, Valid};
 use crate::opening::open_lists;
 use branching::core::push_outer;
@@ -122,6 +122,43 @@ fn wipe_all(
     clear(g);
 }
 
+// The own pairs and those of the lists, as a set over the first cells of `labels` and `blocks`. Returns how many there are. The other
+// slices are work space then.
+fn join(
+    given_labels: &[u16],
+    given_blocks: &[u16],
+    labels: &mut [u16],
+    blocks: &mut [u16],
+    own_labels: &mut [u16],
+    own_blocks: &mut [u16],
+    own: usize,
+    high: &mut [u16],
+    low: &mut [u16],
+    end_high: &mut [u16],
+    end_low: &mut [u16],
+    tree: &mut [u16],
+    lists: usize,
+) -> usize
+    requires { ⌜ (lists ≤ 16384) × (2 * lists ≤ length (now tree)) × (own ≤ length (now «own_labels»)) × (own ≤ length (now «own_blocks»)) ⌝ }
+    requires { ⌜ Ready (heads (now «given_labels») (now «given_blocks») (now high) (now low) (now «end_high») (now «end_low»)) lists × Ascending pairLt (pairsOf own (now «own_labels») (now «own_blocks»)) ⌝ }
+    requires { ⌜ (own + leftIn (heads (now «given_labels») (now «given_blocks») (now high) (now low) (now «end_high») (now «end_low»)) lists ≤ length (now labels)) × (own + leftIn (heads (now «given_labels») (now «given_blocks») (now high) (now low) (now «end_high») (now «end_low»)) lists ≤ length (now blocks)) ⌝ }
+    ensures { λ r. ⌜ (r ≡ length (joined own (now («own_labels» .entry)) (now («own_blocks» .entry)) (heads (now («given_labels» .entry)) (now («given_blocks» .entry)) (now (high .entry)) (now (low .entry)) (now («end_high» .entry)) (now («end_low» .entry))) lists)) × ((now (labels .exit), now (blocks .exit)) ≡ pairsOver (joined own (now («own_labels» .entry)) (now («own_blocks» .entry)) (heads (now («given_labels» .entry)) (now («given_blocks» .entry)) (now (high .entry)) (now (low .entry)) (now («end_high» .entry)) (now («end_low» .entry))) lists) (now (labels .entry), now (blocks .entry))) ⌝ }
+{
+    let r = merge_front(
+        given_labels,
+        given_blocks,
+        high,
+        low,
+        end_high,
+        end_low,
+        tree,
+        lists,
+        &mut *labels,
+        &mut *blocks,
+    );
+    unite(labels, blocks, r, own_labels, own_blocks, own)
+}
+
 // The own pairs and those of the lists, as a set over the first cells of `labels` and `blocks`, or 16 where they have no room for all
 // that is pushed. Every cell of the seven work slices is zero then.
 pub fn finish(
@@ -141,32 +178,27 @@ pub fn finish(
     requires { ⌜ (taken .lists ≤ 16384) × (2 * taken .lists ≤ length (now tree)) × (taken .own ≤ length (now «own_labels»)) × (taken .own ≤ length (now «own_blocks»)) ⌝ }
     requires { ⌜ Ready (heads (now «given_labels») (now «given_blocks») (now high) (now low) (now «end_high») (now «end_low»)) (taken .lists) × Ascending pairLt (pairsOf (taken .own) (now «own_labels») (now «own_blocks»)) ⌝ }
     requires { ⌜ taken .own + leftIn (heads (now «given_labels») (now «given_blocks») (now high) (now low) (now «end_high») (now «end_low»)) (taken .lists) ≤ taken .pushed ⌝ }
-    ensures { λ r. ⌜ (saidNumber r, ((now (labels .exit), now (blocks .exit)), now («own_labels» .exit) ∷ now («own_blocks» .exit) ∷ now (high .exit) ∷ now (low .exit) ∷ now («end_high» .exit) ∷ now («end_low» .exit) ∷ now (tree .exit) ∷ [])) ≡ finishing (taken .pushed) (addAll pairLt (pairsOf (taken .own) (now («own_labels» .entry)) (now («own_blocks» .entry))) (mergeOf (heads (now («given_labels» .entry)) (now («given_blocks» .entry)) (now (high .entry)) (now (low .entry)) (now («end_high» .entry)) (now («end_low» .entry))) (taken .lists))) (now (labels .entry), now (blocks .entry)) (now («own_labels» .entry) ∷ now («own_blocks» .entry) ∷ now (high .entry) ∷ now (low .entry) ∷ now («end_high» .entry) ∷ now («end_low» .entry) ∷ now (tree .entry) ∷ []) ⌝ }
+    ensures { λ r. ⌜ (saidNumber r, ((now (labels .exit), now (blocks .exit)), now («own_labels» .exit) ∷ now («own_blocks» .exit) ∷ now (high .exit) ∷ now (low .exit) ∷ now («end_high» .exit) ∷ now («end_low» .exit) ∷ now (tree .exit) ∷ [])) ≡ finishing (taken .pushed) (joined (taken .own) (now («own_labels» .entry)) (now («own_blocks» .entry)) (heads (now («given_labels» .entry)) (now («given_blocks» .entry)) (now (high .entry)) (now (low .entry)) (now («end_high» .entry)) (now («end_low» .entry))) (taken .lists)) (now (labels .entry), now (blocks .entry)) (now («own_labels» .entry) ∷ now («own_blocks» .entry) ∷ now (high .entry) ∷ now (low .entry) ∷ now («end_high» .entry) ∷ now («end_low» .entry) ∷ now (tree .entry) ∷ []) ⌝ }
 {
     let pushed = taken.pushed;
     if !has_room(pushed, labels.len(), blocks.len()) {
         wipe_all(own_labels, own_blocks, high, low, end_high, end_low, tree);
         return refusing_number(refuse(16, pushed as u64));
     }
-    let r = merge_front(
+    let k = join(
         given_labels,
         given_blocks,
+        labels,
+        blocks,
+        &mut *own_labels,
+        &mut *own_blocks,
+        taken.own,
         &mut *high,
         &mut *low,
         &mut *end_high,
         &mut *end_low,
         &mut *tree,
         taken.lists,
-        &mut *labels,
-        &mut *blocks,
-    );
-    let k = unite(
-        labels,
-        blocks,
-        r,
-        &mut *own_labels,
-        &mut *own_blocks,
-        taken.own,
     );
     wipe_all(own_labels, own_blocks, high, low, end_high, end_low, tree);
     number(k as u64)

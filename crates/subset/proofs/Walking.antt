@@ -38,6 +38,24 @@ module _ (f : ℕ → Pair) (i : ℕ) (x : Pair) where
       let k = first n stays in
       not-true (pairLt (f k) x) (and-right (leb i k) (not (pairLt (f k) x)) (first-law n stays .hit l))
 
+  -- all before i are below x, and r is the first from i on that is not
+  module _ (n : ℕ) (passed : (k : ℕ) → k < i → pairLt (f k) x ≡ true) (r : ℕ) (er : r ≡ first n stays) where
+    pub under : (k : ℕ) → k < r → pairLt (f k) x ≡ true
+    under k l = ⊎-elim (λ (a : k < i). passed k a) (λ (a : i ≤ k). passed-below n k a (omega (arith, er))) (lt-or-le k i)
+
+    -- no pair of f is x
+    pub absent : Rising pairLt n f → (ltb r n && pairEq (f r) x) ≡ false → (k : ℕ) → k < n → f k ≡ x → ⊥
+    absent up e k l q =
+        ⊎-elim (λ (a : k < r). contra (under k a) (ap (λ (y : Pair). pairLt y x) q ∙ pair-order .irrefl x))
+        (λ (a : r ≤ k).
+        ⊎-elim
+        (λ (z : r ≡ k).
+        contra (and-both (lt-ltb r n (omega arith)) (ap (λ (t : ℕ). pairEq (f t) x) z ∙ (ap (λ (y : Pair). pairEq y x) q ∙ pairEq-refl x))) e)
+        (λ (z : r < k).
+        contra (sym (ap (pairLt (f r)) q) ∙ up r k z l) (ap (λ (t : ℕ). pairLt (f t) x) er ∙ stopped n (omega (arith, er))))
+        (eq-or-lt-of-le a))
+        (lt-or-le k r)
+
 -- an index that was found to stand for a pair is below the end
 pub stands-below : (r n : ℕ) (found p : Bool) → found ≡ (ltb r n && p) → not found ≡ false → r < n
 stands-below r n found p e h = ltb-true r n (and-left (ltb r n) p (sym e ∙ not-false found h))
@@ -73,10 +91,8 @@ module _ (n m : ℕ) (f g : ℕ → Pair) (x : Pair) where
 
     -- r is the first from i on that is not below the wanted pair
     module _ (r : ℕ) (er : r ≡ first n (stays f i (g j))) where
-      under : (k : ℕ) → k < r → pairLt (f k) (g j) ≡ true
-      under k l =
-          ⊎-elim (λ (a : k < i). w .passed k j a (omega arith) h) (λ (a : i ≤ k). passed-below f i (g j) n k a (omega (arith, er)))
-          (lt-or-le k i)
+      before : (k : ℕ) → k < i → pairLt (f k) (g j) ≡ true
+      before k a = w .passed k j a (omega arith) h
 
       pub walk-found : Rising pairLt m g → (ltb r n && pairEq (f r) (g j)) ≡ true → Walk n m f g x (r + 1) (j + 1)
       walk-found up e =
@@ -90,27 +106,11 @@ module _ (n m : ℕ) (f g : ℕ → Pair) (x : Pair) where
             passed = λ k s c d v.
                 let next : pairLt (g j) (g s) ≡ true = up j s (omega (arith, d)) v in
                 ⊎-elim (λ (z : k ≡ r). ap (λ (t : ℕ). pairLt (f t) (g s)) z ∙ (ap (λ (y : Pair). pairLt y (g s)) (pairEq-eq (f r) (g j) b) ∙ next))
-                (λ (z : k < r). pair-order .trans (f k) (g j) (g s) (under k z) next) (top-or-below (omega (arith, c)));
+                (λ (z : k < r). pair-order .trans (f k) (g j) (g s) (under f i (g j) n before r er k z) next) (top-or-below (omega (arith, c)));
           }
-
-      -- no pair of f is the wanted one
-      absent : Rising pairLt n f → (ltb r n && pairEq (f r) (g j)) ≡ false → (k : ℕ) → k < n → f k ≡ g j → ⊥
-      absent up e k l q =
-          ⊎-elim (λ (a : k < r). contra (under k a) (ap (λ (y : Pair). pairLt y (g j)) q ∙ pair-order .irrefl (g j)))
-          (λ (a : r ≤ k).
-          ⊎-elim
-          (λ (z : r ≡ k).
-          contra
-          (and-both (lt-ltb r n (omega arith))
-          (ap (λ (t : ℕ). pairEq (f t) (g j)) z ∙ (ap (λ (y : Pair). pairEq y (g j)) q ∙ pairEq-refl (g j)))) e)
-          (λ (z : r < k).
-          contra (sym (ap (pairLt (f r)) q) ∙ up r k z l)
-          (ap (λ (t : ℕ). pairLt (f t) (g j)) er ∙ stopped f i (g j) n (omega (arith, er))))
-          (eq-or-lt-of-le a))
-          (lt-or-le k r)
 
       pub walk-missing : Rising pairLt n f → pairEq (g j) x ≡ false → (ltb r n && pairEq (f r) (g j)) ≡ false → false ≡ all m (kept n f g x)
       walk-missing up a e =
           sym
           (all-fails (kept n f g x) m j h
-          (rw a (some-none n (λ i. pairEq (f i) (g j)) (λ k l. fails (λ q. absent up e k l (pairEq-eq (f k) (g j) q))))))
+          (rw a (some-none n (λ i. pairEq (f i) (g j)) (λ k l. fails (λ q. absent f i (g j) n before r er up e k l (pairEq-eq (f k) (g j) q))))))

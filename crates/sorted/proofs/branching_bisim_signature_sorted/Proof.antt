@@ -1,0 +1,269 @@
+-- `branching_bisim_signature_sorted` meets its contract.
+use borrow.Author.Needs.{needs}
+use borrow.Author.Tests.{leb-true}
+use native.Mathlib.Omega.{arith}
+use Prim.Native.Nat.{ℕ, _+_, _≤_}
+use mathlib.Core.Path.{_≡_, refl, sym, ap, ap₂, _∙_}
+use mathlib.Core.Bool.{Bool, _&&_}
+use mathlib.Core.List.{List, [], _∷_}
+use lib.Dec.{leb}
+use lib.ListN.{length, getD}
+use Rattle.branching.specs.Visiting.{outerPairs}
+use Rattle.columns.specs.declared.answers.Refusal.{Refusal}
+use Rattle.columns.specs.Answers.{refused}
+use Rattle.columns.specs.Sets.{Pair, pairLt, addAll}
+use Rattle.columns.proofs.Bools.{and-left, and-right}
+use Rattle.inherited.specs.Merged.{Heads, heads}
+use Rattle.inherited.specs.Rest.{leftIn, mergeOf}
+use Rattle.inherited.specs.Rest as Rest
+use Rattle.inherited.proofs.Joins.{left-alike}
+use Rattle.partition.specs.Partition.{Partition, parts}
+use Rattle.signatures.specs.Pairs.{Columns, signature}
+use Rattle.signatures.specs.Signing.{allLong, roomy}
+use Rattle.signatures.proofs.Outcomes.{signing-refused}
+use Rattle.subset.specs.Lists.{listAt}
+use Rattle.table.specs.Lts.{Lts, lts, Valid}
+use Rattle.sorted.specs.Sorted.{Given, flat, sortedPushed, sortedSignature, sortedRefusal, branchingBisimSignatureSorted}
+use Rattle.sorted.specs.Taking.{joined}
+use Rattle.sorted.proofs.Counted.{sorted-count, sorted-set}
+use Rattle.sorted.proofs.Openings.{few-lists, lists-ready}
+use Rattle.sorted.proofs.Pushed.{few-outer, set-few, set-ascending}
+use Rattle.sorted.proofs.Refused.{Ready, sorted-ready}
+use Rattle.sorted.proofs.Works.{seven-alike, seven-long, Roomy, roomy-of, finish-signing}
+use Rattle.sorted.proofs.branching_bisim_signature_sorted.Statement.{statement}
+use Rattle.sorted.proofs.branching_bisim_signature_sorted.Tie as tie
+
+-- the table, the partition and the lists that are lent, the columns of the result, and the work slices
+abbrev L : tie.Start → Lts
+L a = lts (a .args .table) (a .args .source .now) (a .args .label .now) (a .args .target .now)
+
+abbrev P : tie.Start → Partition
+P a =
+    parts (a .args .elements .now) (a .args .element-offset .now) (a .args .element-to-block .now) (a .args .begin .now)
+    (a .args .marked-split .now) (a .args .end .now) (a .args .table .n) (a .args .count)
+
+abbrev G : tie.Start → Given
+G a = flat (a .args .starts .now) (a .args .given-labels .now) (a .args .given-blocks .now)
+
+abbrev Out : tie.Start → Columns
+Out a = (a .args .labels .now, a .args .blocks .now)
+
+abbrev Works : tie.Start → List (List ℕ)
+Works a =
+    a .args .own-labels .now ∷ a .args .own-blocks .now ∷ a .args .high .now ∷ a .args .low .now ∷ a .args .end-high .now
+    ∷ a .args .end-low .now ∷ a .args .tree .now ∷ []
+
+abbrev Starts : tie.Start → Bool
+Starts a = leb (a .args .table .n + 1) (length (a .args .starts .now))
+
+abbrev Room : tie.Start → Bool
+Room a = Starts a && roomy (L a) (Works a)
+
+abbrev R : tie.Start → Refusal
+R a = sortedRefusal (L a) (P a) (a .args .state) (G a) (Room a)
+
+abbrev Pushed : tie.Start → List Pair
+Pushed a =
+    sortedPushed (L a) (a .args .element-to-block .now) (listAt (a .args .starts .now) (a .args .given-labels .now) (a .args .given-blocks .now))
+    (a .args .state)
+
+-- the checks have answered R
+answered : (q : tie.After-sorted-refusal) → q .sorted-refusal .result ≡ R (q .before .before .before .before .before .before .before .before .before .before .before .before .before .before .before .before .before .before .before .before .before .before .before .before .before)
+unfolding roomy
+answered q =
+    let a = q .before .before .before .before .before .before .before .before .before .before .before .before .before .before .before .before .before .before .before .before .before .before .before .before .before in
+    q .sorted-refusal .ensures
+    ∙ ap (λ (b : Bool). sortedRefusal (L a) (P a) (a .args .state) (G a) (Starts a && b))
+    (ap₂ (λ (x y : Bool). x && y) (q .before .before .before .roomy .ensures) (q .before .before .roomy2 .ensures)
+    ∙ seven-long (a .args .table .n + a .args .table .m + 1) (length (a .args .own-labels .now)) (length (a .args .own-blocks .now))
+    (length (a .args .high .now)) (length (a .args .low .now)) (length (a .args .end-high .now)) (length (a .args .end-low .now))
+    (length (a .args .tree .now)))
+
+-- and where they refuse nothing
+module _ (q : tie.After-sorted-refusal) (z : q .sorted-refusal .result .number ≡ 0) where
+  ready : Ready (L (q .before .before .before .before .before .before .before .before .before .before .before .before .before .before .before .before .before .before .before .before .before .before .before .before .before)) (P (q .before .before .before .before .before .before .before .before .before .before .before .before .before .before .before .before .before .before .before .before .before .before .before .before .before)) (q .before .before .before .before .before .before .before .before .before .before .before .before .before .before .before .before .before .before .before .before .before .before .before .before .before .args .state) (G (q .before .before .before .before .before .before .before .before .before .before .before .before .before .before .before .before .before .before .before .before .before .before .before .before .before)) (Room (q .before .before .before .before .before .before .before .before .before .before .before .before .before .before .before .before .before .before .before .before .before .before .before .before .before))
+  ready = sorted-ready (L (q .before .before .before .before .before .before .before .before .before .before .before .before .before .before .before .before .before .before .before .before .before .before .before .before .before)) (P (q .before .before .before .before .before .before .before .before .before .before .before .before .before .before .before .before .before .before .before .before .before .before .before .before .before)) (q .before .before .before .before .before .before .before .before .before .before .before .before .before .before .before .before .before .before .before .before .before .before .before .before .before .args .state) (G (q .before .before .before .before .before .before .before .before .before .before .before .before .before .before .before .before .before .before .before .before .before .before .before .before .before)) (Room (q .before .before .before .before .before .before .before .before .before .before .before .before .before .before .before .before .before .before .before .before .before .before .before .before .before)) refl _ (answered q) z
+
+  started : q .before .before .before .before .before .before .before .before .before .before .before .before .before .before .before .before .before .before .before .before .before .before .before .before .before .args .table .n + 1 ≤ length (q .before .before .before .before .before .before .before .before .before .before .before .before .before .before .before .before .before .before .before .before .before .before .before .before .before .args .starts .now)
+  started = leb-true _ _ (and-left (Starts (q .before .before .before .before .before .before .before .before .before .before .before .before .before .before .before .before .before .before .before .before .before .before .before .before .before)) (roomy (L (q .before .before .before .before .before .before .before .before .before .before .before .before .before .before .before .before .before .before .before .before .before .before .before .before .before)) (Works (q .before .before .before .before .before .before .before .before .before .before .before .before .before .before .before .before .before .before .before .before .before .before .before .before .before))) (ready .enough))
+
+  wide :
+      Roomy (L (q .before .before .before .before .before .before .before .before .before .before .before .before .before .before .before .before .before .before .before .before .before .before .before .before .before)) (q .before .before .before .before .before .before .before .before .before .before .before .before .before .before .before .before .before .before .before .before .before .before .before .before .before .args .own-labels .now) (q .before .before .before .before .before .before .before .before .before .before .before .before .before .before .before .before .before .before .before .before .before .before .before .before .before .args .own-blocks .now) (q .before .before .before .before .before .before .before .before .before .before .before .before .before .before .before .before .before .before .before .before .before .before .before .before .before .args .high .now) (q .before .before .before .before .before .before .before .before .before .before .before .before .before .before .before .before .before .before .before .before .before .before .before .before .before .args .low .now)
+      (q .before .before .before .before .before .before .before .before .before .before .before .before .before .before .before .before .before .before .before .before .before .before .before .before .before .args .end-high .now) (q .before .before .before .before .before .before .before .before .before .before .before .before .before .before .before .before .before .before .before .before .before .before .before .before .before .args .end-low .now) (q .before .before .before .before .before .before .before .before .before .before .before .before .before .before .before .before .before .before .before .before .before .before .before .before .before .args .tree .now)
+  wide =
+      roomy-of (L (q .before .before .before .before .before .before .before .before .before .before .before .before .before .before .before .before .before .before .before .before .before .before .before .before .before)) (q .before .before .before .before .before .before .before .before .before .before .before .before .before .before .before .before .before .before .before .before .before .before .before .before .before .args .own-labels .now) (q .before .before .before .before .before .before .before .before .before .before .before .before .before .before .before .before .before .before .before .before .before .before .before .before .before .args .own-blocks .now) (q .before .before .before .before .before .before .before .before .before .before .before .before .before .before .before .before .before .before .before .before .before .before .before .before .before .args .high .now) (q .before .before .before .before .before .before .before .before .before .before .before .before .before .before .before .before .before .before .before .before .before .before .before .before .before .args .low .now)
+      (q .before .before .before .before .before .before .before .before .before .before .before .before .before .before .before .before .before .before .before .before .before .before .before .before .before .args .end-high .now) (q .before .before .before .before .before .before .before .before .before .before .before .before .before .before .before .before .before .before .before .before .before .before .before .before .before .args .end-low .now) (q .before .before .before .before .before .before .before .before .before .before .before .before .before .before .before .before .before .before .before .before .before .before .before .before .before .args .tree .now)
+      (and-right (Starts (q .before .before .before .before .before .before .before .before .before .before .before .before .before .before .before .before .before .before .before .before .before .before .before .before .before)) (roomy (L (q .before .before .before .before .before .before .before .before .before .before .before .before .before .before .before .before .before .before .before .before .before .before .before .before .before)) (Works (q .before .before .before .before .before .before .before .before .before .before .before .before .before .before .before .before .before .before .before .before .before .before .before .before .before))) (ready .enough))
+
+-- once the lists are taken
+module _ (q : tie.After-take) where
+  abbrev A : tie.Start
+  A = q .before .before .before .before .before .before .before .before .before .before .before .before .before .before .before .before .before .before .before .before .before .before .before .before .before .before .before .before .before .before .before .before .before
+
+  -- the state's own pairs
+  abbrev Own : List Pair
+  Own = outerPairs (L A) (A .args .element-to-block .now) (getD (A .args .element-to-block .now) (A .args .state) 0) (A .args .state)
+
+  -- the heads of the lists
+  abbrev D : Heads
+  D =
+      heads (A .args .given-labels .now) (A .args .given-blocks .now) (q .take .last .1 .1 .1 .1 .1 .1 .1 .1 .1 .0) (q .take .last .1 .1 .1 .1 .1 .1 .1 .1 .1 .1 .0) (q .take .last .1 .1 .1 .1 .1 .1 .1 .1 .1 .1 .1 .0)
+      (q .take .last .1 .1 .1 .1 .1 .1 .1 .1 .1 .1 .1 .1 .0)
+
+  no-refusal : R A .number ≡ 0
+  no-refusal = sym (ap (λ (r : Refusal). r .number) (answered (q .before .before .before .before .before .before .before .before))) ∙ q .before .before .before .before .before .before .before .if1 .left
+
+  valid : Valid (L A)
+  valid = ready (q .before .before .before .before .before .before .before .before) (q .before .before .before .before .before .before .before .if1 .left) .valid
+
+  room : Roomy (L A) (A .args .own-labels .now) (A .args .own-blocks .now) (A .args .high .now) (A .args .low .now) (A .args .end-high .now) (A .args .end-low .now) (A .args .tree .now)
+  room = wide (q .before .before .before .before .before .before .before .before) (q .before .before .before .before .before .before .before .if1 .left)
+
+  taken-few :
+      (q .take .result .lists ≤ A .args .table .n) × (q .take .result .lists ≤ A .args .table .m) × (q .take .result .own ≤ A .args .table .m)
+      × (q .take .result .own + leftIn D (q .take .result .lists) ≤ length Own + leftIn (heads [] [] (q .take .last .1 .1 .1 .1 .1 .1 .1 .1 .1 .0) (q .take .last .1 .1 .1 .1 .1 .1 .1 .1 .1 .1 .0) (q .take .last .1 .1 .1 .1 .1 .1 .1 .1 .1 .1 .1 .0) (q .take .last .1 .1 .1 .1 .1 .1 .1 .1 .1 .1 .1 .1 .0)) (q .take .result .lists))
+  taken-few =
+      let f = few-lists (L A) valid (A .args .element-to-block .now) (A .args .state) in
+      let k = q .take .ensures .1 .0 .count in
+      let o = set-few _ Own _ _ (q .take .ensures .0) in
+      let l = left-alike (A .args .given-labels .now) (A .args .given-blocks .now) (q .take .last .1 .1 .1 .1 .1 .1 .1 .1 .1 .0) (q .take .last .1 .1 .1 .1 .1 .1 .1 .1 .1 .1 .0) (q .take .last .1 .1 .1 .1 .1 .1 .1 .1 .1 .1 .1 .0) (q .take .last .1 .1 .1 .1 .1 .1 .1 .1 .1 .1 .1 .1 .0) (q .take .result .lists) in (
+        omega (arith, f .0, k),
+        omega (arith, f .1, k),
+        omega (arith, o, few-outer (L A) (A .args .element-to-block .now) (getD (A .args .element-to-block .now) (A .args .state) 0) (A .args .state)),
+        omega (arith, o, l),
+      )
+
+  heads-ready : Rest.Ready D (q .take .result .lists)
+  heads-ready =
+      let k = taken-few .1 in
+      lists-ready (L A) valid (A .args .element-to-block .now) (A .args .state) (A .args .given-labels .now) (A .args .given-blocks .now)
+      (ready (q .before .before .before .before .before .before .before .before) (q .before .before .before .before .before .before .before .if1 .left) .lists) _ _ _ _ _ (q .take .ensures .1 .0)
+      (omega (arith, k, room .third, q .take .kept .1 .1 .1 .1 .1 .1 .1 .1 .1 .0)) (omega (arith, k, room .fourth, q .take .kept .1 .1 .1 .1 .1 .1 .1 .1 .1 .1 .0))
+      (omega (arith, k, room .fifth, q .take .kept .1 .1 .1 .1 .1 .1 .1 .1 .1 .1 .1 .0)) (omega (arith, k, room .sixth, q .take .kept .1 .1 .1 .1 .1 .1 .1 .1 .1 .1 .1 .1 .0))
+
+  pushed-count : q .take .result .pushed ≡ length (Pushed A)
+  pushed-count =
+      q .take .ensures .1 .1
+      ∙ ap (λ (k : ℕ). length Own + k) (left-alike (A .args .given-labels .now) (A .args .given-blocks .now) (q .take .last .1 .1 .1 .1 .1 .1 .1 .1 .1 .0) (q .take .last .1 .1 .1 .1 .1 .1 .1 .1 .1 .1 .0) (q .take .last .1 .1 .1 .1 .1 .1 .1 .1 .1 .1 .1 .0) (q .take .last .1 .1 .1 .1 .1 .1 .1 .1 .1 .1 .1 .1 .0) (q .take .result .lists))
+      ∙ sorted-count (L A) (A .args .element-to-block .now) (A .args .state) (A .args .starts .now) (A .args .given-labels .now)
+      (A .args .given-blocks .now) _ _ _ _ _ (q .take .ensures .1 .0)
+
+  set-of : joined (q .take .result .own) (q .take .last .1 .1 .1 .1 .1 .1 .1 .0) (q .take .last .1 .1 .1 .1 .1 .1 .1 .1 .0) D (q .take .result .lists) ≡ signature (Pushed A)
+  unfolding joined sortedSignature
+  set-of =
+      ap (λ (l : List Pair). addAll pairLt l (mergeOf D (q .take .result .lists))) (q .take .ensures .0)
+      ∙ sorted-set (L A) (A .args .element-to-block .now) (A .args .state) (A .args .starts .now) (A .args .given-labels .now)
+      (A .args .given-blocks .now) _ _ _ _ _ (q .take .ensures .1 .0)
+
+roomy-requires : tie.Need-roomy-requires
+roomy-requires c κs = search needs
+
+roomy-requires-2 : tie.Need-roomy-requires-2
+roomy-requires-2 c κs = search needs
+
+cast-lists : tie.Need-cast-lists
+cast-lists c = search needs
+
+add-lists : tie.Need-add-lists
+add-lists c = search needs
+
+sorted-refusal-requires : tie.Need-sorted-refusal-requires
+sorted-refusal-requires c κs e = leb-true _ _ (and-left (Starts (c .before .before .before .before .before .before .before .before .before .before .before .before .before .before .before .before .before .before .before .before .before .before .before .before)) (c .before .before .roomy .result && c .before .roomy2 .result) e)
+
+refusing-number-requires : tie.Need-refusing-number-requires
+refusing-number-requires c κs = search needs
+
+returns : tie.Need-returns
+unfolding branchingBisimSignatureSorted
+returns c =
+    let a = c .before .before .before .before .before .before .before .before .before .before .before .before .before .before .before .before .before .before .before .before .before .before .before .before .before .before .before in
+    let e = answered (c .before .before) in
+    signing-refused (R a) (Pushed a) (Out a) (Works a) _ (λ z. c .before .if1 .taken (ap (λ (r : Refusal). r .number) e ∙ z))
+    (c .refusing-number .ensures ∙ ap (λ (r : Refusal). refused (r .number) (r .place)) e)
+
+take-requires : tie.Need-take-requires
+take-requires c κs =
+    let r = ready (c .before .before .before .before .before .before .before) (c .before .before .before .before .before .before .if1 .left) in
+    let w = wide (c .before .before .before .before .before .before .before) (c .before .before .before .before .before .before .if1 .left) in (
+      (r .valid, r .known, r .sound .long .element-to-block, started (c .before .before .before .before .before .before .before) (c .before .before .before .before .before .before .if1 .left)),
+      (
+        (omega (arith, w .first), omega (arith, w .second)),
+        (omega (arith, w .third), omega (arith, w .fourth), omega (arith, w .fifth), omega (arith, w .sixth)),
+      ),
+    )
+
+finish-requires : tie.Need-finish-requires
+finish-requires c κs =
+    let q = c .before .before .before .before .before .before .before .before .before .before .before .before .before .before .before .before .before .before .before .before .before in
+    let few = taken-few q in
+    let w = room q in
+    let v = valid q in (
+      (
+        omega (arith, few .0, few .1, v .few-rows),
+        omega (arith, few .0, few .1, w .seventh),
+        omega (arith, few .2, w .first, q .take .kept .1 .1 .1 .1 .1 .1 .1 .0),
+        omega (arith, few .2, w .second, q .take .kept .1 .1 .1 .1 .1 .1 .1 .1 .0),
+      ),
+      ((heads-ready q, set-ascending _ _ _ _ (q .take .ensures .0)), omega (arith, few .3, q .take .ensures .1 .1)),
+    )
+
+same-length : tie.Need-same-length
+same-length c = search needs
+
+same-length-2 : tie.Need-same-length-2
+same-length-2 c = search needs
+
+same-length-3 : tie.Need-same-length-3
+same-length-3 c = c .before .before .before .before .before .before .before .before .before .before .before .before .before .before .before .before .before .before .finish .kept .1 .1 .1 .1 .1 .0 ∙ c .before .before .before .before .before .before .before .before .before .before .before .before .before .before .before .before .before .before .before .before .before .before .before .before .before .before .before .before .before .before .before .before .before .before .before .before .before .before .before .before .take .kept .1 .1 .1 .1 .1 .1 .1 .0
+
+same-length-4 : tie.Need-same-length-4
+same-length-4 c = c .before .before .before .before .before .before .before .before .before .before .before .before .before .before .before .before .before .before .finish .kept .1 .1 .1 .1 .1 .1 .0 ∙ c .before .before .before .before .before .before .before .before .before .before .before .before .before .before .before .before .before .before .before .before .before .before .before .before .before .before .before .before .before .before .before .before .before .before .before .before .before .before .before .before .take .kept .1 .1 .1 .1 .1 .1 .1 .1 .0
+
+same-length-5 : tie.Need-same-length-5
+same-length-5 c = c .before .before .before .before .before .before .before .before .before .before .before .before .before .before .before .before .before .before .finish .kept .1 .1 .1 .1 .1 .1 .1 .0 ∙ c .before .before .before .before .before .before .before .before .before .before .before .before .before .before .before .before .before .before .before .before .before .before .before .before .before .before .before .before .before .before .before .before .before .before .before .before .before .before .before .before .take .kept .1 .1 .1 .1 .1 .1 .1 .1 .1 .0
+
+same-length-6 : tie.Need-same-length-6
+same-length-6 c = c .before .before .before .before .before .before .before .before .before .before .before .before .before .before .before .before .before .before .finish .kept .1 .1 .1 .1 .1 .1 .1 .1 .0 ∙ c .before .before .before .before .before .before .before .before .before .before .before .before .before .before .before .before .before .before .before .before .before .before .before .before .before .before .before .before .before .before .before .before .before .before .before .before .before .before .before .before .take .kept .1 .1 .1 .1 .1 .1 .1 .1 .1 .1 .0
+
+same-length-7 : tie.Need-same-length-7
+same-length-7 c = c .before .before .before .before .before .before .before .before .before .before .before .before .before .before .before .before .before .before .finish .kept .1 .1 .1 .1 .1 .1 .1 .1 .1 .0 ∙ c .before .before .before .before .before .before .before .before .before .before .before .before .before .before .before .before .before .before .before .before .before .before .before .before .before .before .before .before .before .before .before .before .before .before .before .before .before .before .before .before .take .kept .1 .1 .1 .1 .1 .1 .1 .1 .1 .1 .1 .0
+
+same-length-8 : tie.Need-same-length-8
+same-length-8 c = c .before .before .before .before .before .before .before .before .before .before .before .before .before .before .before .before .before .before .finish .kept .1 .1 .1 .1 .1 .1 .1 .1 .1 .1 .0 ∙ c .before .before .before .before .before .before .before .before .before .before .before .before .before .before .before .before .before .before .before .before .before .before .before .before .before .before .before .before .before .before .before .before .before .before .before .before .before .before .before .before .take .kept .1 .1 .1 .1 .1 .1 .1 .1 .1 .1 .1 .1 .0
+
+same-length-9 : tie.Need-same-length-9
+same-length-9 c = search needs
+
+returns-2 : tie.Need-returns-2
+unfolding branchingBisimSignatureSorted
+returns-2 c =
+    let a = c .before .before .before .before .before .before .before .before .before .before .before .before .before .before .before .before .before .before .before .before .before .before .before .before .before .before .before .before .before .before .before .before .before .before .before .before .before .before .before .before .before .before .before .before .before .before .before .before .before .before .before .before .before .before .before .before .before .before .before .before .before .before .before .before .before .before .before .before .before .before .before .before .before in
+    let q = c .before .before .before .before .before .before .before .before .before .before .before .before .before .before .before .before .before .before .before .before .before .before .before .before .before .before .before .before .before .before .before .before .before .before .before .before .before .before .before .before in
+    c .before .before .before .before .before .before .before .before .before .before .before .before .before .before .before .before .before .before .finish .ensures
+    ∙ finish-signing (q .take .result .pushed) _ (Out a) _ (R a) (Pushed a) (Works a) (no-refusal q) (pushed-count q) (set-of q)
+    (seven-alike (q .take .last .1 .1 .1 .1 .1 .1 .1 .0) (q .take .last .1 .1 .1 .1 .1 .1 .1 .1 .0) (q .take .last .1 .1 .1 .1 .1 .1 .1 .1 .1 .0) (q .take .last .1 .1 .1 .1 .1 .1 .1 .1 .1 .1 .0) (q .take .last .1 .1 .1 .1 .1 .1 .1 .1 .1 .1 .1 .0) (q .take .last .1 .1 .1 .1 .1 .1 .1 .1 .1 .1 .1 .1 .0) (a .args .tree .now) (a .args .own-labels .now) (a .args .own-blocks .now) (a .args .high .now) (a .args .low .now) (a .args .end-high .now) (a .args .end-low .now) (a .args .tree .now) (q .take .kept .1 .1 .1 .1 .1 .1 .1 .0) (q .take .kept .1 .1 .1 .1 .1 .1 .1 .1 .0) (q .take .kept .1 .1 .1 .1 .1 .1 .1 .1 .1 .0) (q .take .kept .1 .1 .1 .1 .1 .1 .1 .1 .1 .1 .0)
+    (q .take .kept .1 .1 .1 .1 .1 .1 .1 .1 .1 .1 .1 .0) (q .take .kept .1 .1 .1 .1 .1 .1 .1 .1 .1 .1 .1 .1 .0) refl)
+
+pub branching-bisim-signature-sorted-spec : {M : Type 1} → statement M
+branching-bisim-signature-sorted-spec =
+    tie.close
+    (tie.spec
+    roomy-requires
+    roomy-requires-2
+    cast-lists
+    add-lists
+    sorted-refusal-requires
+    refusing-number-requires
+    returns
+    take-requires
+    finish-requires
+    same-length
+    same-length-2
+    same-length-3
+    same-length-4
+    same-length-5
+    same-length-6
+    same-length-7
+    same-length-8
+    same-length-9
+    returns-2)

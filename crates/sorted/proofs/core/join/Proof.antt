@@ -1,0 +1,91 @@
+-- `core.join` meets its contract.
+use borrow.Author.Needs.{needs}
+use native.Mathlib.Omega.{arith}
+use Rattle.inherited.specs.Merged.{Heads, heads}
+use Rattle.sorted.proofs.Joined.{room-a, room-b, merged-ascends, joined-count, joined-over}
+use Rattle.sorted.proofs.core.join.Statement.{statement}
+use Rattle.sorted.proofs.core.join.Tie as tie
+
+-- the lists
+abbrev D : tie.Start → Heads
+D a =
+    heads (a .args .given-labels .now) (a .args .given-blocks .now) (a .args .high .now) (a .args .low .now) (a .args .end-high .now)
+    (a .args .end-low .now)
+
+merge-front-requires : tie.Need-merge-front-requires
+merge-front-requires c κs =
+    let p = c .before .before .before .before .before .before .before .before .before .before .before .before .before .before .before .before .before .before .pre in ((p .0 .0, p .0 .1), (p .1 .0 .0, (omega (arith, p .1 .1 .0), omega (arith, p .1 .1 .1))))
+
+unite-requires : tie.Need-unite-requires
+unite-requires c κs =
+    let a = c .before .before .before .before .before .before .before .before .before .before .before .before .before .before .before .before .before .before .before .before .before .before .before .before .before .before .before .before .before .before .before .before .before .before .before .before .before in
+    let e = c .before .before .before .before .before .before .before .before .before .before .before .before .before .before .before .before .before .before .merge-front .ensures .0 in
+    let p = a .pre in (
+      (
+        room-a (D a) (a .args .lists) (a .args .own) _ _ _ (a .args .labels .now) (a .args .blocks .now) (e .0) (e .1) (e .2) (p .1 .1 .0) (p .1 .1 .1),
+        room-b (D a) (a .args .lists) (a .args .own) _ _ _ (a .args .labels .now) (a .args .blocks .now) (e .0) (e .1) (e .2) (p .1 .1 .0) (p .1 .1 .1),
+        p .0 .2,
+        p .0 .3,
+      ),
+      (
+        merged-ascends (D a) (a .args .lists) (a .args .own) _ _ _ (a .args .labels .now) (a .args .blocks .now) (e .0) (e .1) (e .2) (p .1 .1 .0)
+            (p .1 .1 .1),
+        p .1 .0 .1,
+      ),
+    )
+
+same-length : tie.Need-same-length
+same-length c = search needs
+
+same-length-2 : tie.Need-same-length-2
+same-length-2 c = search needs
+
+same-length-3 : tie.Need-same-length-3
+same-length-3 c = search needs
+
+same-length-4 : tie.Need-same-length-4
+same-length-4 c = search needs
+
+same-length-5 : tie.Need-same-length-5
+same-length-5 c = search needs
+
+same-length-6 : tie.Need-same-length-6
+same-length-6 c = search needs
+
+same-length-7 : tie.Need-same-length-7
+same-length-7 c = search needs
+
+same-length-8 : tie.Need-same-length-8
+same-length-8 c = search needs
+
+same-length-9 : tie.Need-same-length-9
+same-length-9 c = search needs
+
+returns : tie.Need-returns
+returns c =
+    let a = c .before .before .before .before .before .before .before .before .before .before .before .before .before .before .before .before .before .before .before .before .before .before .before .before .before .before .before .before .before .before .before .before .before .before .before .before .before .before .before .before .before .before .before .before .before .before in
+    let e = c .before .before .before .before .before .before .before .before .before .before .before .before .before .before .before .before .before .before .before .before .before .before .before .before .before .before .before .merge-front .ensures .0 in
+    let u = c .before .before .before .before .before .before .before .before .unite .ensures in
+    let p = a .pre in (
+      joined-count (D a) (a .args .lists) (a .args .own) _ _ _ (a .args .labels .now) (a .args .blocks .now) (e .0) (e .1) (e .2) (p .1 .1 .0)
+          (p .1 .1 .1) (a .args .own-labels .now) (a .args .own-blocks .now) _ _ _ (u .0) (u .1) (u .2),
+      joined-over (D a) (a .args .lists) (a .args .own) _ _ _ (a .args .labels .now) (a .args .blocks .now) (e .0) (e .1) (e .2) (p .1 .1 .0)
+          (p .1 .1 .1) (a .args .own-labels .now) (a .args .own-blocks .now) _ _ _ (u .0) (u .1) (u .2),
+    )
+
+pub join-spec : {M : Type 1} → statement M
+join-spec =
+    tie.close
+    (tie.spec
+    merge-front-requires
+    unite-requires
+    same-length
+    same-length-2
+    same-length-3
+    same-length-4
+    same-length-5
+    same-length-6
+    same-length-7
+    same-length-8
+    same-length-9
+    returns)
