@@ -146,8 +146,8 @@ def tried(rng):
 def starts_fall(rng, v):
     """A start put below the one before, or one put above the next."""
     index = rng.randrange(len(v['starts']))
-    start = v['starts'][index]
-    v['starts'][index] = rng.choice((0, rng.randint(0, len(v['given_labels'])), max(start - 1, 0), min(start + 1, LARGEST_START)))
+    start, anywhere = v['starts'][index], rng.randint(0, len(v['given_labels']))
+    v['starts'][index] = rng.choice((0, anywhere, max(start - 1, 0), min(start + 1, LARGEST_START)))
 
 
 def starts_past(rng, v):

@@ -94,7 +94,7 @@ def on_table(name, arguments, needs, changed, tests=(), last=(), **more):
 
 
 def signature(name, given=(), needs={}, work=PUSHING, tests=(), **more):
-    """A signature of a state: what is given besides, with the cells needed and tests of its own, and the work slices."""
+    """A signature of a state: what it is given besides, the cells needed of that, the work slices, tests of its own."""
     needs = {**EACH_STATE, **needs, **dict.fromkeys(work, worked)}
     arguments = COLUMNS + ('count', 'state') + given + RESULT + work
     return on_table(name, arguments, needs, RESULT + work, (refusals.partition,), (*tests, refusals.pairs_room),

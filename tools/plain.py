@@ -54,7 +54,7 @@ def given_list(v, state):
 
 
 def sorted_pairs(v):
-    """What the sorted branching signature pushes: a pair for each step, for a hidden one within the block the given list."""
+    """What the sorted branching signature pushes: a pair for each step; for a hidden one within the block, a list."""
     block_of, pushed = dict(enumerate(v['element_to_block'])).get, []
     for _, label, target in (row for row in rows(v) if row[0] == v['state']):
         inner = label == 0 and block_of(target) == block_of(v['state'])

@@ -197,7 +197,7 @@ def bad_pair(v):
 
 
 def given_lists(v):
-    """15: starts that fall or run past the end, else a list that does not ascend; the pairs end with the shorter column."""
+    """15: starts that fall or run past the end, else a list that does not ascend; it ends with the shorter column."""
     bad = bad_start(v['starts'][:v['n'] + 1], min(len(v['given_labels']), len(v['given_blocks'])))
     bad = bad_pair(v) if bad is None else bad
     return None if bad is None else (15, bad)
