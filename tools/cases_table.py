@@ -39,8 +39,8 @@ def slices_besides(operation):
 def lent(operation, rng, v):
     """Result and work slices for these values: mostly exact, with junk."""
     needed = {name: operation.lengths()[name](v) for name in slices_besides(operation) if name not in GIVEN}
-    lengths = {name: min(cells + more(rng, 0), operation.room(name)) for name, cells in needed.items()}
-    return {name: junk_cells(rng, v['n'], length) for name, length in lengths.items()}
+    return {name: junk_cells(rng, v['n'], min(cells + more(rng, 0), operation.room(name)))
+            for name, cells in needed.items()}
 
 
 def with_slices(operation, rng, v):
