@@ -1,7 +1,14 @@
 """Lines that are no case."""
-from operations import BYTES, FLAGS, Case, written
+from operations import BYTES, FLAGS, WIDE, Case, written
 
 WRONG_WORDS = ('65536', '131071', '4294967296', '18446744073709551616', 'x', '-1', '1x', '|')
+
+
+def too_large(slice):
+    """A number that is no cell of the slice."""
+    if slice in BYTES:
+        return '256'
+    return '4294967296' if slice in WIDE else '65536'
 
 
 def lines(operation, example):
@@ -22,7 +29,7 @@ def lines(operation, example):
             yield written(operation, {**example, name: 2})
         if isinstance(value, list):
             yield written(operation, {**example, name: [0] * (operation.room(name) + 1)})
-            yield written(operation, {**example, name: [*value[:-1], '256' if name in BYTES else '65536']})
+            yield written(operation, {**example, name: [*value[:-1], too_large(name)]})
 
 
 def cases(operation, example):

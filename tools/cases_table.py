@@ -1,6 +1,7 @@
 """Cases of the operations on a table: every small one, the limits, large ones, random ones, faulty ones."""
 from itertools import product
 
+import given_lists
 import partitions
 import signatures
 import splits
@@ -9,7 +10,7 @@ from cases_partition import small_size
 from faults import damage, damaged, every_length, outside, several, shorten
 from operations import FLAGS, Case
 from partitions import LARGEST, random_partition
-from refusals import COLUMNS, MOST_LABELS, MOST_ROWS, MOST_STATES, ROWS
+from refusals import COLUMNS, GIVEN, MOST_LABELS, MOST_ROWS, MOST_STATES, ROWS
 from splits import junk_cells, more
 
 SMALL = ((1, 1), (1, 2), (2, 1), (2, 2), (3, 1))
@@ -26,15 +27,26 @@ def argument_names(operation):
     return [name for name in operation.parameters if name in FLAGS + ('state',)]
 
 
+def takes_lists(operation):
+    return 'starts' in operation.parameters
+
+
 def slices_besides(operation):
-    """The result and work slices, and keys."""
+    """The result and work slices, keys, and the starts of given lists."""
     return [name for name in operation.lengths() if name not in ROWS + COLUMNS]
 
 
 def lent(operation, rng, v):
     """Result and work slices for these values: mostly exact, with junk."""
-    needed = {name: operation.lengths()[name](v) for name in slices_besides(operation)}
-    return {name: junk_cells(rng, v['n'], cells + more(rng, 0)) for name, cells in needed.items()}
+    needed = {name: operation.lengths()[name](v) for name in slices_besides(operation) if name not in GIVEN}
+    return {name: junk_cells(rng, v['n'], min(cells + more(rng, 0), operation.room(name)))
+            for name, cells in needed.items()}
+
+
+def with_slices(operation, rng, v):
+    """These values with given lists, where some are taken, and with result and work slices."""
+    v = {**v, **given_lists.some(rng, v)} if takes_lists(operation) else v
+    return {**v, **lent(operation, rng, v)}
 
 
 def orderly_partitions(n):
@@ -57,7 +69,7 @@ def every_small(operation, rng):
     for n, labels in signatures.SMALL if operation.name in signatures.OPERATIONS else SMALL:
         arguments = every_argument(operation, n)
         for v, chosen in product(tables.every(n, labels), arguments):
-            yield {**v, **lent(operation, rng, {**v, **chosen}), **chosen}
+            yield {**with_slices(operation, rng, {**v, **chosen}), **chosen}
 
 
 def arguments(operation, rng, v):
@@ -74,8 +86,7 @@ def arguments(operation, rng, v):
 
 def completed(operation, rng, v):
     """A sound case with this table."""
-    v = {**v, **arguments(operation, rng, v)}
-    return {**v, **lent(operation, rng, v)}
+    return with_slices(operation, rng, {**v, **arguments(operation, rng, v)})
 
 
 def sound(operation, rng):
@@ -139,7 +150,7 @@ def of_size(operation, rng):
     """The limits and the large tables."""
     for v in (*limits(rng), *large(rng)):
         chosen = many_arguments(operation, rng, v)
-        yield from ({**v, **one, **lent(operation, rng, {**v, **one})} for one in chosen)
+        yield from (with_slices(operation, rng, {**v, **one}) for one in chosen)
 
 
 def at_room(operation, rng):
@@ -166,12 +177,13 @@ def every_changed_field(operation, rng):
 
 def faults_of(operation):
     """What makes each refusal due, in an order in which all can be done."""
+    of_lists = [given_lists.disorder] if takes_lists(operation) else []
     own = {
         'incoming': [],
         'reachable': [outside('state', 'n')],
         'mark_backward_closure': [outside('block', 'count'), damage],
         'sort_topological': [tables.make_cycle],
-        **dict.fromkeys(signatures.OPERATIONS, [signatures.little_room, outside('state', 'n'), damage]),
+        **dict.fromkeys(signatures.OPERATIONS, [signatures.little_room, *of_lists, outside('state', 'n'), damage]),
     }
     of_rows = [tables.order_broken, tables.field_outside, shorten(operation)]
     of_header = [outside('initial', 'n'), tables.rows_outside, tables.labels_outside, partitions.n_outside]
@@ -188,8 +200,10 @@ def values(operation, rng, number):
     yield from (sound(operation, rng) for _ in range(number))
     if operation.name in signatures.OPERATIONS:
         yield from signatures.every_room(lambda: sound(operation, rng), 400)
+    if takes_lists(operation):
+        yield from ({**v, **lent(operation, rng, v)} for v in given_lists.tried(rng))
     faults, faultless = faults_of(operation), lambda: sound(operation, rng)
-    yield from several(faultless, rng, faults, 20)
+    yield from several(faultless, rng, faults, 10 if takes_lists(operation) else 20)
     yield from damaged(faultless, rng, faults, number // 2)
 
 
@@ -197,7 +211,8 @@ def example(operation):
     """A sound case of the operation."""
     v = {**tables.given(4, 2, [(0, 0, 1), (1, 1, 2), (2, 0, 3)], 3), **dict.fromkeys(FLAGS, 1), 'state': 2}
     v |= {**partitions.laid_out([2, 3, 0, 1], [(0, 1, 3), (3, 4, 4)]), 'block': 0}
-    v |= {name: [7] * operation.lengths()[name](v) for name in slices_besides(operation)}
+    v |= given_lists.laid_flat([[(0, 1)], [], [(1, 0), (1, 1)], [(0, 1), (2, 0)]]) if takes_lists(operation) else {}
+    v |= {name: [7] * operation.lengths()[name](v) for name in slices_besides(operation) if name not in GIVEN}
     return {name: v[name] for name in operation.parameters}
 
 

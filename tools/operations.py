@@ -3,7 +3,7 @@ from typing import Callable, NamedTuple
 
 import plain
 import refusals
-from refusals import COLUMNS, RESULT, ROWS, WORK, WORKED, a_row, a_state, below, pushed, worked
+from refusals import COLUMNS, GIVEN, RESULT, ROWS, WORK, WORKED, a_row, a_start, a_state, below, pushed, worked
 
 
 class Operation(NamedTuple):
@@ -37,7 +37,9 @@ class Operation(NamedTuple):
         """The longest slice that `replay` takes here."""
         if slice == 'text':
             return TEXT_ROOM
-        if slice in COLUMNS or slice not in PAIRS and 'm' not in self.parameters:
+        if slice in GIVEN[1:] or slice in RESULT and 'starts' in self.parameters:
+            return LISTS_ROOM
+        if slice in COLUMNS or slice == 'starts' or slice not in PAIRS and 'm' not in self.parameters:
             return COLUMN_ROOM
         return WORK_ROOM if slice in self.work() else ROWS_ROOM
 
@@ -46,9 +48,11 @@ class Operation(NamedTuple):
 COLUMN_ROOM = 5000
 ROWS_ROOM = 8400
 WORK_ROOM = 12600
+LISTS_ROOM = 70000
 TEXT_ROOM = 70000
-# The slices of bytes; every other one is of u16.
+# The slices of bytes, and of u32; every other one is of u16.
 BYTES = ('text', 'choice')
+WIDE = ('starts',)
 FLAGS = ('hidden', 'reversed')
 
 PARTITION = ('n', 'count') + COLUMNS
@@ -57,8 +61,9 @@ TABLE = ('n', 'labels', 'm', 'initial') + ROWS
 SELF = ('self_labels', 'self_blocks')
 OTHER = ('other_labels', 'other_blocks')
 PAIRS = SELF + OTHER
-# The work slices of a signature.
+# The work slices of a signature, and those of the sorted one.
 PUSHING = ('pushed_labels', 'pushed_blocks', 'order', 'spare')
+MERGING = ('own_labels', 'own_blocks', 'high', 'low', 'end_high', 'end_low', 'tree')
 BLOCK = ('begin', 'marked_split', 'end')
 EACH_STATE = dict.fromkeys(COLUMNS, a_state)
 # The slices that have a length in 01 and stand beside a partition's columns.
@@ -88,13 +93,12 @@ def on_table(name, arguments, needs, changed, tests=(), last=(), **more):
     return Operation(name, TABLE + arguments, chain, changed, needs, **more)
 
 
-def signature(name, keys=(), searching=()):
-    """A signature of a state, with a key for each state or without, and with work slices for a search or without."""
-    work = PUSHING + searching
-    needs = {**EACH_STATE, **dict.fromkeys(keys, a_state), **dict.fromkeys(work, worked)}
-    arguments = COLUMNS + ('count', 'state') + keys + RESULT + work
-    return on_table(name, arguments, needs, RESULT + work, (refusals.partition,), (refusals.pairs_room,),
-                    rooms=dict.fromkeys(RESULT, pushed))
+def signature(name, given=(), needs={}, work=PUSHING, tests=(), **more):
+    """A signature of a state: what it is given besides, the cells needed of that, the work slices, tests of its own."""
+    needs = {**EACH_STATE, **needs, **dict.fromkeys(work, worked)}
+    arguments = COLUMNS + ('count', 'state') + given + RESULT + work
+    return on_table(name, arguments, needs, RESULT + work, (refusals.partition,), (*tests, refusals.pairs_room),
+                    rooms=dict.fromkeys(RESULT, pushed), **more)
 
 
 ALL = (
@@ -130,8 +134,10 @@ ALL = (
     on_table('sort_topological', ('hidden', 'reversed', 'places', 'marks', 'stack'),
              {'places': a_state, 'marks': worked, 'stack': worked}, ('places', 'marks', 'stack'), (refusals.cycle,)),
     signature('strong_bisim_signature'),
-    signature('branching_bisim_signature_inductive', ('state_to_key',)),
-    signature('branching_bisim_signature', searching=('marks', 'queue')),
+    signature('branching_bisim_signature_inductive', ('state_to_key',), {'state_to_key': a_state}),
+    signature('branching_bisim_signature', work=PUSHING + ('marks', 'queue')),
+    signature('branching_bisim_signature_sorted', GIVEN, {'starts': a_start}, MERGING, (refusals.given_lists,),
+              computed=plain.branching_bisim_signature_sorted),
     Operation('is_subset_of', PAIRS + ('label', 'block'),
               (refusals.not_ascending(*SELF), refusals.not_ascending(*OTHER))),
     Operation('tau_hat', ('labels',), (refusals.labels,)),
@@ -201,6 +207,11 @@ def computed_line(operation, values):
 def slices_of(line):
     """The slices at return that an answer shows."""
     return [[int(cell) for cell in slice.split()] for slice in line.split('|')[1:]]
+
+
+def alike(case, line, other):
+    """Whether two answers are the same; for `mark_backward_closure`, whether they mark the same states."""
+    return marks_alike(case.values, line, other) if 'block' in case.operation.parameters else line == other
 
 
 def marks_alike(values, line, other):

@@ -47,6 +47,28 @@ def outer_rows(v):
     return [row for row in rows(v) if row[0] in reached and row not in inner]
 
 
+def given_list(v, state):
+    """The pairs from the state's start to before the next one."""
+    begin, end = v['starts'][state:state + 2]
+    return list(zip(v['given_labels'][begin:end], v['given_blocks'][begin:end]))
+
+
+def sorted_pairs(v):
+    """What the sorted branching signature pushes: a pair for each step; for a hidden one within the block, a list."""
+    block_of, pushed = dict(enumerate(v['element_to_block'])).get, []
+    for _, label, target in (row for row in rows(v) if row[0] == v['state']):
+        inner = label == 0 and block_of(target) == block_of(v['state'])
+        pushed += given_list(v, target) if inner else [(label, block_of(target))]
+    return pushed
+
+
+def branching_bisim_signature_sorted(v):
+    """What is pushed as a set, ascending."""
+    pairs = sorted(set(sorted_pairs(v)))
+    columns = {'result_labels': [label for label, _ in pairs], 'result_blocks': [block for _, block in pairs]}
+    return [len(pairs)], {name: over(cells, v[name]) for name, cells in columns.items()}
+
+
 def mark(v, elements, offsets, splits, state):
     """`mark_element`: an unmarked state changes places with the one at marked_split - 1."""
     block, place = v['element_to_block'][state], offsets[state]

@@ -7,6 +7,8 @@ import plain
 COLUMNS = ('elements', 'element_offset', 'element_to_block', 'begin', 'marked_split', 'end')
 ROWS = ('source', 'label', 'target')
 WORK = ('old_elements', 'block_sizes', 'spare')
+# Given lists: their starts, and the flat pairs.
+GIVEN = ('starts', 'given_labels', 'given_blocks')
 # The columns that a signature is written to.
 RESULT = ('result_labels', 'result_blocks')
 MOST_STATES = 4096
@@ -41,6 +43,11 @@ def initial(v):
 def a_state(v):
     """The cells of a state or block column."""
     return v['n']
+
+
+def a_start(v):
+    """The cells of the starts of given lists."""
+    return v['n'] + 1
 
 
 def a_row(v):
@@ -163,14 +170,37 @@ def pushed_rows(v):
 
 
 def pushed(v):
-    """The pairs pushed for the state's signature: one for each of these rows."""
-    return len(pushed_rows(v))
+    """The pairs pushed for the state's signature: one for each of these rows; with given lists, those taken too."""
+    return len(plain.sorted_pairs(v) if 'starts' in v else pushed_rows(v))
 
 
 def pairs_room(v):
     """16: room below the pairs pushed, duplicates among them; the place is the number needed."""
     needed = pushed(v)
     return None if all(needed <= len(v[column]) for column in RESULT) else (16, needed)
+
+
+def bad_start(starts, end):
+    """The first start that lies below the one before or past the end, or None."""
+    below_or_past = (start > end or start < before for before, start in zip([0, *starts], starts))
+    return next((index for index, bad in enumerate(below_or_past) if bad), None)
+
+
+def bad_pair(v):
+    """The first pair that is not above the one before it in its list, or None; the lists stand one after the other."""
+    for state in range(v['n']):
+        pairs = plain.given_list(v, state)
+        bad = next((place for place in range(1, len(pairs)) if pairs[place] <= pairs[place - 1]), None)
+        if bad is not None:
+            return v['starts'][state] + bad
+    return None
+
+
+def given_lists(v):
+    """15: starts that fall or run past the end, else a list that does not ascend; it ends with the shorter column."""
+    bad = bad_start(v['starts'][:v['n'] + 1], min(len(v['given_labels']), len(v['given_blocks'])))
+    bad = bad_pair(v) if bad is None else bad
+    return None if bad is None else (15, bad)
 
 
 def not_ascending(labels, blocks):

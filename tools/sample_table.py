@@ -3,11 +3,12 @@ from itertools import cycle, product
 
 import cases_bad
 import cases_table
+import given_lists
 import signatures
 import tables
 from operations import BY_NAME, FLAGS, Case, written
 from partitions import LARGEST, laid_out
-from refusals import MOST_LABELS, MOST_ROWS, MOST_STATES
+from refusals import GIVEN, MOST_LABELS, MOST_ROWS, MOST_STATES
 
 OPERATIONS = ('incoming', 'reachable', 'mark_backward_closure', 'sort_topological')
 # Stands where nothing is read.
@@ -47,7 +48,7 @@ CLOSED = (
 
 def lent(operation, v):
     """Result and work slices of exact length, with other content."""
-    slices = cases_table.slices_besides(operation)
+    slices = [name for name in cases_table.slices_besides(operation) if name not in GIVEN]
     return {name: [fill] * operation.lengths()[name](v) for name, fill in zip(slices, cycle((9, X, 1)))}
 
 
@@ -74,6 +75,7 @@ def a_case(operation):
     """A sound case with two rows, to be made faulty."""
     v = {**tables.given(3, 2, [(0, 0, 1), (1, 1, 2)], 2), **dict.fromkeys(FLAGS, 0), 'state': 1}
     v |= {**laid_out([2, 0, 1], [(0, 2, 3)], X), 'block': 0}
+    v |= given_lists.laid_flat([[(0, 2)], [(X, X)], [(1, 0), (1, 1)]]) if cases_table.takes_lists(operation) else {}
     return {name: value for name, value in {**v, **lent(operation, v)}.items() if name in operation.parameters}
 
 
@@ -109,6 +111,7 @@ def of_order(operation, v):
     faults = [{'n': 0}, {'labels': 0}, {'m': MOST_ROWS + 1}, {'initial': 3}, {last: v[last][:-1]}, {'target': [3, 2]},
               {'source': [1, 1], 'label': [1, 1], 'target': [2, 1]}]
     faults += [{name: number} for name, number in (('count', 0), ('block', X), ('state', X)) if name in v]
+    faults += [{'starts': [0, 1, 0, 9]}, {'given_blocks': [2, X, 1, 1]}] if 'starts' in v else []
     faults += [dict.fromkeys(operation.rooms, [])] if operation.rooms else []
     if 'places' in v:
         faults.append({'source': [0, 1], 'label': [0, 0], 'target': [1, 0]})

@@ -1,10 +1,13 @@
 """What the signatures of a state take beside the table: a partition, a state, keys, and room for the pairs."""
 from itertools import product
 
+import given_lists
 import partitions
+import plain
 from refusals import RESULT, pushed, pushed_rows
 
-OPERATIONS = ('strong_bisim_signature', 'branching_bisim_signature_inductive', 'branching_bisim_signature')
+OPERATIONS = ('strong_bisim_signature', 'branching_bisim_signature_inductive', 'branching_bisim_signature',
+              *given_lists.OPERATIONS)
 # States and labels of the tables that are tried with every argument.
 SMALL = ((1, 1), (1, 2), (2, 1), (2, 2))
 
@@ -32,6 +35,8 @@ def pair_of(v, label, target):
 
 def distinct(v):
     """How many pairs a sound case leaves of those that are pushed."""
+    if 'starts' in v:
+        return len(set(plain.sorted_pairs(v)))
     return len({pair_of(v, label, target) for _, label, target in pushed_rows(v)})
 
 

@@ -81,6 +81,8 @@ pub const IS_TAU_HAT: usize = 1102;
 
 pub const BRANCHINGS: usize = 1200;
 
+pub const SORTED: usize = 1300;
+
 // The operation with this name. The names of a family stand in the order of their numbers, each with a blank after it.
 pub fn operation(name: &[u8]) -> usize {
     let block = place(
@@ -143,6 +145,9 @@ fn on_signature(name: &[u8]) -> usize {
     }
     if place(name, b"branching_bisim_signature ") != 0 {
         return BRANCHINGS;
+    }
+    if place(name, b"branching_bisim_signature_sorted ") != 0 {
+        return SORTED;
     }
     let tau_hat = place(name, b"tau_hat is_tau_hat ");
     if tau_hat != 0 {

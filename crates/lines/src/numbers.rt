@@ -25,6 +25,12 @@ pub struct Small {
     pub value: u16,
 }
 
+// A number of u32's range, and the place after it.
+pub struct Wide {
+    pub input: Input,
+    pub value: u32,
+}
+
 // A flag, and the place after it.
 pub struct Flag {
     pub input: Input,
@@ -168,6 +174,32 @@ impl Input {
         while i < count {
             let cell = input.tiny(buffer);
             into[i] = (cell.value % 256) as u8;
+            input = cell.input;
+            i += 1;
+        }
+        Cells { input, count }
+    }
+    // A blank and a number of u32's range.
+    fn wide(self, buffer: &mut Buffer) -> Wide {
+        let read = self.number(buffer, 4294967295);
+        let input = read.input;
+        Wide {
+            input,
+            value: read.value as u32,
+        }
+    }
+
+    // A slice of u32 numbers, its length and its cells, as `column` reads one of u16 numbers.
+    pub fn starts(self, buffer: &mut Buffer, into: &mut [u32]) -> Cells
+        ensures { λ r. ⌜ Counts (r .count) (now (into .exit)) ⌝ }
+    {
+        let read = self.number(buffer, into.len() as u64);
+        let count = read.value as usize;
+        let mut input = read.input;
+        let mut i = 0;
+        while i < count {
+            let cell = input.wide(buffer);
+            into[i] = cell.value;
             input = cell.input;
             i += 1;
         }

@@ -9,5 +9,11 @@ pub type Rows = [u16; 8400];
 // A work slice of an operation on a table.
 pub type Work = [u16; 12600];
 
+// The starts of given lists, with a cell for each state and one more.
+pub type Starts = [u32; 5000];
+
+// A column of given lists, or of a result that takes them in. It has places above u16's range.
+pub type Lists = [u16; 70000];
+
 // Text.
 pub type Text = [u8; 70000];

@@ -30,6 +30,7 @@ fn replay(line: Line, buffer: &mut Buffer, out: &mut Buffer, used: usize) -> Ans
         names::ORDERS => order_cases::replay(line, buffer, out, used),
         names::SIGNATURES => signature_cases::replay(line, buffer, out, used),
         names::BRANCHINGS => branching_cases::replay(line, buffer, out, used),
+        names::SORTED => sorted_cases::replay(line, buffer, out, used),
         names::SUBSETS => subset_cases::replay(line, buffer, out, used),
         names::TAU_HATS => tau_hat_cases::replay(line, buffer, out, used),
         _ => bad_case(line.input.skip_line(buffer), out, used),

@@ -18,6 +18,8 @@ const COLUMN_ROOM: usize = 5_000;
 const ROWS_ROOM: usize = 8_400;
 /// Cells of the longest work slice of an operation on a table.
 const WORK_ROOM: usize = 12_600;
+/// Cells of the longest column of given lists, and of a result that takes them in.
+const LISTS_ROOM: usize = 70_000;
 /// Bytes of the longest text that may be lent.
 const TEXT_ROOM: usize = 70_000;
 
@@ -69,6 +71,16 @@ impl<'a> Line<'a> {
     /// A work slice of an operation on a table.
     pub fn work(&mut self) -> Result<Vec<usize>, Stop> {
         self.slice(WORK_ROOM, u16::MAX.into())
+    }
+
+    /// A column of given lists, or of a result that takes them in.
+    pub fn lists(&mut self) -> Result<Vec<usize>, Stop> {
+        self.slice(LISTS_ROOM, u16::MAX.into())
+    }
+
+    /// The starts of given lists, each u32.
+    pub fn starts(&mut self) -> Result<Vec<usize>, Stop> {
+        self.slice(COLUMN_ROOM, u32::MAX as usize)
     }
 
     /// A flag, 0 or 1.

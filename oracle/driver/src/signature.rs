@@ -18,6 +18,7 @@ pub const OPERATIONS: &[(&str, Operation)] = &[
     ("strong_bisim_signature", strong_bisim_signature),
     ("branching_bisim_signature_inductive", branching_bisim_signature_inductive),
     ("branching_bisim_signature", branching_bisim_signature),
+    ("branching_bisim_signature_sorted", branching_bisim_signature_sorted),
 ];
 
 fn pair((label, block): (usize, usize)) -> (LabelIndex, BlockIndex) {
@@ -81,7 +82,7 @@ impl Given {
         Ok(Given { table, lent, state: line.number()? })
     }
 
-    fn accept(&self, slices: &Slices, pushed: fn(&Given) -> usize) -> Result<(), Stop> {
+    fn accept(&self, slices: &Slices, pushed: impl FnOnce(&Given) -> usize) -> Result<(), Stop> {
         self.table.accept()?;
         slices.work.iter().try_for_each(|slice| self.table.accept_work(slice))?;
         self.lent.accept()?;
@@ -95,10 +96,15 @@ impl Given {
         self.table.outgoing(self.state)
     }
 
+    /// Whether a row is a hidden step into the state's block.
+    fn inner(&self, row: &(usize, usize, usize)) -> bool {
+        let home = &self.lent.columns.element_to_block;
+        row.1 == 0 && home[row.2] == home[self.state]
+    }
+
     /// A pair is pushed for each row of a state reached by hidden steps within the block, but for these steps.
     fn outer(&self) -> usize {
-        let home = &self.lent.columns.element_to_block;
-        let inner = |row: &(usize, usize, usize)| row.1 == 0 && home[row.2] == home[self.state];
+        let inner = |row: &(usize, usize, usize)| self.inner(row);
         let mut reached = vec![false; self.table.n];
         let mut open = vec![self.state];
         while let Some(state) = open.pop() {
@@ -110,10 +116,44 @@ impl Given {
     }
 }
 
+/// Given lists of pairs, flat; list u is the pairs from start u to before start u + 1.
+struct Lists {
+    starts: Vec<usize>,
+    pairs: SignatureBuilder,
+}
+
+impl Lists {
+    fn read(line: &mut Line) -> Result<Lists, Stop> {
+        let (starts, labels, blocks) = (line.starts()?, line.lists()?, line.lists()?);
+        Ok(Lists { starts, pairs: labels.into_iter().zip(blocks).map(pair).collect() })
+    }
+
+    /// Of n lists the starts are there, neither fall nor run past the end, and each list ascends.
+    fn accept(&self, n: usize) -> Result<(), Stop> {
+        accept(self.starts.len() > n)?;
+        accept(self.starts[..=n].is_sorted() && self.starts[n] <= self.pairs.len())?;
+        (0..n).try_for_each(|state| accept::ascending(self.of(state)))
+    }
+
+    fn of(&self, state: usize) -> &[(LabelIndex, BlockIndex)] {
+        &self.pairs[self.starts[state]..self.starts[state + 1]]
+    }
+
+    /// A pair is pushed for each row of the state, but for a hidden step within the block each pair of the target's list.
+    fn pushed(&self, given: &Given) -> usize {
+        let rows = given.table.rows().filter(|row| row.0 == given.state);
+        rows.map(|row| if given.inner(&row) { self.of(row.2).len() } else { 1 }).sum()
+    }
+}
+
 impl Slices {
     /// Two result columns, and so many work slices.
     fn read(line: &mut Line, works: usize) -> Result<Slices, Stop> {
         let result = [line.rows()?, line.rows()?];
+        Slices::with_work(result, line, works)
+    }
+
+    fn with_work(result: [Vec<usize>; 2], line: &mut Line, works: usize) -> Result<Slices, Stop> {
         let work = (0..works).map(|_| line.work()).collect::<Result<_, _>>()?;
         Ok(Slices { result, work })
     }
@@ -135,7 +175,7 @@ type System = LabelledTransitionSystem<String>;
 fn signed(
     given: &Given,
     slices: Slices,
-    pushed: fn(&Given) -> usize,
+    pushed: impl FnOnce(&Given) -> usize,
     call: impl FnOnce(StateIndex, &System, &BlockPartition, &mut SignatureBuilder),
 ) -> Result<String, Stop> {
     given.accept(&slices, pushed)?;
@@ -167,5 +207,16 @@ fn branching_bisim_signature(line: &mut Line) -> Result<String, Stop> {
     signed(&given, slices, Given::outer, |state, system, partition, builder| {
         let (mut visited, mut stack) = (Default::default(), Vec::new());
         merc_reduction::branching_bisim_signature(state, system, partition, builder, &mut visited, &mut stack)
+    })
+}
+
+fn branching_bisim_signature_sorted(line: &mut Line) -> Result<String, Stop> {
+    let (given, lists, result) = (Given::read(line)?, Lists::read(line)?, [line.lists()?, line.lists()?]);
+    let slices = Slices::with_work(result, line, 7)?;
+    line.end()?;
+    lists.accept(given.table.n)?;
+    let signatures: Vec<_> = (0..given.table.n).map(|state| Signature::new(lists.of(state))).collect();
+    signed(&given, slices, |given| lists.pushed(given), |state, system, partition, builder| {
+        merc_reduction::branching_bisim_signature_sorted(state, system, partition, &signatures, builder)
     })
 }
