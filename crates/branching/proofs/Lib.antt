@@ -8,3 +8,4 @@ pub mod BranchingSigs
 pub mod InertSteps
 pub mod Matches
 pub mod BranchingAlike
+pub mod Examples

@@ -9,3 +9,4 @@ pub mod Rows
 pub mod StrongSigs
 pub mod InductiveSigs
 pub mod Renumbered
+pub mod Examples

@@ -1,16 +1,21 @@
--- Small tables: what a hidden step within the block takes, and what a state with no way out has.
+-- Small calls: what a hidden step within the block takes, how much room is enough, and what a state with no way out has.
 use Prim.Native.Nat.{ℕ}
 use mathlib.Core.Path.{_≡_, refl}
 use mathlib.Core.List.{List, [], _∷_}
-use Rattle.columns.specs.Sets.{Pair}
-use Rattle.table.specs.Lts.{Lts}
+use lib.ListN.{replicate}
 use Rattle.branching.specs.Branching.{branchingSignature}
+use Rattle.columns.specs.Answers.{Said, done, refused}
+use Rattle.columns.specs.Inverse.{inverseb, inverseAt}
+use Rattle.columns.specs.Tests.{all}
+use Rattle.partition.specs.Partition.{Partition, parts, sixLong, blocksb, blockAt, withinb, liesb, lieAt, insideb, lengths}
+use Rattle.signatures.specs.Pairs.{Columns}
+use Rattle.signatures.specs.Signing.{Left}
 use Rattle.subset.specs.Lists.{listAt}
-use Rattle.sorted.specs.Sorted.{sortedPushed, sortedSignature}
-use Rattle.sorted.specs.Taking.{innerTargets}
+use Rattle.table.specs.Lts.{Lts}
+use Rattle.sorted.specs.Sorted.{Given, flat, sortedSignature, branchingBisimSignatureSorted}
 
 -- state 0 has a hidden step to itself, one to 1, and a visible one to 2; state 1 a hidden and a visible one to 2; 2 has none
-small : Lts
+abbrev small : Lts
 small = record {
   n = 3;
   labels = 3;
@@ -21,57 +26,63 @@ small = record {
   target = 0 ∷ 1 ∷ 2 ∷ 2 ∷ 2 ∷ [];
 }
 
--- 0 and 1 in block 0, and 2 in block 1
-home : List ℕ
-home = 0 ∷ 0 ∷ 1 ∷ []
+-- {0, 1} and {2}
+abbrev halves : Partition
+halves = parts (0 ∷ 1 ∷ 2 ∷ []) (0 ∷ 1 ∷ 2 ∷ []) (0 ∷ 0 ∷ 1 ∷ []) (0 ∷ 2 ∷ 9 ∷ []) (2 ∷ 3 ∷ 9 ∷ []) (2 ∷ 3 ∷ 9 ∷ []) 3 2
 
--- no list has a pair
-bare : ℕ → List Pair
-bare u = []
+-- no list has a pair; list 0 alone has one; the branching signatures; a list that doesn't ascend
+abbrev bare : Given
+bare = flat (0 ∷ 0 ∷ 0 ∷ 0 ∷ []) [] []
 
--- list 0 is (2, 5), the two others have no pair
-own-list : ℕ → List Pair
-own-list = listAt (0 ∷ 1 ∷ 1 ∷ 1 ∷ []) (2 ∷ []) (5 ∷ [])
+abbrev own : Given
+own = flat (0 ∷ 1 ∷ 1 ∷ 1 ∷ []) (2 ∷ []) (5 ∷ [])
 
--- the branching signatures: (0, 1), (1, 1), (2, 1) of state 0, (0, 1), (2, 1) of state 1, and none of state 2
-right : ℕ → List Pair
-right = listAt (0 ∷ 3 ∷ 5 ∷ 5 ∷ []) (0 ∷ 1 ∷ 2 ∷ 0 ∷ 2 ∷ []) (1 ∷ 1 ∷ 1 ∷ 1 ∷ 1 ∷ [])
+abbrev right : Given
+right = flat (0 ∷ 3 ∷ 5 ∷ 5 ∷ []) (0 ∷ 1 ∷ 2 ∷ 0 ∷ 2 ∷ []) (1 ∷ 1 ∷ 1 ∷ 1 ∷ 1 ∷ [])
 
--- a hidden step to itself takes the state's own list
-loop : sortedSignature small home own-list 0 ≡ (1, 1) ∷ (2, 5) ∷ []
-unfolding small home own-list sortedSignature listAt
-loop = refl
+abbrev wrong : Given
+wrong = flat (0 ∷ 0 ∷ 0 ∷ 2 ∷ []) (1 ∷ 0 ∷ []) (0 ∷ 0 ∷ [])
 
-targets : innerTargets small home 0 ≡ 0 ∷ 1 ∷ []
-unfolding small home innerTargets
-targets = refl
+-- seven work slices of nine cells
+abbrev works : ℕ → List (List ℕ)
+works x = replicate 7 (replicate 9 x)
 
--- all lists empty: the own steps that are visible or lead to another block
-bare-0 : sortedSignature small home bare 0 ≡ (1, 1) ∷ []
-unfolding small home bare sortedSignature
-bare-0 = refl
+abbrev run : Given → ℕ → Columns → Said × Left
+run g s out = branchingBisimSignatureSorted small halves s g out (works 9)
 
-bare-1 : sortedSignature small home bare 1 ≡ (0, 1) ∷ (2, 1) ∷ []
-unfolding small home bare sortedSignature
-bare-1 = refl
+-- A hidden self-loop takes the state's own list. All lists empty: the own steps that are visible or lead to another block. Right lists:
+-- six pairs pushed, three of them distinct; room for five. A state with no way out, without room. A list that isn't taken is tested too
+pub examples :
+    (run own 0 (7 ∷ 7 ∷ [], 8 ∷ 8 ∷ [])
+    ∷ run bare 0 (7 ∷ [], 8 ∷ 8 ∷ [])
+    ∷ run bare 1 (7 ∷ 7 ∷ [], 8 ∷ 8 ∷ [])
+    ∷ run right 0 (replicate 6 7, replicate 6 8)
+    ∷ run right 0 (replicate 6 7, replicate 5 8)
+    ∷ run right 2 ([], [])
+    ∷ run wrong 0 ([], [])
+    ∷ [])
+    ≡ ((done (2 ∷ []), ((1 ∷ 2 ∷ [], 1 ∷ 5 ∷ []), works 0))
+    ∷ (done (1 ∷ []), ((1 ∷ [], 1 ∷ 8 ∷ []), works 0))
+    ∷ (done (2 ∷ []), ((0 ∷ 2 ∷ [], 1 ∷ 1 ∷ []), works 0))
+    ∷ (done (3 ∷ []), ((0 ∷ 1 ∷ 2 ∷ 7 ∷ 7 ∷ 7 ∷ [], 1 ∷ 1 ∷ 1 ∷ 8 ∷ 8 ∷ 8 ∷ []), works 0))
+    ∷ (refused 16 6, ((replicate 6 7, replicate 5 8), works 0))
+    ∷ (done (0 ∷ []), (([], []), works 0))
+    ∷ (refused 15 1, (([], []), works 9))
+    ∷ [])
+unfolding branchingBisimSignatureSorted sixLong inverseb all inverseAt blocksb blockAt withinb liesb lieAt insideb lengths
+examples = refl
 
--- no way out: no step at all, or only a hidden one to itself
-none : sortedSignature small home right 2 ≡ []
-unfolding small home right sortedSignature
-none = refl
-
-stuck : Lts
-stuck = record { n = 1; labels = 1; m = 1; initial = 0; source = 0 ∷ []; label = 0 ∷ []; target = 0 ∷ [] }
-
-only-loop : sortedSignature stuck home bare 0 ≡ []
-unfolding stuck home bare sortedSignature
-only-loop = refl
-
--- right lists: what is pushed, and the branching signature
-pushed : sortedPushed small home right 0 ≡ (0, 1) ∷ (1, 1) ∷ (2, 1) ∷ (0, 1) ∷ (2, 1) ∷ (1, 1) ∷ []
-unfolding small home right sortedPushed listAt
-pushed = refl
-
-as-branching : sortedSignature small home right 0 ≡ branchingSignature small home 0
-unfolding small home right sortedSignature branchingSignature listAt
-as-branching = refl
+-- the right lists are the branching signatures, and give that of state 0
+pub right-lists :
+    (listAt (right .starts) (right .labels) (right .blocks) 0
+    ∷ listAt (right .starts) (right .labels) (right .blocks) 1
+    ∷ listAt (right .starts) (right .labels) (right .blocks) 2
+    ∷ sortedSignature small (0 ∷ 0 ∷ 1 ∷ []) (listAt (right .starts) (right .labels) (right .blocks)) 0
+    ∷ [])
+    ≡ (branchingSignature small (0 ∷ 0 ∷ 1 ∷ []) 0
+    ∷ branchingSignature small (0 ∷ 0 ∷ 1 ∷ []) 1
+    ∷ branchingSignature small (0 ∷ 0 ∷ 1 ∷ []) 2
+    ∷ branchingSignature small (0 ∷ 0 ∷ 1 ∷ []) 0
+    ∷ [])
+unfolding listAt sortedSignature branchingSignature
+right-lists = refl
