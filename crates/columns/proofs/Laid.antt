@@ -1,0 +1,47 @@
+-- Lists laid one after the other: how long they are together, and who is a member.
+use Prim.Native.Nat.{ℕ, zero, suc, _+_, _≤_, _<_}
+use native.Mathlib.Numerals.{add-one}
+use native.Mathlib.Omega.{arith}
+use mathlib.Core.Path.{_≡_, refl, ap, _∙_}
+use mathlib.Core.Logic.{⊎-elim}
+use mathlib.Core.List.{List, [], _++_, List·Memᴰ·not-nil, List·Memᴰ·append-cases, Memᴰ·append-left, Memᴰ·append-right}
+use lib.ListN.{length, length-append}
+use Rattle.columns.specs.Columns.{laid}
+use Rattle.columns.specs.Counting.{sum}
+use Rattle.columns.specs.Sets.{Mem}
+use Rattle.columns.proofs.All.{top-or-below}
+
+module _ {A : Type 0} (h : ℕ → List A) where
+  pub laid-none : laid h 0 ≡ []
+  unfolding laid
+  laid-none = refl
+
+  pub laid-more : (k : ℕ) → laid h (k + 1) ≡ laid h k ++ h k
+  unfolding laid
+  laid-more k = rw add-one
+
+  pub length-laid : (k : ℕ) → length (laid h k) ≡ sum (λ j. length (h j)) k
+  unfolding laid sum
+  length-laid zero = refl
+  length-laid (suc k) = length-append (laid h k) (h k) ∙ ap (λ (n : ℕ). n + length (h k)) (length-laid k)
+
+  pub laid-up : (j k : ℕ) → j < k → length (laid h j) + length (h j) ≤ length (laid h k)
+  unfolding laid
+  laid-up j zero l = absurd (omega arith)
+  laid-up j (suc k) l =
+      ⊎-elim (λ (e : j ≡ k). rw e (omega (arith, length-append (laid h k) (h k))))
+      (λ (m : j < k). omega (arith, laid-up j k m, length-append (laid h k) (h k))) (top-or-below l)
+
+  pub laid-in : (p : A) (j k : ℕ) → j < k → Mem p (h j) → Mem p (laid h k)
+  unfolding laid
+  laid-in p j zero l m = absurd (omega arith)
+  laid-in p j (suc k) l m =
+      ⊎-elim (λ (e : j ≡ k). Memᴰ·append-right (laid h k) (rw e at m)) (λ (w : j < k). Memᴰ·append-left (h k) (laid-in p j k w m))
+      (top-or-below l)
+
+  pub laid-out : (p : A) (k : ℕ) → Mem p (laid h k) → (j : ℕ) × (j < k) × Mem p (h j)
+  unfolding laid
+  laid-out p zero m = absurd (List·Memᴰ·not-nil m)
+  laid-out p (suc k) m =
+      ⊎-elim (λ (w : Mem p (laid h k)). let r = laid-out p k w in (r .0, omega (arith, r .1), r .2)) (λ (w : Mem p (h k)). (k, omega arith, w))
+      (List·Memᴰ·append-cases (laid h k) m)
