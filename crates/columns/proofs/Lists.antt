@@ -8,7 +8,7 @@ use native.Mathlib.Numerals.{add-one}
 use native.Mathlib.Omega.{arith}
 use lib.ListN.{length, length-set, getD, set, take, drop, replicate, length-replicate, length-append, length-drop, drop-of-length-le, replicate-append-replicate, List·getD-append, getD-replicate, List·getD-eq-default}
 use lib.Seq.{drop-cons, take-suc, set-at, append-snoc, take-length, take-at, drop-at, drop-drop, drop-append-add, length-take-le, getD-at, getD-append-add, getD-drop, ext-getD}
-use Rattle.columns.specs.Columns.{listed, over, written, zeros, wiped, cell}
+use Rattle.columns.specs.Columns.{listed, over, written, zeros, wiped}
 use Rattle.columns.proofs.All.{top-or-below, lt-or-le}
 
 pub length-listed : {A : Type 0} (n : ℕ) (f : ℕ → A) → length (listed n f) ≡ n
@@ -207,11 +207,6 @@ front-zeros h x z w e r =
   where
     whole : {h n : ℕ} → h ≤ n → h + (n - h) ≡ n
     whole l = omega arith
-
-pub wiped-all : (h : ℕ) (x : List ℕ) → h ≤ length x → ((k : ℕ) → h ≤ k → getD x k 0 ≡ 0) → wiped h x ≡ zeros (length x)
-unfolding wiped over
-wiped-all h x w r =
-    ap (λ (n : ℕ). zeros h ++ drop n x) (length-replicate {A = ℕ} h 0) ∙ front-zeros h x (zeros h) w (ap zeros (sym (length-take-le h x w))) r
 
 -- cells that are as they were, and were zero
 pub tail-zero : (h : ℕ) (l m : List ℕ) → drop h l ≡ drop h m → ((k : ℕ) → getD m k 0 ≡ 0) → (k : ℕ) → h ≤ k → getD l k 0 ≡ 0

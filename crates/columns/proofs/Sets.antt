@@ -1,11 +1,10 @@
 -- Ascending lists as sets: who is a member, and that a set has one list. Assumes nothing.
-use mathlib.Core.Path.{_≡_, refl, sym, ap, ap₂, _∙_, subst}
-use mathlib.Core.Logic.{_⊎_, inl, inr, _↔_}
-use mathlib.Core.Bool.{Bool, true, false, cond, _&&_, _||_}
-use mathlib.Core.List.{List, [], _∷_, List·Memᴰ, List·Memᴰ·head, List·Memᴰ·tail, List·Memᴰ·cases-cons, List·Memᴰ·not-nil, Memᴰ·cast}
-use Prim.Native.Nat.{ℕ}
+use mathlib.Core.Path.{_≡_, refl, sym, ap₂}
+use mathlib.Core.Logic.{_⊎_, inl, inr}
+use mathlib.Core.Bool.{Bool, true, false, cond, _||_}
+use mathlib.Core.List.{List, [], _∷_, List·Memᴰ, List·Memᴰ·head, List·Memᴰ·tail, List·Memᴰ·cases-cons, List·Memᴰ·not-nil}
 use lib.Dec.{eqb}
-use Rattle.columns.specs.Sets.{Mem, among, insert, collect, addAll, gather, Ascending, same, Pair, Row, pairEq}
+use Rattle.columns.specs.Sets.{Mem, among, insert, collect, addAll, gather, Ascending, same, Pair, pairEq}
 use borrow.Author.Tests.{eqb-true, eq-eqb}
 use Rattle.columns.proofs.Bools.{contra, and-left, and-right, and-both, or-split, or-left, or-right}
 use Rattle.columns.proofs.Orders.{Order, asym}
