@@ -10,7 +10,8 @@ use Rattle.table.proofs.Rows.{step-fields}
 use Rattle.branching.specs.Branching.{inertEdge, branchingSignature}
 use Rattle.branching.proofs.BranchingSigs.{Leaves, branching-in, branching-out, branching-ascending}
 use Rattle.branching.proofs.InertSteps.{inert-of, inert-step, inert-block, inert-state}
-use Rattle.branching.proofs.Matches.{Alike, Named, Matching, matching-same}
+use Rattle.signatures.proofs.Renumbered.{Alike}
+use Rattle.branching.proofs.Matches.{Named, Matching, matching-same}
 
 module _ (t : Lts) (v : Valid t) where
   -- a walk in the block of s is one under the other numbering

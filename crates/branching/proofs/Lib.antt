@@ -1,9 +1,8 @@
-pub mod Laid
 pub mod Visited
 pub mod Hunting
 pub mod Unmarking
 pub mod Endings
-pub mod SixWorks
+pub mod MoreWorks
 pub mod BranchingSigs
 pub mod InertSteps
 pub mod Matches

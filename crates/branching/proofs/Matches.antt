@@ -7,10 +7,6 @@ use Rattle.columns.specs.Sets.{Mem, Pair, pairLt, Ascending}
 use Rattle.columns.proofs.Orders.{pair-order}
 use Rattle.columns.proofs.Sets.{ascending-unique}
 
--- states that share a block under one numbering share it under the other
-abbrev pub Alike : ℕ → List ℕ → List ℕ → Type 0
-Alike n home home' = (u v : ℕ) → u < n → v < n → getD home u 0 ≡ getD home v 0 → getD home' u 0 ≡ getD home' v 0
-
 -- the pair is of the block of some state
 pub record Named (n : ℕ) (home : List ℕ) (p : Pair) : Type 0 where
   pub state : ℕ

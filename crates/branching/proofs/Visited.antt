@@ -7,10 +7,12 @@ use mathlib.Core.Bool.{Bool, true, false, _&&_, cond}
 use mathlib.Core.List.{List, Memᴰ·map, Memᴰ·of-map}
 use lib.Dec.{eqb}
 use lib.ListN.{length, length-map, getD}
+use Rattle.columns.specs.Columns.{laid}
 use Rattle.columns.specs.Counting.{sum, many, members}
 use Rattle.columns.specs.Sets.{Mem, Pair}
 use Rattle.columns.proofs.Bools.{and-left, and-right, and-both, and-no-right, and-no-left, contra}
 use Rattle.columns.proofs.Counting.{one-if, one-if-true, one-if-false, many-sum, many-le, sum-pick, eqb-same}
+use Rattle.columns.proofs.Laid.{length-laid, laid-in, laid-out}
 use Rattle.columns.proofs.Members.{length-members, members-in, members-out}
 use Rattle.columns.proofs.Sums.{sum-cong, sum-zero, sum-swap}
 use Rattle.signatures.specs.Pairs.{signature}
@@ -18,8 +20,7 @@ use Rattle.signatures.specs.Strong.{pairAt}
 use Rattle.signatures.proofs.Sigs.{sig-same}
 use Rattle.table.specs.Lts.{Lts, Valid}
 use Rattle.branching.specs.Branching.{inertly, outerb, branchingPushed}
-use Rattle.branching.specs.Visiting.{outerPairs, laid, Lists}
-use Rattle.branching.proofs.Laid.{length-laid, laid-in, laid-out}
+use Rattle.branching.specs.Visiting.{outerPairs, Lists}
 
 pub length-outer : (t : Lts) (home : List ℕ) (b x : ℕ) → length (outerPairs t home b x) ≡ many (t .m) (λ i. eqb (getD (t .source) i 0) x && outerb t home b i)
 unfolding outerPairs

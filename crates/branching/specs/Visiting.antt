@@ -1,8 +1,8 @@
 -- The states that a state reaches in its block as a search finds them, and what is pushed for each.
-use Prim.Native.Nat.{ℕ, zero, suc, _≤_, _<_}
+use Prim.Native.Nat.{ℕ, _≤_, _<_}
 use mathlib.Core.Path.{_≡_}
 use mathlib.Core.Bool.{Bool, true, _&&_, cond}
-use mathlib.Core.List.{List, [], _++_, map}
+use mathlib.Core.List.{List, map}
 use lib.Dec.{eqb}
 use lib.ListN.{length, getD}
 use Rattle.columns.specs.Counting.{members}
@@ -62,8 +62,3 @@ pub record Lists (t : Lts) (home : List ℕ) (s : ℕ) (queue : List ℕ) (k : �
 unfoldable pub outerPairs : Lts → List ℕ → ℕ → ℕ → List Pair
 unfolding pairAt members outerb
 outerPairs t home b x = map (pairAt t home) (members (t .m) (λ i. eqb (getD (t .source) i 0) x && outerb t home b i))
-
--- h 0, h 1, .., h (k - 1), one after the other
-unfoldable pub laid : {A : Type 0} → (ℕ → List A) → ℕ → List A
-laid h zero = []
-laid h (suc k) = laid h k ++ h k

@@ -2,11 +2,9 @@
 // hidden steps into other blocks.
 ghost use mathlib.Core.Path.{_≡_};
 ghost use mathlib.Core.List.{[], _∷_};
-ghost use Prim.Native.Nat.{_+_};
 ghost use Rattle.branching.specs.Branching.{branchingBisimSignature};
 ghost use Rattle.columns.specs.Answers.{saidNumber};
 ghost use Rattle.partition.specs.Partition.{parts};
-ghost use Rattle.signatures.specs.Signing.{allLong};
 ghost use Rattle.table.specs.Lts.{lts};
 
 pub mod core;
@@ -14,32 +12,10 @@ pub mod core;
 use columns::answers::NumberAnswer;
 use columns::answers::refusing_number;
 use columns::cells::clear;
+use signatures::checks::roomy;
 use signatures::checks::signature_refusal;
 use signatures::flat::sign;
 use table::Table;
-
-// Whether six work slices of these lengths have n + m + 1 cells each.
-fn roomy(table: Table, a: usize, b: usize, c: usize, d: usize, e: usize, f: usize) -> bool
-    ensures { λ r. ⌜ r ≡ allLong (table .n + table .m + 1) (a ∷ b ∷ c ∷ d ∷ e ∷ f ∷ []) ⌝ }
-{
-    let cells = table.n as usize + table.m as usize + 1;
-    if a < cells {
-        return false;
-    }
-    if b < cells {
-        return false;
-    }
-    if c < cells {
-        return false;
-    }
-    if d < cells {
-        return false;
-    }
-    if e < cells {
-        return false;
-    }
-    if f < cells { false } else { true }
-}
 
 // Over states reached by hidden steps that stay in the state's block, (a, block of t) for each visible step and each hidden step into
 // another block. Work: the pairs pushed, two columns for the sort, and a mark for each state and a queue for the search.
@@ -69,15 +45,14 @@ pub fn branching_bisim_signature(
 {
     let n = table.n as usize;
     let s = state as usize;
-    let room = roomy(
+    let front = roomy(
         table,
         pushed_labels.len(),
         pushed_blocks.len(),
         order.len(),
         spare.len(),
-        marks.len(),
-        queue.len(),
     );
+    let back = roomy(table, marks.len(), queue.len(), queue.len(), queue.len());
     let t = signature_refusal(
         table,
         source,
@@ -91,7 +66,7 @@ pub fn branching_bisim_signature(
         marked_split,
         end,
         s,
-        room,
+        front & back,
     );
     let number = t.number;
     if number != 0 {

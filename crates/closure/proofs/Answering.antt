@@ -6,14 +6,14 @@ use mathlib.Core.Path.{_≡_, ap, sym, _∙_}
 use mathlib.Core.List.{List, []}
 use lib.Dec.{ltb, leb}
 use lib.ListN.{length}
-use Rattle.closure.specs.Closure.{workb, closureRefusal, close, markBackwardClosure}
-use Rattle.columns.specs.declared.answers.Refusal.{Refusal}
 use Rattle.columns.specs.Answers.{Said, done, refused, refusal, none, unless}
 use Rattle.columns.specs.Columns.{zeros}
+use Rattle.columns.specs.declared.answers.Refusal.{Refusal}
 use Rattle.columns.proofs.Bools.{and-left, and-right}
+use Rattle.columns.proofs.Chains.{one}
 use Rattle.columns.proofs.Saying.{left-refused, left-done}
+use Rattle.closure.specs.Closure.{workb, closureRefusal, close, markBackwardClosure}
 use Rattle.partition.specs.Partition.{Partition, Sound}
-use Rattle.partition.proofs.Refusals.{one}
 use Rattle.partitioned.proofs.Refusals.{both-of}
 use Rattle.table.specs.Lts.{Lts, Valid}
 

@@ -111,6 +111,10 @@ pub many-miss : (m : ℕ) (f : ℕ → Bool) → f m ≡ false → many (suc m) 
 unfolding many
 many-miss m f h = rw h (omega arith)
 
+pub many-all : (n : ℕ) (f : ℕ → Bool) → ((k : ℕ) → k < n → f k ≡ true) → many n f ≡ n
+many-all zero f h = many-none f
+many-all (suc n) f h = many-hit n f (h n (omega arith)) ∙ ap suc (many-all n f (λ k l. h k (omega arith)))
+
 -- one more number passes
 pub many-one-more :
     (n u : ℕ) (f g : ℕ → Bool) → u < n → f u ≡ false → g u ≡ true → ((k : ℕ) → (k ≡ u → ⊥) → g k ≡ f k) → many n g ≡ suc (many n f)

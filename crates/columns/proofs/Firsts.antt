@@ -20,15 +20,16 @@ module _ (f : ℕ → Bool) where
   none-more k r e i h = ⊎-elim (λ (q : i ≡ k). ap f q ∙ e) (λ (l : i < k). r i l) (top-or-below (omega (arith, h)))
 
 module _ (n : ℕ) (f : ℕ → Bool) where
-  pub first-hit : (k : ℕ) → k < n → NoneBelow f k → f k ≡ true → k ≡ first n f
-  first-hit k h r e =
+  pub first-is : (k : ℕ) → k ≤ n → NoneBelow f k → (k < n → f k ≡ true) → k ≡ first n f
+  first-is k h r e =
       let l : First n f (first n f) = first-law n f in
-      le-antisymm (not-below (λ w. contra (l .hit (omega arith)) (r (first n f) w))) (first-min n f k e)
+      le-antisymm (not-below (λ w. contra (l .hit (omega arith)) (r (first n f) w))) (not-below (λ w. contra (e (omega (arith, w, l .bound))) (l .before k w)))
+
+  pub first-hit : (k : ℕ) → k < n → NoneBelow f k → f k ≡ true → k ≡ first n f
+  first-hit k h r e = first-is k (omega arith) r (λ _. e)
 
   pub first-none : NoneBelow f n → n ≡ first n f
-  first-none r =
-      let l : First n f (first n f) = first-law n f in
-      le-antisymm (not-below (λ w. contra (l .hit w) (r (first n f) w))) (l .bound)
+  first-none r = first-is n (omega arith) r (λ w. absurd (omega arith))
 
   pub first-past : (k : ℕ) → n ≤ k → NoneBelow f k → k ≤ n → k ≡ first n f
   first-past k h r w = let e : k ≡ n = omega arith in e ∙ first-none (λ i l. r i (omega arith))

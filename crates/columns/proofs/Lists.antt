@@ -1,14 +1,14 @@
 -- Lists that a counting loop writes from the front. Assumes nothing.
 use mathlib.Core.Path.{_≡_, refl, sym, ap, _∙_, ap₂}
 use mathlib.Core.Logic.{⊎-elim}
-use mathlib.Core.List.{List, [], _∷_, _++_, map, map-append, append-nil}
+use mathlib.Core.List.{List, [], _∷_, _++_, map, map-append, append-nil, append-assoc}
 use Prim.Native.Nat.{ℕ, zero, suc, _+_, _-_, _≤_, _<_}
 use native.Mathlib.Nat.{not-suc-le-zero, le-of-suc-le-suc}
 use native.Mathlib.Numerals.{add-one}
 use native.Mathlib.Omega.{arith}
 use lib.ListN.{length, length-set, getD, set, take, drop, replicate, length-replicate, length-append, length-drop, drop-of-length-le, replicate-append-replicate, List·getD-append, getD-replicate, List·getD-eq-default}
-use lib.Seq.{drop-cons, take-suc, set-at, append-snoc, take-length, take-at, drop-at, length-take-le, getD-at, getD-append-add, getD-drop, ext-getD}
-use Rattle.columns.specs.Columns.{listed, over, written, zeros, wiped, cell}
+use lib.Seq.{drop-cons, take-suc, set-at, append-snoc, take-length, take-at, drop-at, drop-drop, drop-append-add, length-take-le, getD-at, getD-append-add, getD-drop, ext-getD}
+use Rattle.columns.specs.Columns.{listed, over, written, zeros, wiped}
 use Rattle.columns.proofs.All.{top-or-below, lt-or-le}
 
 pub length-listed : {A : Type 0} (n : ℕ) (f : ℕ → A) → length (listed n f) ≡ n
@@ -59,6 +59,21 @@ pub drop-over : (m l : List ℕ) → drop (length m) (over m l) ≡ drop (length
 unfolding over
 drop-over m l = lib.Seq.drop-append-seam m (drop (length m) l)
 
+pub over-front : (m l : List ℕ) (i : ℕ) → i < length m → getD (over m l) i 0 ≡ getD m i 0
+unfolding over
+over-front m l i h = List·getD-append m (drop (length m) l) 0 i h
+
+-- what is written over the front is gone once a list no shorter is
+pub over-again : (l m x : List ℕ) → length m ≤ length l → over l (over m x) ≡ over l x
+unfolding over
+over-again l m x h =
+    let q : length l ≡ length m + (length l - length m) = omega arith in
+    ap (λ (t : List ℕ). l ++ t)
+    (ap (λ (n : ℕ). drop n (m ++ drop (length m) x)) q
+    ∙ drop-append-add m (drop (length m) x) (length l - length m)
+    ∙ drop-drop (length l - length m) (length m) x
+    ∙ ap (λ (n : ℕ). drop n x) (sym q))
+
 -- the first h cells of one list over another
 module _ (h : ℕ) (m l x : List ℕ) (fits : h ≤ length m) (e : x ≡ over (take h m) l) where
   pub front-taken : take h x ≡ take h m
@@ -73,6 +88,17 @@ module _ (h : ℕ) (m l x : List ℕ) (fits : h ≤ length m) (e : x ≡ over (t
 pub wiped-front : (h : ℕ) (l x z : List ℕ) → h ≤ length x → z ≡ zeros (length (take h x)) → drop h x ≡ drop h l → z ++ drop h x ≡ wiped h l
 unfolding wiped over
 wiped-front h l x z w e k = rw (e, k, length-take-le h x w, length-replicate {A = ℕ} h 0)
+
+-- the first h cells changed, and then cleared
+pub wiped-changed : (h : ℕ) (x z : List ℕ) → length z ≡ h → wiped h (z ++ drop h x) ≡ wiped h x
+unfolding wiped over
+wiped-changed h x z e = rw (length-replicate {A = ℕ} h 0, drop-at z (drop h x) h e)
+
+-- the front of zeros
+pub take-zeros : (h n : ℕ) → h ≤ n → take h (zeros n) ≡ zeros h
+take-zeros h n w =
+    let q : n ≡ h + (n - h) = omega arith in
+    ap (take h) (ap zeros q ∙ sym (replicate-append-replicate h (n - h) 0)) ∙ take-at (zeros h) (zeros (n - h)) h (length-replicate {A = ℕ} h 0)
 
 -- zeros stay zeros
 pub wiped-zeros : (h n : ℕ) → h ≤ n → wiped h (zeros n) ≡ zeros n
@@ -98,6 +124,21 @@ pub map-listed : {A B : Type 0} (f : A → B) (n : ℕ) (g : ℕ → A) → map 
 unfolding listed
 map-listed f zero g = refl
 map-listed f (suc n) g = map-append f (listed n g) (g n ∷ []) ∙ ap (λ t. t ++ (f (g n) ∷ [])) (map-listed f n g)
+
+-- the first apart
+pub listed-cons : {A : Type 0} (n : ℕ) (f : ℕ → A) → listed (suc n) f ≡ f 0 ∷ listed n (λ i. f (suc i))
+unfolding listed
+listed-cons zero f = refl
+listed-cons (suc n) f = ap (λ t. t ++ (f (suc n) ∷ [])) (listed-cons n f)
+
+pub listed-split : {A : Type 0} (m n : ℕ) (f : ℕ → A) → listed (m + n) f ≡ listed m f ++ listed n (λ i. f (m + i))
+unfolding listed
+listed-split m zero f = let e : m + 0 ≡ m = omega arith in ap (λ (k : ℕ). listed k f) e ∙ sym (append-nil (listed m f))
+listed-split m (suc n) f =
+    let e : m + suc n ≡ suc (m + n) = omega arith in
+    ap (λ (k : ℕ). listed k f) e
+    ∙ ap (λ t. t ++ (f (m + n) ∷ [])) (listed-split m n f)
+    ∙ append-assoc (listed m f) (listed n (λ i. f (m + i))) (f (m + n) ∷ [])
 
 listed-take : (n : ℕ) (l : List ℕ) → n ≤ length l → listed n (λ k. getD l k 0) ≡ take n l
 unfolding listed
@@ -166,3 +207,9 @@ front-zeros h x z w e r =
   where
     whole : {h n : ℕ} → h ≤ n → h + (n - h) ≡ n
     whole l = omega arith
+
+-- cells that are as they were, and were zero
+pub tail-zero : (h : ℕ) (l m : List ℕ) → drop h l ≡ drop h m → ((k : ℕ) → getD m k 0 ≡ 0) → (k : ℕ) → h ≤ k → getD l k 0 ≡ 0
+tail-zero h l m e z k w =
+    let q : k ≡ h + (k - h) = omega arith in
+    ap (λ (y : ℕ). getD l y 0) q ∙ sym (getD-drop h l (k - h) 0) ∙ ap (λ (x : List ℕ). getD x (k - h) 0) e ∙ getD-drop h m (k - h) 0 ∙ z (h + (k - h))

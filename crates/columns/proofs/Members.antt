@@ -1,52 +1,53 @@
 -- Laws of `members`: the numbers below a bound that pass, ascending; a list of just these, sorted, is that list; and what is
 -- counted or stored along it is what is counted or stored over all numbers with the test.
 use Prim.Native.Nat.{ℕ, zero, suc, _+_, _≤_, _<_}
+use native.Mathlib.Nat.{eq-or-lt-of-le}
+use native.Mathlib.Numerals.{add-one}
 use native.Mathlib.Omega.{arith}
-use borrow.Author.Tests.{ltb-true, ltb-false, lt-ltb}
+use borrow.Author.Tests.{lt-ltb}
 use mathlib.Core.Bool.{Bool, true, false, cond, _&&_}
 use mathlib.Core.Path.{_≡_, refl, ap, sym, _∙_}
-use mathlib.Core.Logic.{_⊎_, inl, inr, ⊎-elim}
-use mathlib.Core.List.{List, [], _∷_, _++_, append-nil, List·Memᴰ·head, List·Memᴰ·tail, List·Memᴰ·cases-cons, List·Memᴰ·not-nil}
+use mathlib.Core.Logic.{⊎-elim}
+use mathlib.Core.List.{List, [], _∷_, _++_, append-nil, List·Memᴰ·not-nil, List·Memᴰ·append-cases, List·Memᴰ·eq-of-singleton, Memᴰ·append-left, Memᴰ·append-right}
 use lib.Dec.{ltb}
 use lib.ListN.{length, getD, set, length-append, List·getD-append}
 use lib.Seq.{getD-at}
 use Rattle.columns.specs.Counting.{many, stores, members}
 use Rattle.columns.specs.Sets.{Mem, Ascending}
-use Rattle.columns.specs.Sort.{put, into, sort, Sorted}
-use Rattle.columns.proofs.Bools.{contra, cases}
-use Rattle.columns.proofs.All.{top-or-below, same-or-not, lt-or-le}
-use Rattle.columns.proofs.Orders.{Order, ltb-order}
+use Rattle.columns.specs.Sort.{sort}
+use Rattle.columns.proofs.All.{top-or-below}
+use Rattle.columns.proofs.Apart.{Apart, sort-ascending}
+use Rattle.columns.proofs.Bools.{contra}
+use Rattle.columns.proofs.Counting.{many-all, many-strict}
+use Rattle.columns.proofs.Facts.{sort-in, sort-out}
+use Rattle.columns.proofs.Orders.{ltb-order}
+use Rattle.columns.proofs.Risings.{snoc-ascending}
 use Rattle.columns.proofs.Sets.{here, ascending-unique}
-use Rattle.columns.proofs.Sorts.{put-split, sort-sorted}
-use Rattle.columns.proofs.Facts.{sort-in, sort-out, mem-at}
-use Rattle.columns.proofs.Stores.{stores-more}
-
--- ---- membership in a list with one more at its end
-snoc-new : {A : Type 0} (l : List A) (x : A) → Mem x (l ++ (x ∷ []))
-snoc-new [] x = here
-snoc-new (y ∷ l) x = List·Memᴰ·tail (snoc-new l x)
-
-snoc-old : {A : Type 0} (l : List A) (x z : A) → Mem z l → Mem z (l ++ (x ∷ []))
-snoc-old [] x z m = absurd (List·Memᴰ·not-nil m)
-snoc-old (y ∷ l) x z m = ⊎-elim (λ (e : z ≡ y). List·Memᴰ·head e) (λ (k : Mem z l). List·Memᴰ·tail (snoc-old l x z k)) (List·Memᴰ·cases-cons m)
-
-snoc-split : {A : Type 0} (l : List A) (x z : A) → Mem z (l ++ (x ∷ [])) → (z ≡ x) ⊎ Mem z l
-snoc-split [] x z m = ⊎-elim (λ (e : z ≡ x). inl e) (λ (k : Mem z []). inr k) (List·Memᴰ·cases-cons m)
-snoc-split (y ∷ l) x z m =
-    ⊎-elim (λ (e : z ≡ y). inr (List·Memᴰ·head e))
-    (λ (k : Mem z (l ++ (x ∷ []))). ⊎-elim (λ (e : z ≡ x). inl e) (λ (j : Mem z l). inr (List·Memᴰ·tail j)) (snoc-split l x z k))
-    (List·Memᴰ·cases-cons m)
-
-snoc-ascending : (l : List ℕ) (x : ℕ) → Ascending ltb l → ((z : ℕ) → Mem z l → z < x) → Ascending ltb (l ++ (x ∷ []))
-unfolding Ascending
-snoc-ascending [] x a h = (λ y m. absurd (List·Memᴰ·not-nil m), a)
-snoc-ascending (y ∷ l) x a h = (
-  λ z m. ⊎-elim (λ (e : z ≡ x). rw e (lt-ltb y x (h y here))) (λ (k : Mem z l). a .0 z k) (snoc-split l x z m),
-  snoc-ascending l x (a .1) (λ z m. h z (List·Memᴰ·tail m)),
-)
 
 -- ---- the members
 module _ (f : ℕ → Bool) where
+  pub members-hit : (n : ℕ) → f n ≡ true → members (n + 1) f ≡ members n f ++ (n ∷ [])
+  unfolding members
+  members-hit n h = rw (add-one, h)
+
+  pub members-miss : (n : ℕ) → f n ≡ false → members (n + 1) f ≡ members n f
+  unfolding members
+  members-miss n h = rw (add-one, h) (append-nil (members n f))
+
+  -- none passes from r on
+  pub members-rest : (n r : ℕ) → r ≤ n → ((i : ℕ) → r ≤ i → i < n → f i ≡ false) → members n f ≡ members r f
+  members-rest zero r h g = let e : 0 ≡ r = omega arith in ap (λ (k : ℕ). members k f) e
+  members-rest (suc n) r h g =
+      ⊎-elim (λ (e : r ≡ suc n). ap (λ (k : ℕ). members k f) (sym e))
+      (λ (l : r < suc n).
+      ap (λ (k : ℕ). members k f) (sym (add-one n)) ∙ members-miss n (g n (omega arith) (omega arith))
+      ∙ members-rest n r (omega arith) (λ i a b. g i a (omega arith)))
+      (eq-or-lt-of-le h)
+
+  pub members-none : (n : ℕ) → ((i : ℕ) → i < n → f i ≡ false) → members n f ≡ []
+  unfolding members
+  members-none n h = members-rest n 0 (omega arith) (λ i a b. h i b)
+
   pub length-members : (n : ℕ) → length (members n f) ≡ many n f
   unfolding members many
   length-members zero = refl
@@ -55,6 +56,13 @@ module _ (f : ℕ → Bool) where
       go : length (members n f) ≡ many n f → (t : Bool) → length (members n f ++ cond t (n ∷ []) []) ≡ many n f + cond t 1 0
       go h true = length-append (members n f) (n ∷ []) ∙ omega (arith, h)
       go h false = length-append (members n f) [] ∙ omega (arith, h)
+
+  pub many-rest : (n r : ℕ) → r ≤ n → ((i : ℕ) → r ≤ i → i < n → f i ≡ false) → many n f ≡ many r f
+  many-rest n r h g = sym (length-members n) ∙ ap length (members-rest n r h g) ∙ length-members r
+
+  -- just the numbers below r pass
+  pub many-front : (n r : ℕ) → r ≤ n → ((i : ℕ) → i < r → f i ≡ true) → ((i : ℕ) → r ≤ i → i < n → f i ≡ false) → r ≡ many n f
+  many-front n r h y g = sym (many-rest n r h g ∙ many-all r f y)
 
   -- a member stands at its rank
   pub members-at : (n s : ℕ) → s < n → f s ≡ true → getD (members n f) (many s f) 0 ≡ s
@@ -65,7 +73,7 @@ module _ (f : ℕ → Bool) where
       low : (t : List ℕ) → s < n → getD (members n f) (many s f) 0 ≡ s → getD (members n f ++ t) (many s f) 0 ≡ s
       low t l q =
           List·getD-append (members n f) t 0 (many s f)
-          (omega (arith, length-members n, Rattle.columns.proofs.Counting.many-strict s n f l e)) ∙ q
+          (omega (arith, length-members n, many-strict s n f l e)) ∙ q
 
       go : (s < n → f s ≡ true → getD (members n f) (many s f) 0 ≡ s) → (t : Bool) → f n ≡ t
           → getD (members n f ++ cond t (n ∷ []) []) (many s f) 0 ≡ s
@@ -81,7 +89,7 @@ module _ (f : ℕ → Bool) where
     where
       go : (s < n → f s ≡ true → Mem s (members n f)) → (t : Bool) → f n ≡ t → Mem s (members n f ++ cond t (n ∷ []) [])
       go ih true q =
-          ⊎-elim (λ (w : s ≡ n). rw w (snoc-new (members n f) n)) (λ (w : s < n). snoc-old (members n f) n s (ih w e)) (top-or-below h)
+          ⊎-elim (λ (w : s ≡ n). rw w (Memᴰ·append-right (members n f) here)) (λ (w : s < n). Memᴰ·append-left (n ∷ []) (ih w e)) (top-or-below h)
       go ih false q =
           rw (append-nil (members n f)) (⊎-elim (λ (w : s ≡ n). absurd (contra e (ap f w ∙ q))) (λ (w : s < n). ih w e) (top-or-below h))
 
@@ -93,8 +101,8 @@ module _ (f : ℕ → Bool) where
       go : (Mem s (members n f) → (s < n) × (f s ≡ true)) → (t : Bool) → f n ≡ t → Mem s (members n f ++ cond t (n ∷ []) [])
           → (s < suc n) × (f s ≡ true)
       go ih true q m =
-          ⊎-elim (λ (w : s ≡ n). (omega arith, ap f w ∙ q)) (λ (k : Mem s (members n f)). let r = ih k in (omega (arith, r .0), r .1))
-          (snoc-split (members n f) n s m)
+          ⊎-elim (λ (k : Mem s (members n f)). let r = ih k in (omega (arith, r .0), r .1))
+          (λ (k : Mem s (n ∷ [])). let w : s ≡ n = List·Memᴰ·eq-of-singleton k in (omega arith, ap f w ∙ q)) (List·Memᴰ·append-cases (members n f) m)
       go ih false q m = let r = ih (rw (append-nil (members n f)) at m) in (omega (arith, r .0), r .1)
 
   pub members-ascending : (n : ℕ) → Ascending ltb (members n f)
@@ -103,62 +111,16 @@ module _ (f : ℕ → Bool) where
   members-ascending (suc n) = go (members-ascending n) (f n)
     where
       go : Ascending ltb (members n f) → (t : Bool) → Ascending ltb (members n f ++ cond t (n ∷ []) [])
-      go a true = snoc-ascending (members n f) n a (λ z m. members-out n z m .0)
+      go a true = snoc-ascending ltb (members n f) n a (λ z m. lt-ltb z n (members-out n z m .0))
       go a false = rw (append-nil (members n f)) a
 
--- ---- a list in which nothing stands twice
-unfoldable pub Apart : List ℕ → Type 0
-Apart [] = Unit {0}
-Apart (x ∷ l) = (Mem x l → ⊥) × Apart l
-
-pub apart-of : (l : List ℕ) → ((i j : ℕ) → i < length l → j < length l → getD l i 0 ≡ getD l j 0 → i ≡ j) → Apart l
-unfolding Apart
-apart-of [] h = tt
-apart-of (x ∷ l) h = (
-  λ m. let r = mem-at l x m in zero-not (h (suc (r .0)) 0 (omega (arith, r .1)) (omega arith) (r .2)),
-  apart-of l (λ i j wi wj e. pred (h (suc i) (suc j) (omega (arith, wi)) (omega (arith, wj)) e)),
-)
-  where
-    zero-not : {k : ℕ} → suc k ≡ 0 → ⊥
-    zero-not e = omega (arith, e)
-
-    pred : {i j : ℕ} → suc i ≡ suc j → i ≡ j
-    pred e = omega (arith, e)
-
-module _ (lt : ℕ → ℕ → Bool) (key : ℕ → ℕ) (o : Order lt) where
-  put-apart : (x : ℕ) (l : List ℕ) → (Mem x l → ⊥) → Apart l → Apart (put lt key x l)
-  unfolding put Apart
-  put-apart x [] n a = (n, a)
-  put-apart x (y ∷ l) n a = go (put-apart x l (λ m. n (List·Memᴰ·tail m)) (a .1)) (lt (key y) (key x))
-    where
-      go : Apart (put lt key x l) → (t : Bool) → Apart (cond t (y ∷ put lt key x l) (x ∷ y ∷ l))
-      go ih true = (λ m. ⊎-elim (λ (e : y ≡ x). n (List·Memᴰ·head (sym e))) (λ (k : Mem y l). a .0 k) (put-split lt key o x y l m), ih)
-      go ih false = (n, a)
-
-  pub sort-apart : (l : List ℕ) → Apart l → Apart (sort lt key l)
-  unfolding sort into Apart
-  sort-apart [] a = a
-  sort-apart (x ∷ l) a = put-apart x (sort lt key l) (λ m. a .0 (sort-out lt key o l x m)) (sort-apart l (a .1))
-
--- sorted and apart: ascending
-sorted-ascending : (l : List ℕ) → Sorted ltb (λ x. x) l → Apart l → Ascending ltb l
-unfolding Sorted Apart Ascending
-sorted-ascending [] s a = tt
-sorted-ascending (x ∷ l) s a = (
-  λ y m. lt-ltb x y (less (ltb-false y x (s .0 y m)) (λ e. a .0 (rw e m))),
-  sorted-ascending l (s .1) (a .1),
-)
-  where
-    less : {i j : ℕ} → i ≤ j → (i ≡ j → ⊥) → i < j
-    less h n = omega (arith, h, n)
-
+-- ---- a list of just these, sorted
 pub sort-members :
-    (n : ℕ) (f : ℕ → Bool) (l : List ℕ) → Apart l → ((s : ℕ) → Mem s l → (s < n) × (f s ≡ true)) → ((s : ℕ) → s < n → f s ≡ true → Mem s l)
+    (n : ℕ) (f : ℕ → Bool) (l : List ℕ) → Apart (λ x. x) l → ((s : ℕ) → Mem s l → (s < n) × (f s ≡ true)) → ((s : ℕ) → s < n → f s ≡ true → Mem s l)
     → sort ltb (λ x. x) l ≡ members n f
 sort-members n f l a out in-l =
     ascending-unique ltb ltb-order (sort ltb (λ x. x) l) (members n f)
-    (sorted-ascending (sort ltb (λ x. x) l) (sort-sorted ltb (λ x. x) ltb-order l) (sort-apart ltb (λ x. x) ltb-order l a))
-    (members-ascending f n)
+    (sort-ascending ltb (λ x. x) ltb-order l a) (members-ascending f n)
     (λ z m. let r = out z (sort-out ltb (λ x. x) ltb-order l z m) in members-in f n z (r .0) (r .1))
     (λ z m. let r = members-out f n z m in sort-in ltb (λ x. x) ltb-order l z (in-l z (r .0) (r .1)))
 

@@ -41,7 +41,7 @@ module _ (a b c : List ℕ) (i j x y : ℕ) (ex : x ≡ cell a i) (ey : y ≡ ce
       third-less = rw (← ex, ← ey, le-ltb x y le, le-ltb y x ge, ← ex₂, ← ey₂, le-ltb x₂ y₂ le₂, le-ltb y₂ x₂ ge₂, ex₃, ey₃)
 
 -- ---- the set of the rows
-key-row : (a b c : List ℕ) (i : ℕ) → i < length a → i < length b → i < length c → keyOf a b c i ≡ (getD a i 0, (getD b i 0, getD c i 0))
+pub key-row : (a b c : List ℕ) (i : ℕ) → i < length a → i < length b → i < length c → keyOf a b c i ≡ (getD a i 0, (getD b i 0, getD c i 0))
 unfolding keyOf cell
 key-row a b c i ha hb hc = rw (getD-any a i i 0 ha, getD-any b i i 0 hb, getD-any c i i 0 hc)
 

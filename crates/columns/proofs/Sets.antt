@@ -1,13 +1,12 @@
 -- Ascending lists as sets: who is a member, and that a set has one list. Assumes nothing.
-use mathlib.Core.Path.{_≡_, refl, sym, ap, ap₂, _∙_, subst}
-use mathlib.Core.Logic.{_⊎_, inl, inr, _↔_}
-use mathlib.Core.Bool.{Bool, true, false, cond, _&&_}
-use mathlib.Core.List.{List, [], _∷_, List·Memᴰ, List·Memᴰ·head, List·Memᴰ·tail, List·Memᴰ·cases-cons, List·Memᴰ·not-nil, Memᴰ·cast}
-use Prim.Native.Nat.{ℕ}
+use mathlib.Core.Path.{_≡_, refl, sym, ap₂}
+use mathlib.Core.Logic.{_⊎_, inl, inr}
+use mathlib.Core.Bool.{Bool, true, false, cond, _||_}
+use mathlib.Core.List.{List, [], _∷_, List·Memᴰ, List·Memᴰ·head, List·Memᴰ·tail, List·Memᴰ·cases-cons, List·Memᴰ·not-nil}
 use lib.Dec.{eqb}
-use Rattle.columns.specs.Sets.{Mem, insert, collect, addAll, gather, Ascending, same, Pair, Row, pairEq}
+use Rattle.columns.specs.Sets.{Mem, among, insert, collect, addAll, gather, Ascending, same, Pair, pairEq}
 use borrow.Author.Tests.{eqb-true, eq-eqb}
-use Rattle.columns.proofs.Bools.{cases, contra, fails, and-left, and-right, and-both}
+use Rattle.columns.proofs.Bools.{contra, and-left, and-right, and-both, or-split, or-left, or-right}
 use Rattle.columns.proofs.Orders.{Order, asym}
 
 pub here : {A : Type 0} {x : A} {xs : List A} → Mem x (x ∷ xs)
@@ -106,6 +105,15 @@ module _ {A : Type 0} (lt : A → A → Bool) (o : Order lt) where
           go (inl e) = absurd (contra (b .0 z m) (rw (e, heads) (o .irrefl y)))
           go (inr k) = k
 
+  -- one that is there already
+  pub insert-there : (x : A) (l : List A) → Ascending lt l → Mem x l → insert lt x l ≡ l
+  insert-there x l a m =
+      ascending-unique (insert lt x l) l (insert-ascending x l a) a (λ z k. go z (insert-split x z l k)) (λ z k. insert-old x z l k)
+    where
+      go : (z : A) → (z ≡ x) ⊎ Mem z l → Mem z l
+      go z (inl e) = rw e m
+      go z (inr i) = i
+
   -- ---- collect
   module _ {R : Type 0} (p : R → Bool) (g : R → A) where
     pub collect-ascending : (rs : List R) → Ascending lt (collect lt p g rs)
@@ -150,8 +158,8 @@ module _ {A : Type 0} (lt : A → A → Bool) (o : Order lt) where
             split (inr k) = up (f k)
         go f false h m = up (f m)
 
-  -- ---- gather
-  addAll-left : (z : A) (l m : List A) → Mem z l → Mem z (addAll lt l m)
+  -- ---- addAll
+  pub addAll-left : (z : A) (l m : List A) → Mem z l → Mem z (addAll lt l m)
   unfolding addAll
   addAll-left z [] m k = absurd (List·Memᴰ·not-nil k)
   addAll-left z (x ∷ xs) m k = go (addAll-left z xs m) (List·Memᴰ·cases-cons k)
@@ -160,12 +168,12 @@ module _ {A : Type 0} (lt : A → A → Bool) (o : Order lt) where
       go f (inl e) = rw e (insert-new x (addAll lt xs m))
       go f (inr i) = insert-old x z (addAll lt xs m) (f i)
 
-  addAll-right : (z : A) (l m : List A) → Mem z m → Mem z (addAll lt l m)
+  pub addAll-right : (z : A) (l m : List A) → Mem z m → Mem z (addAll lt l m)
   unfolding addAll
   addAll-right z [] m k = k
   addAll-right z (x ∷ xs) m k = insert-old x z (addAll lt xs m) (addAll-right z xs m k)
 
-  addAll-split : (z : A) (l m : List A) → Mem z (addAll lt l m) → Mem z l ⊎ Mem z m
+  pub addAll-split : (z : A) (l m : List A) → Mem z (addAll lt l m) → Mem z l ⊎ Mem z m
   unfolding addAll
   addAll-split z [] m k = inr k
   addAll-split z (x ∷ xs) m k = go (addAll-split z xs m) (insert-split x z (addAll lt xs m) k)
@@ -178,11 +186,12 @@ module _ {A : Type 0} (lt : A → A → Bool) (o : Order lt) where
       go f (inl e) = inl (List·Memᴰ·head e)
       go f (inr i) = up (f i)
 
-  addAll-ascending : (l m : List A) → Ascending lt m → Ascending lt (addAll lt l m)
+  pub addAll-ascending : (l m : List A) → Ascending lt m → Ascending lt (addAll lt l m)
   unfolding addAll
   addAll-ascending [] m a = a
   addAll-ascending (x ∷ xs) m a = insert-ascending x (addAll lt xs m) (addAll-ascending xs m a)
 
+  -- ---- gather
   module _ {R : Type 0} (g : R → List A) where
     pub gather-ascending : (rs : List R) → Ascending lt (gather lt g rs)
     unfolding gather Ascending
@@ -207,7 +216,25 @@ module _ {A : Type 0} (lt : A → A → Bool) (o : Order lt) where
         go f (inl i) = (x, here, i)
         go f (inr i) = let t = f i in (t .0, List·Memᴰ·tail (t .1), t .2)
 
--- ---- the test on lists
+-- ---- the tests
+pub among-in : {A : Type 0} (eq : A → A → Bool) → ((x : A) → eq x x ≡ true) → (x : A) (l : List A) → Mem x l → among eq x l ≡ true
+unfolding among
+among-in eq r x [] m = absurd (List·Memᴰ·not-nil m)
+among-in eq r x (y ∷ l) m = go (among-in eq r x l) (List·Memᴰ·cases-cons m)
+  where
+    go : (Mem x l → among eq x l ≡ true) → (x ≡ y) ⊎ Mem x l → (eq x y || among eq x l) ≡ true
+    go f (inl e) = or-left (eq x y) (among eq x l) (rw e (r y))
+    go f (inr k) = or-right (eq x y) (among eq x l) (f k)
+
+pub among-out : {A : Type 0} (eq : A → A → Bool) → ((x y : A) → eq x y ≡ true → x ≡ y) → (x : A) (l : List A) → among eq x l ≡ true → Mem x l
+unfolding among
+among-out eq sound x [] h = absurd (contra h refl)
+among-out eq sound x (y ∷ l) h = go (among-out eq sound x l) (or-split (eq x y) (among eq x l) h)
+  where
+    go : (among eq x l ≡ true → Mem x l) → (eq x y ≡ true) ⊎ (among eq x l ≡ true) → Mem x (y ∷ l)
+    go f (inl e) = List·Memᴰ·head (sound x y e)
+    go f (inr e) = List·Memᴰ·tail (f e)
+
 pub same-eq : {A : Type 0} (eq : A → A → Bool) (sound : (x y : A) → eq x y ≡ true → x ≡ y) (l m : List A) → same eq l m ≡ true → l ≡ m
 unfolding same
 same-eq eq sound [] [] h = refl

@@ -40,6 +40,12 @@ unfolding sum
 sum-one zero = refl
 sum-one (suc n) = omega (arith, sum-one n)
 
+-- the first apart
+pub sum-first : (f : ℕ → ℕ) (n : ℕ) → sum f (suc n) ≡ f 0 + sum (λ j. f (suc j)) n
+unfolding sum
+sum-first f zero = omega arith
+sum-first f (suc n) = omega (arith, sum-first f n)
+
 pub sum-add : (f g : ℕ → ℕ) (n : ℕ) → sum (λ k. f k + g k) n ≡ sum f n + sum g n
 unfolding sum
 sum-add f g zero = refl

@@ -11,6 +11,11 @@ unfoldable pub listed : {A : Type 0} → ℕ → (ℕ → A) → List A
 listed zero f = []
 listed (suc n) f = listed n f ++ (f n ∷ [])
 
+-- h 0, h 1, .., h (k - 1), one after the other
+unfoldable pub laid : {A : Type 0} → (ℕ → List A) → ℕ → List A
+laid h zero = []
+laid h (suc k) = laid h k ++ h k
+
 -- a list written over the front of another
 unfoldable pub over : {A : Type 0} → List A → List A → List A
 over l m = l ++ drop (length l) m

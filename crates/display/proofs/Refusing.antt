@@ -2,13 +2,14 @@
 use Prim.Native.Nat.{ℕ, _≤_, _<_}
 use native.Mathlib.Omega.{arith}
 use borrow.Author.Tests.{le-leb, lt-leb, leb-true}
-use mathlib.Core.Bool.{Bool, true, false}
+use mathlib.Core.Bool.{true}
 use mathlib.Core.List.{List}
-use mathlib.Core.Path.{_≡_, refl, sym, ap, _∙_}
+use mathlib.Core.Path.{_≡_, sym, ap, _∙_}
 use lib.Dec.{leb}
 use lib.ListN.{length}
 use Rattle.columns.specs.declared.answers.Refusal.{Refusal}
 use Rattle.columns.specs.Answers.{refusal, none, unless}
+use Rattle.columns.proofs.Chains.{one}
 use Rattle.partition.specs.Checks.{checked}
 use Rattle.partition.specs.Partition.{Partition, Sound}
 use Rattle.partition.proofs.Refusals.{Checked, checked-of, checked-on, checked-out}
@@ -30,10 +31,6 @@ readable-of p s =
 abbrev roomed : Partition → ℕ → Refusal
 roomed p room = unless (leb (length (displayText p)) room) (refusal 16 (length (displayText p))) none
 
-passes : (t : Bool) (n : ℕ) → unless t (refusal 16 n) none .number ≡ 0 → t ≡ true
-passes true n e = refl
-passes false n e = absurd (omega arith)
-
 -- the call's checks have answered t
 module _ (p : Partition) (room : ℕ) (t : Refusal) (e : t ≡ displayRefusal p room) (z : t .number ≡ 0) where
   ready : Checked p true (roomed p room)
@@ -44,7 +41,7 @@ module _ (p : Partition) (room : ℕ) (t : Refusal) (e : t ≡ displayRefusal p 
   display-reads = readable-of p (ready .sound)
 
   pub display-room : length (displayText p) ≤ room
-  display-room = leb-true _ _ (passes _ (length (displayText p)) (ready .rest))
+  display-room = leb-true _ _ (one _ 16 (length (displayText p)) none (λ q. omega arith) (ready .rest) .0)
 
 -- partition's own checks have answered t
 module _ (p : Partition) (room : ℕ) (t : Refusal) (e : t ≡ checked p true none) where

@@ -1,19 +1,19 @@
 -- Laws of the refusals 9 and 10, by what the code has read, and what holds where nothing is refused.
 use Prim.Native.Nat.{ℕ, _-_, _≤_, _<_}
 use native.Mathlib.Omega.{arith}
-use borrow.Author.Tests.{ltb-true, leb-true, eqb-false, lt-ltb, le-ltb, eq-eqb, ne-eqb}
+use borrow.Author.Tests.{ltb-true, leb-true, lt-ltb, le-ltb, eq-eqb, ne-eqb}
 use mathlib.Core.Bool.{Bool, true, false, cond, _&&_}
 use mathlib.Core.Path.{_≡_, refl, ap, sym, _∙_}
 use mathlib.Core.List.{List}
 use lib.ListN.{length, getD}
 use lib.Dec.{ltb, leb, eqb}
-use Rattle.columns.specs.declared.answers.Refusal.{Refusal}
 use Rattle.columns.specs.Answers.{refusal, none, unless}
 use Rattle.columns.specs.Counting.{first}
 use Rattle.columns.specs.Tests.{all}
-use Rattle.columns.proofs.Bools.{cases, and-left, and-right, fails}
+use Rattle.columns.proofs.Bools.{and-left, and-right}
+use Rattle.columns.proofs.Chains.{one}
 use Rattle.partition.specs.Partition.{Partition}
-use Rattle.partition.proofs.Refusals.{checked-of, one}
+use Rattle.partition.proofs.Refusals.{checked-of}
 use Rattle.division.specs.Marked.{chosen, markedIn, numbered, absent, missing, denseb, lenAt, Ready}
 use Rattle.passes.specs.Passes.{lengthIn, held}
 use Rattle.division.specs.Division.{unfit, roomb, Work, refusalFor, divisionRefusal}

@@ -2,17 +2,12 @@
 use Prim.Native.Nat.{ℕ, zero, suc, _<_}
 use mathlib.Core.Path.{_≡_, refl, ap, sym, _∙_}
 use mathlib.Core.List.{List, [], _∷_, map}
-use lib.ListN.{length, getD, set}
+use lib.ListN.{length, getD, set, List·getD-map}
 use Rattle.columns.specs.Columns.{swapped}
 use Rattle.columns.proofs.Lists.{listed-at, length-listed}
 use Rattle.partition.specs.declared.block.Block.{Block}
 use Rattle.host.specs.Records.{begins, splits, ends, noBlock, exchanged}
 use Rattle.host.specs.Tables.{beginsOf, splitsOf, endsOf}
-
-getD-map : {A B : Type 0} (f : A → B) (l : List A) (i : ℕ) (d : A) → getD (map f l) i (f d) ≡ f (getD l i d)
-getD-map f [] i d = refl
-getD-map f (x ∷ l) zero d = refl
-getD-map f (x ∷ l) (suc i) d = getD-map f l i d
 
 map-set : {A B : Type 0} (f : A → B) (l : List A) (i : ℕ) (v : A) → map f (set l i v) ≡ set (map f l) i (f v)
 map-set f [] i v = refl
@@ -21,7 +16,7 @@ map-set {B = B} f (x ∷ l) (suc i) v = ap (λ (t : List B). f x ∷ t) (map-set
 
 -- one field, where a record that isn't there has 0
 pub field-at : (f : Block → ℕ) → f noBlock ≡ 0 → (bs : List Block) (k : ℕ) → getD (map f bs) k 0 ≡ f (getD bs k noBlock)
-field-at f e bs k = ap (λ (d : ℕ). getD (map f bs) k d) (sym e) ∙ getD-map f bs k noBlock
+field-at f e bs k = ap (λ (d : ℕ). getD (map f bs) k d) (sym e) ∙ List·getD-map f bs k noBlock
 
 -- ---- of a list
 pub begins-at : (bs : List Block) (k : ℕ) → getD (begins bs) k 0 ≡ getD bs k noBlock .begin

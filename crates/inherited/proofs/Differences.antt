@@ -4,27 +4,19 @@ use mathlib.Core.Logic.{⊎-elim}
 use mathlib.Core.Bool.{Bool, true, false, cond}
 use mathlib.Core.List.{List, [], _∷_, _++_, append-nil, List·Memᴰ·head, List·Memᴰ·tail, List·Memᴰ·cases-cons, List·Memᴰ·not-nil}
 use Rattle.columns.specs.Sets.{Mem, Pair, pairLt, pairEq, insert, addAll, Ascending}
-use Rattle.columns.proofs.Bools.{contra, or-split, or-left, or-right}
+use Rattle.columns.proofs.Bools.{contra}
 use Rattle.columns.proofs.Orders.{pair-order}
-use Rattle.columns.proofs.Sets.{ascending-unique, insert-old, insert-split, insert-ascending, pairEq-eq, pairEq-refl}
+use Rattle.columns.proofs.Sets.{pairEq-eq, pairEq-refl, insert-there, addAll-right, addAll-ascending, among-in, among-out}
 use Rattle.inherited.specs.Union.{has, without}
-use Rattle.inherited.proofs.Unions.{union-right, union-ascending}
 
 -- ---- the test
 pub has-in : (m : List Pair) (x : Pair) → Mem x m → has m x ≡ true
 unfolding has
-has-in [] x k = absurd (List·Memᴰ·not-nil k)
-has-in (y ∷ m) x k =
-    ⊎-elim (λ (e : x ≡ y). or-left (pairEq y x) (has m x) (ap (pairEq y) e ∙ pairEq-refl y))
-    (λ (i : Mem x m). or-right (pairEq y x) (has m x) (has-in m x i))
-    (List·Memᴰ·cases-cons k)
+has-in m x k = among-in pairEq pairEq-refl x m k
 
 pub has-out : (m : List Pair) (x : Pair) → has m x ≡ true → Mem x m
 unfolding has
-has-out [] x h = absurd (contra h refl)
-has-out (y ∷ m) x h =
-    ⊎-elim (λ (e : pairEq y x ≡ true). List·Memᴰ·head (sym (pairEq-eq y x e))) (λ (e : has m x ≡ true). List·Memᴰ·tail (has-out m x e))
-    (or-split (pairEq y x) (has m x) h)
+has-out m x h = among-out pairEq pairEq-eq x m h
 
 -- ---- one more at the end
 module _ (m : List Pair) where
@@ -72,12 +64,6 @@ module _ (m : List Pair) where
       go ih false = (λ z k. a .0 z (without-out l z k .0), ih)
 
 -- ---- the union
-insert-there : (x : Pair) (l : List Pair) → Ascending pairLt l → Mem x l → insert pairLt x l ≡ l
-insert-there x l a m =
-    ascending-unique pairLt pair-order (insert pairLt x l) l (insert-ascending pairLt pair-order x l a) a
-    (λ z k. ⊎-elim (λ (e : z ≡ x). subst (λ (y : Pair). Mem y l) (sym e) m) (λ (i : Mem z l). i) (insert-split pairLt pair-order x z l k))
-    (λ z k. insert-old pairLt pair-order x z l k)
-
 pub union-without : (m : List Pair) → Ascending pairLt m → (l : List Pair) → addAll pairLt (without m l) m ≡ addAll pairLt l m
 unfolding without addAll
 union-without m a [] = refl
@@ -85,7 +71,7 @@ union-without m a (x ∷ l) = go (union-without m a l) (has m x) refl
   where
     go : addAll pairLt (without m l) m ≡ addAll pairLt l m → (b : Bool) → has m x ≡ b
         → addAll pairLt (cond b (without m l) (x ∷ without m l)) m ≡ insert pairLt x (addAll pairLt l m)
-    go ih true e = ih ∙ sym (insert-there x (addAll pairLt l m) (union-ascending l m a) (union-right x l m (has-out m x e)))
+    go ih true e = ih ∙ sym (insert-there pairLt pair-order x (addAll pairLt l m) (addAll-ascending pairLt pair-order l m a) (addAll-right pairLt pair-order x l m (has-out m x e)))
     go ih false e = ap (insert pairLt x) ih
 
 -- ---- k is what l has and m has not

@@ -1,23 +1,18 @@
 -- The first k cells of the columns of places and ends hold all of k lists.
 use Prim.Native.Nat.{ℕ, zero, suc, _+_, _-_, _*_, _≤_, _<_}
 use native.Mathlib.Omega.{arith}
-use mathlib.Core.Path.{_≡_, refl, ap, ap₂, sym, _∙_, subst}
-use mathlib.Core.List.{List, [], _∷_, _++_, List·Memᴰ·tail}
-use lib.ListN.{length, getD, take, drop, length-replicate, length-append}
-use lib.Seq.{getD-take, length-take-le, drop-at}
-use Rattle.columns.specs.Columns.{listed, over, zeros, wiped}
-use Rattle.columns.specs.Sets.{Mem, Pair, pairLt, Ascending, addAll, gather}
-use Rattle.columns.proofs.Lists.{front-zeros}
-use Rattle.columns.proofs.Sets.{here}
+use mathlib.Core.Path.{_≡_, ap₂, sym, subst}
+use mathlib.Core.List.{List, _++_}
+use lib.ListN.{length, take, drop}
+use lib.Seq.{getD-take, length-take-le}
+use Rattle.columns.specs.Columns.{listed}
+use Rattle.columns.specs.Sets.{pairLt, Ascending}
+use Rattle.columns.proofs.Parts.{length-fronted}
 use Rattle.columns.proofs.Sums.{sum-cong}
-use Rattle.subset.proofs.Risings.{listed-out}
+use Rattle.columns.proofs.Risings.{listed-out}
+use Rattle.columns.proofs.Unions.{gather-cong}
 use Rattle.inherited.specs.Merged.{Heads, heads, wide, placeOf, endAt}
 use Rattle.inherited.specs.Rest.{between, restOf, leftOf, leftIn, mergeOf, Ready}
-
-gather-cong : (g h : ℕ → List Pair) (rs : List ℕ) → ((r : ℕ) → Mem r rs → g r ≡ h r) → gather pairLt g rs ≡ gather pairLt h rs
-unfolding gather
-gather-cong g h [] f = refl
-gather-cong g h (r ∷ rs) f = ap₂ (addAll pairLt) (f r here) (gather-cong g h rs (λ q m. f q (List·Memᴰ·tail m)))
 
 wide-front : (k : ℕ) (a b : List ℕ) (j : ℕ) → j < k → wide (take k a) (take k b) j ≡ wide a b j
 unfolding wide
@@ -70,7 +65,7 @@ module _ (labels blocks high low endHigh endLow : List ℕ) (k : ℕ) (ready : R
   pub merge-front : mergeOf F k ≡ mergeOf D k
   unfolding mergeOf
   merge-front =
-      gather-cong (restOf F) (restOf D) (listed k (λ j. j))
+      gather-cong pairLt (restOf F) (restOf D) (listed k (λ j. j))
       (λ r m. let p = listed-out k (λ (j : ℕ). j) r m in rest-front r (omega (arith, p .below, p .same)))
 
   pub ready-front : Ready F k
@@ -87,19 +82,6 @@ module _ (labels blocks high low endHigh endLow : List ℕ) (k : ℕ) (ready : R
     ascending = λ j h. subst (Ascending pairLt) (sym (rest-front j h)) (ready .ascending j h);
   }
 
--- the first h cells changed, and then cleared
-pub wiped-changed : (h : ℕ) (x z : List ℕ) → length z ≡ h → wiped h (z ++ drop h x) ≡ wiped h x
-unfolding wiped over
-wiped-changed h x z e =
-    ap (λ (t : List ℕ). zeros h ++ t)
-    (ap (λ (n : ℕ). drop n (z ++ drop h x)) (length-replicate {A = ℕ} h 0)
-    ∙ (drop-at z (drop h x) h e ∙ ap (λ (n : ℕ). drop n x) (sym (length-replicate {A = ℕ} h 0))))
-
+-- the first h cells are there still once they are changed
 pub reach-changed : (h : ℕ) (x z : List ℕ) → length z ≡ length (take h x) → h ≤ length x → h ≤ length (z ++ drop h x)
-reach-changed h x z e w = omega (arith, length-append z (drop h x), e, length-take-le h x w)
-
--- cleared, where the other cells are zero already
-pub wiped-all : (h : ℕ) (x : List ℕ) → h ≤ length x → ((i : ℕ) → h ≤ i → getD x i 0 ≡ 0) → wiped h x ≡ zeros (length x)
-unfolding wiped over
-wiped-all h x w f =
-    ap (λ (n : ℕ). zeros h ++ drop n x) (length-replicate {A = ℕ} h 0) ∙ front-zeros h x (zeros h) w (ap zeros (sym (length-take-le h x w))) f
+reach-changed h x z e w = omega (arith, length-fronted h x z w e)

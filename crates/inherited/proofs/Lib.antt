@@ -9,10 +9,8 @@ pub mod Bests
 pub mod Advances
 pub mod Turns
 pub mod Fronts
-pub mod Unions
 pub mod Differences
 pub mod Keeping
 pub mod Weaving
-pub mod Overs
 pub mod Joins
 pub mod Examples

@@ -1,13 +1,12 @@
 -- The members of one set that another has not.
-use mathlib.Core.Bool.{Bool, true, false, not, _||_, cond}
+use mathlib.Core.Bool.{Bool, cond}
 use mathlib.Core.List.{List, [], _∷_}
-use Rattle.columns.specs.Sets.{Pair, pairEq}
+use Rattle.columns.specs.Sets.{Pair, pairEq, among}
 
 -- a pair is in a list
 unfoldable pub has : List Pair → Pair → Bool
-unfolding pairEq
-has [] x = false
-has (y ∷ ys) x = pairEq y x || has ys x
+unfolding among pairEq
+has m x = among pairEq x m
 
 -- the pairs of a list that are not in another
 unfoldable pub without : List Pair → List Pair → List Pair

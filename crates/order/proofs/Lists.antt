@@ -1,37 +1,26 @@
 -- Lists of numbers: membership as a test, places, visits in order; and a test of some number below a bound.
 use mathlib.Core.Path.{_≡_, refl}
 use mathlib.Core.Logic.{_⊎_, inl, inr, ⊎-elim}
-use mathlib.Core.Bool.{Bool, true, false, _||_}
+use mathlib.Core.Bool.{true, false}
 use mathlib.Core.List.{List, [], _∷_, List·Memᴰ·head, List·Memᴰ·tail, List·Memᴰ·cases-cons, List·Memᴰ·not-nil}
-use Prim.Native.Nat.{ℕ, suc, _+_, _<_}
+use Prim.Native.Nat.{ℕ, suc, _+_}
 use native.Mathlib.Omega.{arith}
-use borrow.Author.Tests.{ltb-true, lt-ltb, eqb-true, eq-eqb, ne-eqb}
+use borrow.Author.Tests.{eqb-true, eq-eqb, ne-eqb}
 use lib.Dec.{eqb}
 use lib.ListN.{length}
-use Rattle.columns.specs.Counting.{first}
 use Rattle.columns.specs.Sets.{Mem}
 use Rattle.columns.proofs.All.{same-or-not}
-use Rattle.columns.proofs.Bools.{cases, contra, fails, or-split, or-left, or-right}
-use Rattle.columns.proofs.Counting.{first-law, first-min}
+use Rattle.columns.proofs.Bools.{cases, contra, fails}
+use Rattle.columns.proofs.Sets.{among-in, among-out}
 use Rattle.order.specs.Order.{isIn, behind, ahead, lastFirst}
 
 pub isIn-mem : (s : ℕ) (l : List ℕ) → isIn s l ≡ true → Mem s l
 unfolding isIn
-isIn-mem s [] h = absurd (contra h refl)
-isIn-mem s (x ∷ xs) h = go (isIn-mem s xs) (or-split (eqb s x) (isIn s xs) h)
-  where
-    go : (isIn s xs ≡ true → Mem s xs) → (eqb s x ≡ true) ⊎ (isIn s xs ≡ true) → Mem s (x ∷ xs)
-    go f (inl e) = List·Memᴰ·head (eqb-true s x e)
-    go f (inr e) = List·Memᴰ·tail (f e)
+isIn-mem s l h = among-out eqb eqb-true s l h
 
 pub mem-isIn : (s : ℕ) (l : List ℕ) → Mem s l → isIn s l ≡ true
 unfolding isIn
-mem-isIn s [] m = absurd (List·Memᴰ·not-nil m)
-mem-isIn s (x ∷ xs) m = go (mem-isIn s xs) (List·Memᴰ·cases-cons m)
-  where
-    go : (Mem s xs → isIn s xs ≡ true) → (s ≡ x) ⊎ Mem s xs → (eqb s x || isIn s xs) ≡ true
-    go f (inl e) = or-left (eqb s x) (isIn s xs) (eq-eqb s x e)
-    go f (inr k) = or-right (eqb s x) (isIn s xs) (f k)
+mem-isIn s l m = among-in eqb (λ x. eq-eqb x x refl) s l m
 
 pub not-isIn : (s : ℕ) (l : List ℕ) → (Mem s l → ⊥) → isIn s l ≡ false
 not-isIn s l f = fails (λ e. f (isIn-mem s l e))

@@ -9,10 +9,10 @@ use native.Mathlib.Omega.{arith}
 use lib.ListN.{length}
 use Rattle.columns.specs.Sets.{Mem}
 use Rattle.columns.specs.Counting.{many}
-use Rattle.table.specs.Reach.{Walk, stop, along}
 use Rattle.columns.proofs.All.{top-or-below, same-or-not}
 use Rattle.columns.proofs.Counting.{many-le, many-nothing, many-one-more}
-use Rattle.table.proofs.Stretches.{many-front}
+use Rattle.columns.proofs.Members.{many-front}
+use Rattle.table.specs.Reach.{Walk, stop, along}
 use Rattle.order.specs.Order.{isIn, behind}
 use Rattle.order.specs.Machine.{arc, Cycle, cycle, Ordered, none, more}
 use Rattle.order.proofs.Lists.{isIn-mem, mem-isIn, not-isIn, isIn-other, isIn-head, behind-head, behind-tail, places-add, other-tail}

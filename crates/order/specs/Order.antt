@@ -1,19 +1,19 @@
 -- The topological order of document 01: depth first from 0 upward, the last listed successor first, by finishing.
-use mathlib.Core.Bool.{Bool, false, not, _&&_, _||_, cond}
+use mathlib.Core.Bool.{Bool, not, _&&_, cond}
 use mathlib.Core.List.{List, [], _∷_}
 use Prim.Native.Nat.{ℕ, zero, suc}
 use lib.Dec.{eqb}
 use lib.ListN.{length}
 use Rattle.columns.specs.Counting.{some}
 use Rattle.columns.specs.Rows.{rowsOf}
-use Rattle.columns.specs.Sets.{Row}
+use Rattle.columns.specs.Sets.{Row, among}
 use Rattle.table.specs.Lts.{Lts, rows}
 use Rattle.table.specs.Reach.{takes, reaches}
 
 -- s is listed
 unfoldable pub isIn : ℕ → List ℕ → Bool
-isIn s [] = false
-isIn s (x ∷ xs) = eqb s x || isIn s xs
+unfolding among
+isIn s l = among eqb s l
 
 -- a visit for each member, the last listed first
 unfoldable pub lastFirst : (ℕ → List ℕ → List ℕ) → List ℕ → List ℕ → List ℕ

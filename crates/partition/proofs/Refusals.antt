@@ -1,13 +1,14 @@
 -- Laws of the refusals: what holds once a call is not refused, and how a chain goes on.
 use Prim.Native.Nat.{ℕ, _≤_, _<_}
 use native.Mathlib.Omega.{arith}
-use borrow.Author.Tests.{ltb-true, leb-true, lt-ltb, le-ltb, le-leb, lt-leb}
-use mathlib.Core.Bool.{Bool, true, false, cond, _&&_}
+use borrow.Author.Tests.{ltb-true, leb-true, le-leb, lt-leb}
+use mathlib.Core.Bool.{Bool, true, false, _&&_}
 use mathlib.Core.Path.{_≡_, refl, ap, sym, _∙_}
-use lib.Dec.{ltb, leb, eqb}
+use lib.Dec.{ltb, leb}
 use Rattle.columns.specs.declared.answers.Refusal.{Refusal}
 use Rattle.columns.specs.Answers.{refusal, none, unless}
 use Rattle.columns.proofs.Bools.{and-left, and-right, and-both, and-no-right}
+use Rattle.columns.proofs.Chains.{one, refused-more}
 use Rattle.partition.specs.Checks.{sizeb, checked, partitionRefusal, stateRefusal, blockRefusal, blocksRefusal}
 use Rattle.partition.specs.Fresh.{newRefusal}
 use Rattle.partition.specs.Partition.{Partition, Long, Sound, consistentb, longb}
@@ -71,12 +72,10 @@ chain-on false b c i j k next ni nj nk e = absurd (ni e)
 
 chain-out : (a b c : Bool) (i j k : ℕ) (next : Refusal)
     → (unless a (refusal i 0) (unless b (refusal j 0) (unless c (refusal k 0) none)) .number ≡ 0 → ⊥)
-    → unless a (refusal i 0) (unless b (refusal j 0) (unless c (refusal k 0) next))
-    ≡ unless a (refusal i 0) (unless b (refusal j 0) (unless c (refusal k 0) none))
-chain-out true true true i j k next n = absurd (n refl)
-chain-out true true false i j k next n = refl
-chain-out true false c i j k next n = refl
-chain-out false b c i j k next n = refl
+    → unless a (refusal i 0) (unless b (refusal j 0) (unless c (refusal k 0) none))
+    ≡ unless a (refusal i 0) (unless b (refusal j 0) (unless c (refusal k 0) next))
+chain-out a b c i j k next n =
+    refused-more a (refusal i 0) (refused-more b (refusal j 0) (refused-more c (refusal k 0) (λ m. absurd (m refl)))) n
 
 module _ (p : Partition) (room : Bool) (next t : Refusal) (e : t ≡ checked p room none) where
   pub checked-on : t .number ≡ 0 → checked p room next ≡ next
@@ -88,14 +87,9 @@ module _ (p : Partition) (room : Bool) (next t : Refusal) (e : t ≡ checked p r
   pub checked-out : (t .number ≡ 0 → ⊥) → t ≡ checked p room next
   unfolding checked
   checked-out n =
-      e ∙ sym (chain-out (sizeb (p .n)) (longb p && room) (consistentb p) 1 7 14 next (λ z. n (ap (λ (r : Refusal). r .number) e ∙ z)))
+      e ∙ chain-out (sizeb (p .n)) (longb p && room) (consistentb p) 1 7 14 next (λ z. n (ap (λ (r : Refusal). r .number) e ∙ z))
 
 -- ---- what holds where a call is not refused
--- one test of a chain passed, and the rest
-pub one : (a : Bool) (i x : ℕ) (next : Refusal) → (i ≡ 0 → ⊥) → unless a (refusal i x) next .number ≡ 0 → (a ≡ true) × (next .number ≡ 0)
-one true i x next n e = (refl, e)
-one false i x next n e = absurd (n e)
-
 -- what the checks answered is t
 passed : (r t : Refusal) → t ≡ r → t .number ≡ 0 → r .number ≡ 0
 passed r t e z = sym (ap (λ (r : Refusal). r .number) e) ∙ z

@@ -1,14 +1,13 @@
 -- Laws of the refusals: what holds once a table and a partition are checked, and how the chain goes on.
-use Prim.Native.Nat.{ℕ}
 use native.Mathlib.Omega.{arith}
 use mathlib.Core.Bool.{Bool, true, false, _&&_}
-use mathlib.Core.Path.{_≡_, refl, ap, sym, _∙_}
+use mathlib.Core.Path.{_≡_, ap, sym, _∙_}
 use Rattle.columns.specs.declared.answers.Refusal.{Refusal}
 use Rattle.columns.specs.Answers.{refusal, none, unless}
 use Rattle.columns.proofs.Bools.{and-left, and-right}
+use Rattle.columns.proofs.Chains.{one}
 use Rattle.partition.specs.Partition.{Partition, Sound, longb, consistentb}
 use Rattle.partition.proofs.Holds.{consistent-of, long-of}
-use Rattle.partition.proofs.Refusals.{one}
 use Rattle.partitioned.specs.Checks.{checkedBoth}
 use Rattle.table.specs.Checks.{checkedTable}
 use Rattle.table.specs.Lts.{Lts, Valid}

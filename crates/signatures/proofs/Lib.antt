@@ -1,3 +1,4 @@
+pub mod Works
 pub mod Picks
 pub mod Outcomes
 pub mod Ready

@@ -7,24 +7,9 @@ use lib.ListN.{length}
 use borrow.Author.Tests.{eq-eqb, ne-eqb}
 use Rattle.columns.specs.declared.answers.Refusal.{Refusal}
 use Rattle.columns.specs.Answers.{Said, done, refused, none}
-use Rattle.columns.specs.Columns.{zeros}
 use Rattle.columns.specs.Sets.{Pair}
 use Rattle.signatures.specs.Pairs.{Columns, signature, fits, pairsOver}
 use Rattle.signatures.specs.Signing.{Left, signing, cleared}
-
--- four slices of zeros are what four work slices are left as
-pub four-cleared :
-    (a b c d a' b' c' d' : List ℕ) → a ≡ zeros (length a') → b ≡ zeros (length b') → c ≡ zeros (length c') → d ≡ zeros (length d')
-    → a ∷ b ∷ c ∷ d ∷ [] ≡ cleared (a' ∷ b' ∷ c' ∷ d' ∷ [])
-unfolding cleared
-four-cleared a b c d a' b' c' d' ea eb ec ed = rw (ea, eb, ec, ed)
-
--- they are left alike where they are equally long
-pub cleared-alike :
-    (a b c d a' b' c' d' : List ℕ) → length a ≡ length a' → length b ≡ length b' → length c ≡ length c' → length d ≡ length d'
-    → cleared (a ∷ b ∷ c ∷ d ∷ []) ≡ cleared (a' ∷ b' ∷ c' ∷ d' ∷ [])
-unfolding cleared
-cleared-alike a b c d a' b' c' d' ea eb ec ed = rw (ea, eb, ec, ed)
 
 module _ (r : Refusal) (pushed : List Pair) (out : Columns) (works : List (List ℕ)) where
   pub signing-refused : (s : Said) → (r .number ≡ 0 → ⊥) → s ≡ refused (r .number) (r .place) → _≡_ {A = Said × Left} (s, (out, works)) (signing r pushed out works)

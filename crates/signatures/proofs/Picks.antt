@@ -6,12 +6,7 @@ use lib.ListN.{length}
 use Rattle.columns.specs.Columns.{over, cell}
 use Rattle.columns.specs.Rows.{pickRows, pairsOf, pairSet, firstOf, lastOf}
 use Rattle.columns.proofs.Facts.{count-pairs, first-of-pairs, last-of-pairs}
-use Rattle.columns.proofs.Lists.{length-listed}
 use Rattle.signatures.specs.Pairs.{Columns, signature, pairsOver}
-
-pub length-pairs : (d : ℕ) (a b : List ℕ) → length (pairsOf d a b) ≡ d
-unfolding pairsOf
-length-pairs d a b = length-listed d _
 
 module _ (d : ℕ) (a b : List ℕ) (ha : d ≤ length a) (hb : d ≤ length b) where
   pub picked-count : length (pickRows d a b b) ≡ length (signature (pairsOf d a b))

@@ -1,61 +1,16 @@
 -- A loop that pushes a pair for each number that passes.
-use Prim.Native.Nat.{ℕ, zero, suc, _+_, _-_, _≤_, _<_}
-use native.Mathlib.Numerals.{add-one}
+use Prim.Native.Nat.{ℕ, _+_, _≤_, _<_}
 use native.Mathlib.Omega.{arith}
 use mathlib.Core.Path.{_≡_, refl, ap, ap₂, sym, _∙_}
 use mathlib.Core.Bool.{Bool, true, false}
 use mathlib.Core.List.{List, [], _∷_, _++_, map, map-append, append-nil, append-assoc}
 use lib.ListN.{length, length-set, set}
-use lib.Seq.{getD-set-same, getD-set-other}
-use Rattle.columns.specs.Columns.{listed}
 use Rattle.columns.specs.Counting.{many, members}
 use Rattle.columns.specs.Rows.{pairsOf}
 use Rattle.columns.specs.Sets.{Pair}
 use Rattle.columns.proofs.Counting.{one-if-true, one-if-false, many-suc, many-nothing}
-use Rattle.signatures.proofs.Picks.{length-pairs}
-
--- ---- one more pair at the end
-listed-cong : {A : Type 0} (n : ℕ) (f g : ℕ → A) → ((i : ℕ) → i < n → f i ≡ g i) → listed n f ≡ listed n g
-unfolding listed
-listed-cong zero f g h = refl
-listed-cong (suc n) f g h = ap₂ (λ s t. s ++ (t ∷ [])) (listed-cong n f g (λ i w. h i (omega arith))) (h n (omega arith))
-
-pairs-more :
-    (d : ℕ) (a b : List ℕ) (x y : ℕ) → d < length a → d < length b → pairsOf (d + 1) (set a d x) (set b d y) ≡ pairsOf d a b ++ ((x, y) ∷ [])
-unfolding pairsOf listed
-pairs-more d a b x y ha hb =
-    rw add-one
-    (ap₂ (λ (l : List Pair) (p : Pair). l ++ (p ∷ []))
-    (listed-cong {A = Pair} d _ _ (λ i w. ap₂ (λ (j k : ℕ). (j, k)) (getD-set-other a d i x 0 (λ e. omega arith)) (getD-set-other b d i y 0 (λ e. omega arith))))
-    (ap₂ (λ (j k : ℕ). (j, k)) (getD-set-same a d x 0 ha) (getD-set-same b d y 0 hb)))
-
--- ---- the numbers that pass
-module _ (f : ℕ → Bool) where
-  members-hit : (i : ℕ) → f i ≡ true → members (i + 1) f ≡ members i f ++ (i ∷ [])
-  unfolding members
-  members-hit i h = rw (add-one, h)
-
-  members-miss : (i : ℕ) → f i ≡ false → members (i + 1) f ≡ members i f
-  unfolding members
-  members-miss i h = rw (add-one, h) (append-nil (members i f))
-
-  members-none : (i : ℕ) → ((k : ℕ) → k < i → f k ≡ false) → members i f ≡ []
-  unfolding members
-  members-none zero h = refl
-  members-none (suc i) h = rw (h i (omega arith)) (append-nil (members i f) ∙ members-none i (λ k w. h k (omega arith)))
-
-  -- none passes from i on
-  members-rest : (i m : ℕ) → ((k : ℕ) → i ≤ k → k < i + m → f k ≡ false) → members (i + m) f ≡ members i f
-  members-rest i zero h = ap (λ (k : ℕ). members k f) (none i)
-    where
-      none : (i : ℕ) → i + 0 ≡ i
-      none i = omega arith
-  members-rest i (suc m) h =
-      ap (λ (k : ℕ). members k f) (up i m) ∙ members-miss (i + m) (h (i + m) (omega arith) (omega arith))
-      ∙ members-rest i m (λ k a b. h k a (omega arith))
-    where
-      up : (i m : ℕ) → i + suc m ≡ (i + m) + 1
-      up i m = omega arith
+use Rattle.columns.proofs.Members.{members-hit, members-miss, members-rest, members-none}
+use Rattle.columns.proofs.TwoColumns.{length-pairs, pairs-more}
 
 -- of the numbers from `first` to before `end`, those below i are seen, and behind the pairs l₀ the pairs of those that pass are pushed:
 -- d pairs in all
@@ -113,12 +68,4 @@ module _ (l₀ : List Pair) (g : ℕ → Pair) (f : ℕ → Bool) (first end : �
     pub push-done :
         (m : ℕ) → end ≤ i → end ≤ m → ((k : ℕ) → end ≤ k → k < m → f k ≡ false) → pairsOf d a b ≡ l₀ ++ map g (members m f)
     push-done m h w n =
-        let e : i + (m - i) ≡ m = omega (arith, p .high) in
-        p .pairs
-        ∙ ap (λ (l : List ℕ). l₀ ++ map g l)
-        (sym (ap (λ (k : ℕ). members k f) (sym e) ∙ members-rest f i (m - i) (λ k u v. n k (omega (arith, h, u)) (omega (arith, v, p .high)))))
-
--- nothing is pushed yet
-pub pairs-none : (a b : List ℕ) → pairsOf 0 a b ≡ []
-unfolding pairsOf listed
-pairs-none a b = refl
+        p .pairs ∙ ap (λ (l : List ℕ). l₀ ++ map g l) (sym (members-rest f m i (omega (arith, p .high)) (λ k u v. n k (omega (arith, h, u)) v)))

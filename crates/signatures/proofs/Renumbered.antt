@@ -16,12 +16,11 @@ use Rattle.table.specs.Lts.{Lts, Valid}
 use Rattle.table.proofs.Rows.{step-fields}
 
 -- states that share a block under one numbering share it under the other
-pub Alike : ℕ → List ℕ → List ℕ → Type 0
+abbrev pub Alike : ℕ → List ℕ → List ℕ → Type 0
 Alike n home home' = (u v : ℕ) → u < n → v < n → getD home u 0 ≡ getD home v 0 → getD home' u 0 ≡ getD home' v 0
 
 module _ (t : Lts) (v : Valid t) (home home' : List ℕ) (to : Alike (t .n) home home') where
   pub strong-alike : (r s : ℕ) → strongSignature t home r ≡ strongSignature t home s → strongSignature t home' r ≡ strongSignature t home' s
-  unfolding Alike
   strong-alike r s e = strong-ext t home' r s (half r s e) (half s r (sym e))
     where
       half : (r s : ℕ) → strongSignature t home r ≡ strongSignature t home s → (a b : ℕ) → Leads t home' r a b → Leads t home' s a b
@@ -45,7 +44,6 @@ module _ (t : Lts) (v : Valid t) (home home' : List ℕ) (to : Alike (t .n) home
       under p m = inductive-out t home marked keys s p (subst (λ (q : List Pair). Mem p q) e m)
 
       key : (p : Pair) → KeyOf t home' marked keys r p → Mem p (inductiveSignature t home' marked keys s)
-      unfolding Alike
       key p k =
           go (under (t .labels, getD keys (k .target) 0)
           (inductive-key t home marked keys r (k .target) (k .step) (from (k .target) r (step-fields t v r 0 (k .target) (k .step) .1 .1) hr (k .stays))
@@ -61,7 +59,6 @@ module _ (t : Lts) (v : Valid t) (home home' : List ℕ) (to : Alike (t .n) home
               absurd (omega (arith, ap (λ (q : Pair). q .0) (j .pair), step-fields t v s (j .label) (j .target) (j .step) .1 .0))
 
       other : (p : Pair) → StepOf t home' marked keys r p → Mem p (inductiveSignature t home' marked keys s)
-      unfolding Alike
       other p k =
           go (under (k .label, getD home (k .target) 0)
           (inductive-other t home marked keys r (k .label) (k .target) (k .step)

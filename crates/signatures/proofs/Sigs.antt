@@ -1,13 +1,13 @@
 -- A signature is a set: its members are those pushed, ascending, and lists with the same members have one signature.
-use Prim.Native.Nat.{suc, _≤_}
-use native.Mathlib.Omega.{arith}
+use Prim.Native.Nat.{_≤_}
 use mathlib.Core.Path.{_≡_, refl, subst, sym}
-use mathlib.Core.Bool.{Bool, true, false, cond}
-use mathlib.Core.List.{List, [], _∷_}
+use mathlib.Core.Bool.{true}
+use mathlib.Core.List.{List}
 use lib.ListN.{length}
-use Rattle.columns.specs.Sets.{Mem, Pair, pairLt, insert, collect, Ascending}
+use Rattle.columns.specs.Sets.{Mem, Pair, pairLt, Ascending}
 use Rattle.columns.proofs.Orders.{pair-order}
 use Rattle.columns.proofs.Sets.{collect-in, collect-out, collect-ascending, ascending-unique}
+use Rattle.columns.proofs.Unions.{collect-few}
 use Rattle.signatures.specs.Pairs.{signature}
 
 module _ (pushed : List Pair) where
@@ -37,18 +37,6 @@ pub sig-again : (l : List Pair) → signature (signature l) ≡ signature l
 sig-again l = sig-same (signature l) l (λ p k. sig-out l p k) (λ p k. sig-in l p k)
 
 -- ---- it has at most as many pairs as were pushed
-insert-length : (x : Pair) (l : List Pair) → length (insert pairLt x l) ≤ suc (length l)
-unfolding insert
-insert-length x [] = omega arith
-insert-length x (y ∷ l) = go (insert-length x l) (pairLt x y) (pairLt y x)
-  where
-    go : length (insert pairLt x l) ≤ suc (length l) → (b c : Bool)
-        → length (cond b (x ∷ y ∷ l) (cond c (y ∷ insert pairLt x l) (y ∷ l))) ≤ suc (suc (length l))
-    go h true c = omega arith
-    go h false true = omega arith
-    go h false false = omega arith
-
 pub sig-few : (l : List Pair) → length (signature l) ≤ length l
-unfolding signature collect
-sig-few [] = omega arith
-sig-few (x ∷ l) = omega (arith, insert-length x (collect pairLt (λ r. true) (λ r. r) l), sig-few l)
+unfolding signature
+sig-few l = collect-few pairLt (λ r. true) (λ r. r) l

@@ -14,10 +14,13 @@ use Rattle.columns.specs.Sets.{Mem, Pair, pairLt, addAll, gather}
 use Rattle.columns.proofs.Bools.{and-left, and-right, and-both}
 use Rattle.columns.proofs.Counting.{one-if, many-sum}
 use Rattle.columns.proofs.Facts.{at-mem, mem-at}
+use Rattle.columns.proofs.FlatMaps.{flat-in, flat-out, flat-map, length-flat, length-flat-members}
 use Rattle.columns.proofs.Members.{members-in, members-out}
 use Rattle.columns.proofs.Orders.{pair-order}
+use Rattle.columns.proofs.Risings.{listed-in, listed-out}
 use Rattle.columns.proofs.Sets.{here, gather-ascending, gather-in, gather-out, ascending-unique}
 use Rattle.columns.proofs.Sums.{sum-add, sum-cong}
+use Rattle.columns.proofs.Unions.{gather-map}
 use Rattle.inherited.specs.Merged.{Heads, heads}
 use Rattle.inherited.specs.Rest.{restOf, leftOf, leftIn, mergeOf}
 use Rattle.signatures.specs.Inductive.{inertb}
@@ -26,13 +29,11 @@ use Rattle.signatures.specs.Strong.{rowsOf, pairAt}
 use Rattle.signatures.proofs.Sigs.{sig-in, sig-out}
 use Rattle.subset.specs.Lists.{listAt}
 use Rattle.table.specs.Lts.{Lts}
-use Rattle.table.proofs.Rows.{listed-in, listed-out}
 use Rattle.branching.specs.Branching.{outerb}
 use Rattle.branching.specs.Visiting.{outerPairs}
 use Rattle.branching.proofs.Visited.{length-outer}
 use Rattle.sorted.specs.Sorted.{sortedAt, sortedPushed, sortedSignature}
 use Rattle.sorted.specs.Taking.{innerRow, innerTargets, Opened}
-use Rattle.sorted.proofs.FlatMaps.{flat-in, flat-out, flat-map, length-flat, length-flat-members}
 use Rattle.sorted.proofs.Openings.{rest-opened, left-opened}
 use Rattle.sorted.proofs.SortedSigs.{sorted-ascending}
 
@@ -112,12 +113,6 @@ module _ (t : Lts) (home : List ℕ) (given : ℕ → List Pair) (s : ℕ) where
           inl (subst (λ (q : Pair). Mem q (map (pairAt t home) (members (t .m) f))) (sym (List·Memᴰ·eq-of-singleton k))
           (Memᴰ·map (pairAt t home) (members-in f (t .m) i w (and-both h (ap not e)))))
 
--- the union of lists by number is that of the lists
-gather-lists : {A R : Type 0} (lt : A → A → Bool) (g : R → List A) (rs : List R) → gather lt g rs ≡ gather lt (λ l. l) (map g rs)
-unfolding gather
-gather-lists lt g [] = refl
-gather-lists lt g (r ∷ rs) = ap (addAll lt (g r)) (gather-lists lt g rs)
-
 module _ (t : Lts) (home : List ℕ) (given : ℕ → List Pair) (s : ℕ) (d : Heads) (k : ℕ) (count : k ≡ length (innerTargets t home s)) where
   -- the lists to be merged: the own pairs, and the k lists
   all-lists : List (List Pair)
@@ -169,7 +164,7 @@ module _ (t : Lts) (home : List ℕ) (given : ℕ → List Pair) (s : ℕ) (d : 
     pub set-of : addAll pairLt (signature (outerPairs t home (getD home s 0) s)) (mergeOf d k) ≡ sortedSignature t home given s
     unfolding mergeOf gather all-lists
     set-of =
-        ap (addAll pairLt (signature (outerPairs t home (getD home s 0) s))) (gather-lists pairLt (restOf d) (listed k (λ j. j)))
+        ap (addAll pairLt (signature (outerPairs t home (getD home s 0) s))) (gather-map pairLt (λ l. l) (restOf d) (listed k (λ j. j)))
         ∙ ascending-unique pairLt pair-order (gather pairLt (λ l. l) all-lists) (sortedSignature t home given s)
         (gather-ascending pairLt pair-order (λ l. l) all-lists) (sorted-ascending t home given s) down up
 

@@ -1,18 +1,18 @@
 -- The merged lists, and the own pairs united with them, in the columns of the result.
 use Prim.Native.Nat.{ℕ, _+_, _≤_}
 use native.Mathlib.Omega.{arith}
-use mathlib.Core.Path.{_≡_, refl, ap, ap₂, sym, subst, _∙_}
+use mathlib.Core.Path.{_≡_, ap, ap₂, sym, subst, _∙_}
 use mathlib.Core.List.{List}
 use lib.ListN.{length, length-map}
 use Rattle.columns.specs.Columns.{over}
 use Rattle.columns.specs.Rows.{pairsOf, firstOf, lastOf}
 use Rattle.columns.specs.Sets.{Pair, pairLt, addAll, Ascending}
-use Rattle.columns.proofs.Lists.{length-over}
+use Rattle.columns.proofs.Lists.{length-over, over-again}
+use Rattle.columns.proofs.TwoColumns.{pairs-over}
+use Rattle.columns.proofs.Unions.{addAll-more}
 use Rattle.inherited.specs.Merged.{Heads}
 use Rattle.inherited.specs.Rest.{leftIn, mergeOf}
 use Rattle.inherited.proofs.Joins.{few-merged, merge-ascending}
-use Rattle.inherited.proofs.Overs.{over-again, pairs-over}
-use Rattle.inherited.proofs.Unions.{union-more}
 use Rattle.signatures.specs.Pairs.{Columns, pairsOver}
 use Rattle.sorted.specs.Taking.{joined}
 
@@ -41,7 +41,7 @@ module _ (d : Heads) (k own r : ℕ) (a b a₀ b₀ : List ℕ)
   pub merged-pairs : pairsOf r a b ≡ mergeOf d k
   merged-pairs =
       ap (λ (i : ℕ). pairsOf i a b) er ∙ ap₂ (λ (x y : List ℕ). pairsOf (length (mergeOf d k)) x y) ea eb
-      ∙ pairs-over (mergeOf d k) a₀ b₀ merged-a merged-b
+      ∙ pairs-over (mergeOf d k) a₀ b₀
 
   pub merged-ascends : Ascending pairLt (pairsOf r a b)
   merged-ascends = subst (λ (l : List Pair). Ascending pairLt l) (sym merged-pairs) (merge-ascending d k)
@@ -57,7 +57,7 @@ module _ (d : Heads) (k own r : ℕ) (a b a₀ b₀ : List ℕ)
 
     more : length (mergeOf d k) ≤ length whole
     unfolding joined
-    more = union-more (pairsOf own p q) (mergeOf d k)
+    more = addAll-more pairLt (pairsOf own p q) (mergeOf d k)
 
     module _ (n : ℕ) (x y : List ℕ)
         (en : n ≡ length (addAll pairLt (pairsOf own p q) (pairsOf r a b)))
@@ -71,14 +71,12 @@ module _ (d : Heads) (k own r : ℕ) (a b a₀ b₀ : List ℕ)
           ex ∙ ap₂ (λ (l : List Pair) (m : List ℕ). over (firstOf l) m) united ea
           ∙ over-again (firstOf whole) (firstOf (mergeOf d k)) a₀
           (omega (arith, length-map whole (λ (z : Pair). z .0), length-map (mergeOf d k) (λ (z : Pair). z .0), more))
-          (omega (arith, length-map (mergeOf d k) (λ (z : Pair). z .0), merged-a))
 
       last-over : y ≡ over (lastOf whole) b₀
       last-over =
           ey ∙ ap₂ (λ (l : List Pair) (m : List ℕ). over (lastOf l) m) united eb
           ∙ over-again (lastOf whole) (lastOf (mergeOf d k)) b₀
           (omega (arith, length-map whole (λ (z : Pair). z .1), length-map (mergeOf d k) (λ (z : Pair). z .1), more))
-          (omega (arith, length-map (mergeOf d k) (λ (z : Pair). z .1), merged-b))
 
       pub joined-over : _≡_ {A = Columns} (x, y) (pairsOver whole (a₀, b₀))
       unfolding pairsOver

@@ -1,7 +1,5 @@
-pub mod FlatMaps
 pub mod SortedSigs
 pub mod Right
-pub mod Chosen
 pub mod Openings
 pub mod Turning
 pub mod Counted
@@ -10,4 +8,4 @@ pub mod Examples
 pub mod Refused
 pub mod Pushed
 pub mod Joined
-pub mod Works
+pub mod Finishing

@@ -12,6 +12,7 @@ use Rattle.columns.specs.Columns.{listed}
 use Rattle.columns.specs.Counting.{many}
 use Rattle.columns.specs.Sets.{Pair, pairLt, rowLt}
 use Rattle.columns.proofs.Bools.{and-left, and-right}
+use Rattle.columns.proofs.Chosen.{length-chosen, chosen-of, few-rising}
 use Rattle.columns.proofs.Counting.{many-le, Ranked, many-onto}
 use Rattle.columns.proofs.Lists.{length-listed}
 use Rattle.columns.proofs.Orders.{lex-split, ltb-order, pair-order}
@@ -23,7 +24,6 @@ use Rattle.subset.specs.Pairs.{pairAt}
 use Rattle.subset.proofs.Refusals.{shorter-left, shorter-right}
 use Rattle.table.specs.Lts.{Lts, rowIn, rowAt, Valid}
 use Rattle.sorted.specs.Taking.{innerRow, innerTargets, Opened}
-use Rattle.sorted.proofs.Chosen.{length-chosen, chosen-of, few-rising}
 
 -- ---- what is left of a list that is opened is all of it
 module _ {starts states : List ℕ} {k : ℕ} {high low endHigh endLow : List ℕ} (labels blocks : List ℕ) (o : Opened starts states k high low endHigh endLow) (j : ℕ) (h : j < k) where

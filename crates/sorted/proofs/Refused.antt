@@ -3,12 +3,12 @@ use Prim.Native.Nat.{ℕ, _<_}
 use native.Mathlib.Omega.{arith}
 use borrow.Author.Tests.{ltb-true, lt-ltb}
 use mathlib.Core.Bool.{Bool, true, false}
-use mathlib.Core.Path.{_≡_, refl, ap, sym, _∙_}
+use mathlib.Core.Path.{_≡_, ap, sym, _∙_}
 use lib.Dec.{ltb}
 use Rattle.columns.specs.declared.answers.Refusal.{Refusal}
 use Rattle.columns.specs.Answers.{refusal, none, unless}
+use Rattle.columns.proofs.Chains.{one}
 use Rattle.partition.specs.Partition.{Partition, Sound}
-use Rattle.partition.proofs.Refusals.{one}
 use Rattle.partitioned.specs.Checks.{checkedBoth}
 use Rattle.partitioned.proofs.Refusals.{both-of, both-on, both-out}
 use Rattle.signatures.specs.Signing.{signatureRefusal}

@@ -8,7 +8,8 @@ use lib.ListN.{getD}
 use Rattle.columns.specs.Sets.{Mem, Pair}
 use Rattle.table.specs.Lts.{Lts, Step, Valid}
 use Rattle.table.proofs.Rows.{step-fields}
-use Rattle.branching.proofs.Matches.{Alike, Named, Matching, matching-sym, matching-same}
+use Rattle.signatures.proofs.Renumbered.{Alike}
+use Rattle.branching.proofs.Matches.{Named, Matching, matching-sym, matching-same}
 use Rattle.sorted.specs.Sorted.{sortedSignature}
 use Rattle.sorted.proofs.SortedSigs.{OwnOf, TakenOf, sorted-own, sorted-taken, sorted-out, sorted-ascending}
 

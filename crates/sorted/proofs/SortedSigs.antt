@@ -10,6 +10,7 @@ use lib.Dec.{eqb}
 use lib.ListN.{getD}
 use Rattle.columns.specs.Sets.{Mem, Pair, pairLt, Ascending}
 use Rattle.columns.proofs.Bools.{and-left, and-right, and-both, fails, contra}
+use Rattle.columns.proofs.FlatMaps.{flat-in, flat-out}
 use Rattle.columns.proofs.Members.{members-in, members-out}
 use Rattle.signatures.specs.Inductive.{inertb}
 use Rattle.signatures.specs.Strong.{rowsOf, pairAt}
@@ -17,7 +18,6 @@ use Rattle.signatures.proofs.Sigs.{sig-in, sig-out, sig-ascending}
 use Rattle.table.specs.Lts.{Lts, Step}
 use Rattle.table.proofs.Rows.{row-step, step-row}
 use Rattle.sorted.specs.Sorted.{sortedAt, sortedPushed, sortedSignature}
-use Rattle.sorted.proofs.FlatMaps.{flat-in, flat-out}
 
 -- a step of s, visible or to another block, gives (label, block of target)
 pub record OwnOf (t : Lts) (home : List ℕ) (s : ℕ) (p : Pair) : Type 0 where

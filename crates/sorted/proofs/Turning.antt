@@ -9,11 +9,11 @@ use lib.ListN.{length}
 use Rattle.columns.specs.Counting.{many, members}
 use Rattle.columns.proofs.All.{top-or-below, lt-or-le, not-below}
 use Rattle.columns.proofs.Bools.{contra}
+use Rattle.columns.proofs.Chosen.{length-chosen, chosen-of}
 use Rattle.columns.proofs.Counting.{one-if-true, one-if-false, many-suc, many-nothing, many-up, many-strict, Ranked, many-onto}
 use Rattle.inherited.specs.Merged.{wide}
 use Rattle.subset.specs.Lists.{startAt}
 use Rattle.sorted.specs.Taking.{Opened}
-use Rattle.sorted.proofs.Chosen.{length-chosen, chosen-of}
 
 -- of the numbers from `first` to before `end`, those below i are seen; k of them passed, and the head at the rank of each is the list
 -- of its state, which g gives

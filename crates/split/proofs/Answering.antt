@@ -2,14 +2,14 @@
 use Prim.Native.Nat.{ℕ, _≤_, _<_}
 use native.Mathlib.Omega.{arith}
 use borrow.Author.Tests.{ltb-true, leb-true}
-use mathlib.Core.Bool.{Bool, true, false}
-use mathlib.Core.Path.{_≡_, refl, ap, sym, _∙_}
+use mathlib.Core.Path.{_≡_, ap, sym, _∙_}
 use mathlib.Core.List.{List, [], _∷_}
 use lib.ListN.{length}
 use lib.Dec.{ltb, leb}
 use Rattle.columns.specs.declared.answers.NumberAnswer.{NumberAnswer}
 use Rattle.columns.specs.declared.answers.Refusal.{Refusal}
 use Rattle.columns.specs.Answers.{Said, done, refused, saidNumber, refusal, none, unless}
+use Rattle.columns.proofs.Chains.{one}
 use Rattle.columns.proofs.Saying.{left-refused, left-done}
 use Rattle.partition.specs.Partition.{Partition, parts, Sound}
 use Rattle.partition.proofs.Refusals.{checked-of}
@@ -20,17 +20,13 @@ pub record SplitReady (p : Partition) (b : ℕ) (c : List ℕ) : Type 0 where
   pub known : b < p .count
   pub room : p .n ≤ length c
 
-known-of : (t : Bool) (b : ℕ) → unless t (refusal 8 b) none .number ≡ 0 → t ≡ true
-known-of true b e = refl
-known-of false b e = absurd (omega arith)
-
 pub split-ready : (p : Partition) (b : ℕ) (c : List ℕ) (t : Refusal) → t ≡ splitRefusal p b c → t .number ≡ 0 → SplitReady p b c
 unfolding splitRefusal
 split-ready p b c t e z =
     let q = checked-of p (leb (p .n) (length c)) (unless (ltb b (p .count)) (refusal 8 b) none) (sym (ap (λ (r : Refusal). r .number) e) ∙ z) in
     record {
       sound = q .sound;
-      known = ltb-true _ _ (known-of (ltb b (p .count)) b (q .rest));
+      known = ltb-true _ _ (one (ltb b (p .count)) 8 b none (λ i. omega arith) (q .rest) .0);
       room = leb-true _ _ (q .enough);
     }
 

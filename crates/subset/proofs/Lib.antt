@@ -1,4 +1,3 @@
-pub mod Risings
 pub mod Refusals
 pub mod Walking
 pub mod Subsets

@@ -15,12 +15,12 @@ use Rattle.columns.specs.Sets.{Pair, pairLt, Ascending}
 use Rattle.columns.proofs.All.{top-or-below, lt-or-le, not-below}
 use Rattle.columns.proofs.Bools.{contra, fails, cases, and-both, and-no-left, and-no-right, or-left, or-right}
 use Rattle.columns.proofs.Counting.{first-law}
+use Rattle.columns.proofs.Firsts.{NoneBelow, first-hit, first-none, none-of, some-in, some-none}
 use Rattle.columns.proofs.Orders.{pair-order}
+use Rattle.columns.proofs.Risings.{rising-of, ascending-of, of-ascending}
 use Rattle.subset.specs.Pairs.{endOf, pairAt, badPair, badAt, leastBad}
 use Rattle.subset.specs.Lists.{startAt, listAt, badStart, badInLists, listsRefusal, Starts, Lists}
-use Rattle.columns.proofs.Firsts.{NoneBelow, first-hit, first-none, none-of, some-in, some-none}
 use Rattle.subset.proofs.Refusals.{least-of, least-on, bad-below, bad-past, pair-before, pair-above, above-pair}
-use Rattle.subset.proofs.Risings.{rising-of, ascending-of, of-ascending}
 
 -- ---- starts
 module _ (starts : List ℕ) (end : ℕ) where

@@ -12,10 +12,10 @@ use Rattle.columns.specs.Counting.{first}
 use Rattle.columns.specs.Rows.{pairsOf}
 use Rattle.columns.specs.Sets.{pairLt, Ascending}
 use Rattle.columns.proofs.Bools.{and-no-left, and-no-right}
-use Rattle.columns.proofs.Orders.{pair-order}
-use Rattle.subset.specs.Pairs.{shorter, endOf, pairAt, pairs, badPair, badAt, leastBad, listRefusal}
 use Rattle.columns.proofs.Firsts.{NoneBelow, first-none, none-of}
-use Rattle.subset.proofs.Risings.{rising-of, ascending-of, of-ascending}
+use Rattle.columns.proofs.Orders.{pair-order}
+use Rattle.columns.proofs.Risings.{rising-of, ascending-of, of-ascending}
+use Rattle.subset.specs.Pairs.{shorter, endOf, pairAt, pairs, badPair, badAt, leastBad, listRefusal}
 
 pub shorter-left : (a b : ℕ) → shorter a b ≤ a
 unfolding shorter

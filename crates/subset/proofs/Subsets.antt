@@ -11,12 +11,12 @@ use Rattle.columns.specs.Sets.{Mem, Pair, pairLt, pairEq, Ascending}
 use Rattle.columns.specs.Tests.{all}
 use Rattle.columns.proofs.All.{all-at, all-of}
 use Rattle.columns.proofs.Bools.{or-split, or-left, or-right}
+use Rattle.columns.proofs.Firsts.{some-in, some-out}
+use Rattle.columns.proofs.Risings.{Rising, of-ascending, listed-in, listed-out}
 use Rattle.columns.proofs.Sets.{pairEq-eq, pairEq-refl}
 use Rattle.subset.specs.Pairs.{endOf, pairAt, pairs, listRefusal}
 use Rattle.subset.specs.Subset.{among, subsetb, subsetRefusal}
-use Rattle.columns.proofs.Firsts.{some-in, some-out}
 use Rattle.subset.proofs.Refusals.{list-of, list-on}
-use Rattle.subset.proofs.Risings.{Rising, of-ascending, listed-in, listed-out}
 use Rattle.subset.proofs.Walking.{kept}
 
 module _ (labels blocks : List ℕ) where

@@ -7,7 +7,7 @@ use mathlib.Core.Bool.{Bool, true, false, not, _&&_, _||_}
 use mathlib.Core.Path.{_≡_, ap, sym, _∙_}
 use mathlib.Core.Logic.{⊎-elim}
 use lib.Dec.{leb, ltb}
-use Rattle.columns.specs.Counting.{first}
+use Rattle.columns.specs.Counting.{first, some}
 use Rattle.columns.specs.Sets.{Pair, pairLt, pairEq}
 use Rattle.columns.specs.Tests.{all}
 use Rattle.columns.proofs.All.{all-none, all-more, all-fails, all-done, top-or-below, lt-or-le}
@@ -15,9 +15,8 @@ use Rattle.columns.proofs.Bools.{contra, fails, and-left, and-right, and-no-lef
 use Rattle.columns.proofs.Counting.{first-law}
 use Rattle.columns.proofs.Orders.{pair-order}
 use Rattle.columns.proofs.Sets.{pairEq-eq, pairEq-refl}
-use Rattle.columns.specs.Counting.{some}
 use Rattle.columns.proofs.Firsts.{some-in, some-none}
-use Rattle.subset.proofs.Risings.{Rising}
+use Rattle.columns.proofs.Risings.{Rising}
 
 -- ---- the pairs that are passed, from i on: those below x
 module _ (f : ℕ → Pair) (i : ℕ) (x : Pair) where

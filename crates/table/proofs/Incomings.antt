@@ -15,18 +15,19 @@ use Rattle.columns.specs.Answers.{none}
 use Rattle.columns.specs.Columns.{listed, over, keyOf, sortBy}
 use Rattle.columns.specs.Sets.{Row, rowLt, pairLt}
 use Rattle.columns.specs.Sort.{sort}
+use Rattle.columns.proofs.Apart.{sorted-strictly}
 use Rattle.columns.proofs.Bools.{contra}
 use Rattle.columns.proofs.Facts.{sort-in, sort-out, at-mem, mem-at}
 use Rattle.columns.proofs.Lists.{length-listed, listed-at}
 use Rattle.columns.proofs.Orders.{row-order, lex-split, ltb-order, pair-order}
+use Rattle.columns.proofs.Risings.{listed-in, listed-out}
 use Rattle.columns.proofs.Sorts.{length-sort}
 use Rattle.table.specs.Lts.{Lts, rowIn, rowAt, Valid, Rising}
 use Rattle.table.specs.Checks.{roomb}
 use Rattle.table.specs.Incoming.{incomingOrder, backRow, incomingRefusal}
 use Rattle.table.specs.Stretch.{firstRow}
-use Rattle.table.proofs.Rows.{listed-in, listed-out, key-row}
+use Rattle.table.proofs.Rows.{key-row}
 use Rattle.table.proofs.Refusals.{checked-of, room-of}
-use Rattle.table.proofs.Strictly.{sorted-strictly}
 use Rattle.table.proofs.Stretches.{stretch}
 
 -- what the list is

@@ -1,7 +1,6 @@
 pub mod Rows
 pub mod Refusals
 pub mod Stretches
-pub mod Strictly
 pub mod Incomings
 pub mod Walks
 pub mod Searching

@@ -16,6 +16,7 @@ use Rattle.columns.specs.Counting.{first}
 use Rattle.columns.specs.Sets.{rowLt}
 use Rattle.columns.proofs.Bools.{contra, and-left, and-right, and-both, or-left}
 use Rattle.columns.proofs.All.{top-or-below, not-below}
+use Rattle.columns.proofs.Chains.{refused-more}
 use Rattle.columns.proofs.Counting.{First, first-law}
 use Rattle.columns.proofs.Orders.{row-order}
 use Rattle.table.specs.Lts.{Lts, rowIn, rowAt, Long, Fields, Valid}
@@ -205,13 +206,11 @@ chain-on a b c d e f r next p =
 chain-out : (a b c d e f : Bool) (r next : Refusal) → (chain a b c d e f r none .number ≡ 0 → ⊥)
     → chain a b c d e f r none ≡ chain a b c d e f r next
 unfolding chain front
-chain-out true true true true true true r next n = absurd (n refl)
-chain-out true true true true true false r next n = refl
-chain-out true true true true false f r next n = refl
-chain-out true true true false e f r next n = refl
-chain-out true true false d e f r next n = refl
-chain-out true false c d e f r next n = refl
-chain-out false b c d e f r next n = refl
+chain-out a b c d e f r next n =
+    refused-more a (refusal 1 0)
+    (refused-more b (refusal 2 0)
+    (refused-more c (refusal 3 0) (refused-more d (refusal 4 0) (refused-more e (refusal 7 0) (refused-more f r (λ m. absurd (m refl)))))))
+    n
 
 -- what a call goes by whose table is checked
 pub record Checked (t : Lts) (room : Bool) (next : Refusal) : Type 0 where

@@ -1,41 +1,22 @@
 -- The rows of a state are a stretch: row i has source s exactly if firstRow s <= i < firstRow (s + 1).
-use Prim.Native.Nat.{ℕ, zero, suc, _+_, _-_, _≤_, _<_}
+use Prim.Native.Nat.{ℕ, suc, _+_, _-_, _≤_, _<_}
 use native.Mathlib.Omega.{arith}
 use native.Mathlib.Nat.{eq-or-lt-of-le, le-antisymm}
 use borrow.Author.Tests.{ltb-true, lt-ltb, le-ltb, eqb-true, eq-eqb}
-use mathlib.Core.Path.{_≡_, ap, sym, _∙_}
+use mathlib.Core.Path.{_≡_, ap, _∙_}
 use mathlib.Core.Logic.{⊎-elim, _↔_}
-use mathlib.Core.Bool.{Bool, true, false}
+use mathlib.Core.Bool.{Bool, true}
 use mathlib.Core.List.{List}
 use lib.Dec.{ltb, eqb}
 use lib.ListN.{getD}
-use Rattle.columns.specs.Counting.{many}
 use Rattle.columns.specs.Sets.{Pair, rowLt, pairLt}
 use Rattle.columns.proofs.All.{not-below}
 use Rattle.columns.proofs.Bools.{contra}
-use Rattle.columns.proofs.Counting.{many-none, many-hit, many-miss, many-up, many-le, many-mono, first-law}
+use Rattle.columns.proofs.Counting.{many-up, many-le, many-mono, first-law, many-all}
+use Rattle.columns.proofs.Members.{many-rest, many-front}
 use Rattle.columns.proofs.Orders.{lex-split, lex-first, lex-second, ltb-order, pair-order}
 use Rattle.table.specs.Lts.{Lts, rowIn, rowAt, Valid, Rising}
 use Rattle.table.specs.Stretch.{firstRow, nextIncoming}
-
--- ---- a test that passes for the numbers below r, and for no others
-module _ (f : ℕ → Bool) where
-  many-all : (r : ℕ) → ((i : ℕ) → i < r → f i ≡ true) → many r f ≡ r
-  many-all zero h = many-none f
-  many-all (suc r) h = many-hit r f (h r (omega arith)) ∙ ap suc (many-all r (λ i l. h i (omega arith)))
-
-  many-rest : (m r : ℕ) → r ≤ m → ((i : ℕ) → r ≤ i → i < m → f i ≡ false) → many m f ≡ many r f
-  many-rest zero r h g = ap (λ (k : ℕ). many k f) (zero-is h)
-    where
-      zero-is : {r : ℕ} → r ≤ 0 → 0 ≡ r
-      zero-is h = omega arith
-  many-rest (suc m) r h g =
-      ⊎-elim (λ (e : r ≡ suc m). ap (λ (k : ℕ). many k f) (sym e))
-      (λ (l : r < suc m). many-miss m f (g m (omega arith) (omega arith)) ∙ many-rest m r (omega arith) (λ i a b. g i a (omega arith)))
-      (eq-or-lt-of-le h)
-
-  pub many-front : (m r : ℕ) → r ≤ m → ((i : ℕ) → i < r → f i ≡ true) → ((i : ℕ) → r ≤ i → i < m → f i ≡ false) → r ≡ many m f
-  many-front m r h y n = sym (many-rest m r h n ∙ many-all r y)
 
 -- ---- the first row of a state
 module _ (source : List ℕ) (m : ℕ) where
@@ -54,7 +35,7 @@ module _ (source : List ℕ) (m : ℕ) where
     unfolding firstRow
     before-row s i h l =
         let f : ℕ → Bool = λ i. ltb (getD source i 0) s in
-        omega (arith, many-up (suc i) m f h, many-all f (suc i) (λ j k. lt-ltb (getD source j 0) s (omega (arith, l, up j i (omega arith) h))))
+        omega (arith, many-up (suc i) m f h, many-all (suc i) f (λ j k. lt-ltb (getD source j 0) s (omega (arith, l, up j i (omega arith) h))))
 
     pub from-row : (s i : ℕ) → i < m → s ≤ getD source i 0 → firstRow source m s ≤ i
     unfolding firstRow

@@ -5,21 +5,21 @@ use native.Mathlib.Omega.{arith}
 use Prim.Native.Nat.{ℕ, _+_, _≤_}
 use mathlib.Core.Path.{_≡_, refl, sym, ap, ap₂, _∙_}
 use mathlib.Core.Bool.{Bool, _&&_}
-use mathlib.Core.List.{List, [], _∷_}
+use mathlib.Core.List.{List, [], _∷_, _++_, map}
 use lib.Dec.{leb}
-use lib.ListN.{length, getD}
-use Rattle.branching.specs.Visiting.{outerPairs}
-use Rattle.columns.specs.declared.answers.Refusal.{Refusal}
+use lib.ListN.{length, getD, take, drop}
 use Rattle.columns.specs.Answers.{refused}
 use Rattle.columns.specs.Sets.{Pair, pairLt, addAll}
+use Rattle.columns.specs.declared.answers.Refusal.{Refusal}
 use Rattle.columns.proofs.Bools.{and-left, and-right}
+use Rattle.branching.specs.Visiting.{outerPairs}
 use Rattle.inherited.specs.Merged.{Heads, heads}
 use Rattle.inherited.specs.Rest.{leftIn, mergeOf}
 use Rattle.inherited.specs.Rest as Rest
 use Rattle.inherited.proofs.Joins.{left-alike}
 use Rattle.partition.specs.Partition.{Partition, parts}
 use Rattle.signatures.specs.Pairs.{Columns, signature}
-use Rattle.signatures.specs.Signing.{allLong, roomy}
+use Rattle.signatures.specs.Signing.{roomy}
 use Rattle.signatures.proofs.Outcomes.{signing-refused}
 use Rattle.subset.specs.Lists.{listAt}
 use Rattle.table.specs.Lts.{Lts, lts, Valid}
@@ -29,7 +29,8 @@ use Rattle.sorted.proofs.Counted.{sorted-count, sorted-set}
 use Rattle.sorted.proofs.Openings.{few-lists, lists-ready}
 use Rattle.sorted.proofs.Pushed.{few-outer, set-few, set-ascending}
 use Rattle.sorted.proofs.Refused.{Ready, sorted-ready}
-use Rattle.sorted.proofs.Works.{seven-alike, seven-long, Roomy, roomy-of, finish-signing}
+use Rattle.signatures.proofs.Works.{Wide, roomy-of, long-append, long-again, level}
+use Rattle.sorted.proofs.Finishing.{finish-signing}
 use Rattle.sorted.proofs.branching_bisim_signature_sorted.Statement.{statement}
 use Rattle.sorted.proofs.branching_bisim_signature_sorted.Tie as tie
 
@@ -67,33 +68,35 @@ Pushed a =
     sortedPushed (L a) (a .args .element-to-block .now) (listAt (a .args .starts .now) (a .args .given-labels .now) (a .args .given-blocks .now))
     (a .args .state)
 
+-- where the call begins
+abbrev start : tie.After-sorted-refusal → tie.Start
+start q = q .before .before .before .before .before .before .before .before .before .before .before .before .before .before .before .before .before .before .before .before .before .before .before .before .before
+
 -- the checks have answered R
-answered : (q : tie.After-sorted-refusal) → q .sorted-refusal .result ≡ R (q .before .before .before .before .before .before .before .before .before .before .before .before .before .before .before .before .before .before .before .before .before .before .before .before .before)
+answered : (q : tie.After-sorted-refusal) → q .sorted-refusal .result ≡ R (start q)
 unfolding roomy
 answered q =
-    let a = q .before .before .before .before .before .before .before .before .before .before .before .before .before .before .before .before .before .before .before .before .before .before .before .before .before in
+    let a = start q in
+    let k = a .args .table .n + a .args .table .m + 1 in
+    let ls : List ℕ = map (λ (w : List ℕ). length w) (Works a) in
+    let x = length (a .args .tree .now) in
     q .sorted-refusal .ensures
     ∙ ap (λ (b : Bool). sortedRefusal (L a) (P a) (a .args .state) (G a) (Starts a && b))
     (ap₂ (λ (x y : Bool). x && y) (q .before .before .before .roomy .ensures) (q .before .before .roomy2 .ensures)
-    ∙ seven-long (a .args .table .n + a .args .table .m + 1) (length (a .args .own-labels .now)) (length (a .args .own-blocks .now))
-    (length (a .args .high .now)) (length (a .args .low .now)) (length (a .args .end-high .now)) (length (a .args .end-low .now))
-    (length (a .args .tree .now)))
+    ∙ long-append k (take 4 ls) (drop 4 ls ++ (x ∷ [])) ∙ long-again k (take 6 ls) x)
 
 -- and where they refuse nothing
 module _ (q : tie.After-sorted-refusal) (z : q .sorted-refusal .result .number ≡ 0) where
-  ready : Ready (L (q .before .before .before .before .before .before .before .before .before .before .before .before .before .before .before .before .before .before .before .before .before .before .before .before .before)) (P (q .before .before .before .before .before .before .before .before .before .before .before .before .before .before .before .before .before .before .before .before .before .before .before .before .before)) (q .before .before .before .before .before .before .before .before .before .before .before .before .before .before .before .before .before .before .before .before .before .before .before .before .before .args .state) (G (q .before .before .before .before .before .before .before .before .before .before .before .before .before .before .before .before .before .before .before .before .before .before .before .before .before)) (Room (q .before .before .before .before .before .before .before .before .before .before .before .before .before .before .before .before .before .before .before .before .before .before .before .before .before))
-  ready = sorted-ready (L (q .before .before .before .before .before .before .before .before .before .before .before .before .before .before .before .before .before .before .before .before .before .before .before .before .before)) (P (q .before .before .before .before .before .before .before .before .before .before .before .before .before .before .before .before .before .before .before .before .before .before .before .before .before)) (q .before .before .before .before .before .before .before .before .before .before .before .before .before .before .before .before .before .before .before .before .before .before .before .before .before .args .state) (G (q .before .before .before .before .before .before .before .before .before .before .before .before .before .before .before .before .before .before .before .before .before .before .before .before .before)) (Room (q .before .before .before .before .before .before .before .before .before .before .before .before .before .before .before .before .before .before .before .before .before .before .before .before .before)) refl _ (answered q) z
+  ready : Ready (L (start q)) (P (start q)) (start q .args .state) (G (start q)) (Room (start q))
+  ready = sorted-ready (L (start q)) (P (start q)) (start q .args .state) (G (start q)) (Room (start q)) refl _ (answered q) z
 
-  started : q .before .before .before .before .before .before .before .before .before .before .before .before .before .before .before .before .before .before .before .before .before .before .before .before .before .args .table .n + 1 ≤ length (q .before .before .before .before .before .before .before .before .before .before .before .before .before .before .before .before .before .before .before .before .before .before .before .before .before .args .starts .now)
-  started = leb-true _ _ (and-left (Starts (q .before .before .before .before .before .before .before .before .before .before .before .before .before .before .before .before .before .before .before .before .before .before .before .before .before)) (roomy (L (q .before .before .before .before .before .before .before .before .before .before .before .before .before .before .before .before .before .before .before .before .before .before .before .before .before)) (Works (q .before .before .before .before .before .before .before .before .before .before .before .before .before .before .before .before .before .before .before .before .before .before .before .before .before))) (ready .enough))
+  started : start q .args .table .n + 1 ≤ length (start q .args .starts .now)
+  started = leb-true _ _ (and-left (Starts (start q)) (roomy (L (start q)) (Works (start q))) (ready .enough))
 
-  wide :
-      Roomy (L (q .before .before .before .before .before .before .before .before .before .before .before .before .before .before .before .before .before .before .before .before .before .before .before .before .before)) (q .before .before .before .before .before .before .before .before .before .before .before .before .before .before .before .before .before .before .before .before .before .before .before .before .before .args .own-labels .now) (q .before .before .before .before .before .before .before .before .before .before .before .before .before .before .before .before .before .before .before .before .before .before .before .before .before .args .own-blocks .now) (q .before .before .before .before .before .before .before .before .before .before .before .before .before .before .before .before .before .before .before .before .before .before .before .before .before .args .high .now) (q .before .before .before .before .before .before .before .before .before .before .before .before .before .before .before .before .before .before .before .before .before .before .before .before .before .args .low .now)
-      (q .before .before .before .before .before .before .before .before .before .before .before .before .before .before .before .before .before .before .before .before .before .before .before .before .before .args .end-high .now) (q .before .before .before .before .before .before .before .before .before .before .before .before .before .before .before .before .before .before .before .before .before .before .before .before .before .args .end-low .now) (q .before .before .before .before .before .before .before .before .before .before .before .before .before .before .before .before .before .before .before .before .before .before .before .before .before .args .tree .now)
+  wide : Wide (L (start q)) (Works (start q))
   wide =
-      roomy-of (L (q .before .before .before .before .before .before .before .before .before .before .before .before .before .before .before .before .before .before .before .before .before .before .before .before .before)) (q .before .before .before .before .before .before .before .before .before .before .before .before .before .before .before .before .before .before .before .before .before .before .before .before .before .args .own-labels .now) (q .before .before .before .before .before .before .before .before .before .before .before .before .before .before .before .before .before .before .before .before .before .before .before .before .before .args .own-blocks .now) (q .before .before .before .before .before .before .before .before .before .before .before .before .before .before .before .before .before .before .before .before .before .before .before .before .before .args .high .now) (q .before .before .before .before .before .before .before .before .before .before .before .before .before .before .before .before .before .before .before .before .before .before .before .before .before .args .low .now)
-      (q .before .before .before .before .before .before .before .before .before .before .before .before .before .before .before .before .before .before .before .before .before .before .before .before .before .args .end-high .now) (q .before .before .before .before .before .before .before .before .before .before .before .before .before .before .before .before .before .before .before .before .before .before .before .before .before .args .end-low .now) (q .before .before .before .before .before .before .before .before .before .before .before .before .before .before .before .before .before .before .before .before .before .before .before .before .before .args .tree .now)
-      (and-right (Starts (q .before .before .before .before .before .before .before .before .before .before .before .before .before .before .before .before .before .before .before .before .before .before .before .before .before)) (roomy (L (q .before .before .before .before .before .before .before .before .before .before .before .before .before .before .before .before .before .before .before .before .before .before .before .before .before)) (Works (q .before .before .before .before .before .before .before .before .before .before .before .before .before .before .before .before .before .before .before .before .before .before .before .before .before))) (ready .enough))
+      roomy-of (L (start q)) (Works (start q))
+      (and-right (Starts (start q)) (roomy (L (start q)) (Works (start q))) (ready .enough))
 
 -- once the lists are taken
 module _ (q : tie.After-take) where
@@ -116,7 +119,7 @@ module _ (q : tie.After-take) where
   valid : Valid (L A)
   valid = ready (q .before .before .before .before .before .before .before .before) (q .before .before .before .before .before .before .before .if1 .left) .valid
 
-  room : Roomy (L A) (A .args .own-labels .now) (A .args .own-blocks .now) (A .args .high .now) (A .args .low .now) (A .args .end-high .now) (A .args .end-low .now) (A .args .tree .now)
+  room : Wide (L A) (Works A)
   room = wide (q .before .before .before .before .before .before .before .before) (q .before .before .before .before .before .before .before .if1 .left)
 
   taken-few :
@@ -138,8 +141,8 @@ module _ (q : tie.After-take) where
       let k = taken-few .1 in
       lists-ready (L A) valid (A .args .element-to-block .now) (A .args .state) (A .args .given-labels .now) (A .args .given-blocks .now)
       (ready (q .before .before .before .before .before .before .before .before) (q .before .before .before .before .before .before .before .if1 .left) .lists) _ _ _ _ _ (q .take .ensures .1 .0)
-      (omega (arith, k, room .third, q .take .kept .1 .1 .1 .1 .1 .1 .1 .1 .1 .0)) (omega (arith, k, room .fourth, q .take .kept .1 .1 .1 .1 .1 .1 .1 .1 .1 .1 .0))
-      (omega (arith, k, room .fifth, q .take .kept .1 .1 .1 .1 .1 .1 .1 .1 .1 .1 .1 .0)) (omega (arith, k, room .sixth, q .take .kept .1 .1 .1 .1 .1 .1 .1 .1 .1 .1 .1 .1 .0))
+      (omega (arith, k, room .1 .1 .0, q .take .kept .1 .1 .1 .1 .1 .1 .1 .1 .1 .0)) (omega (arith, k, room .1 .1 .1 .0, q .take .kept .1 .1 .1 .1 .1 .1 .1 .1 .1 .1 .0))
+      (omega (arith, k, room .1 .1 .1 .1 .0, q .take .kept .1 .1 .1 .1 .1 .1 .1 .1 .1 .1 .1 .0)) (omega (arith, k, room .1 .1 .1 .1 .1 .0, q .take .kept .1 .1 .1 .1 .1 .1 .1 .1 .1 .1 .1 .1 .0))
 
   pushed-count : q .take .result .pushed ≡ length (Pushed A)
   pushed-count =
@@ -187,8 +190,8 @@ take-requires c κs =
     let w = wide (c .before .before .before .before .before .before .before) (c .before .before .before .before .before .before .if1 .left) in (
       (r .valid, r .known, r .sound .long .element-to-block, started (c .before .before .before .before .before .before .before) (c .before .before .before .before .before .before .if1 .left)),
       (
-        (omega (arith, w .first), omega (arith, w .second)),
-        (omega (arith, w .third), omega (arith, w .fourth), omega (arith, w .fifth), omega (arith, w .sixth)),
+        (omega (arith, w .0), omega (arith, w .1 .0)),
+        (omega (arith, w .1 .1 .0), omega (arith, w .1 .1 .1 .0), omega (arith, w .1 .1 .1 .1 .0), omega (arith, w .1 .1 .1 .1 .1 .0)),
       ),
     )
 
@@ -200,9 +203,9 @@ finish-requires c κs =
     let v = valid q in (
       (
         omega (arith, few .0, few .1, v .few-rows),
-        omega (arith, few .0, few .1, w .seventh),
-        omega (arith, few .2, w .first, q .take .kept .1 .1 .1 .1 .1 .1 .1 .0),
-        omega (arith, few .2, w .second, q .take .kept .1 .1 .1 .1 .1 .1 .1 .1 .0),
+        omega (arith, few .0, few .1, w .1 .1 .1 .1 .1 .1 .0),
+        omega (arith, few .2, w .0, q .take .kept .1 .1 .1 .1 .1 .1 .1 .0),
+        omega (arith, few .2, w .1 .0, q .take .kept .1 .1 .1 .1 .1 .1 .1 .1 .0),
       ),
       ((heads-ready q, set-ascending _ _ _ _ (q .take .ensures .0)), omega (arith, few .3, q .take .ensures .1 .1)),
     )
@@ -241,8 +244,8 @@ returns-2 c =
     let q = c .before .before .before .before .before .before .before .before .before .before .before .before .before .before .before .before .before .before .before .before .before .before .before .before .before .before .before .before .before .before .before .before .before .before .before .before .before .before .before .before in
     c .before .before .before .before .before .before .before .before .before .before .before .before .before .before .before .before .before .before .finish .ensures
     ∙ finish-signing (q .take .result .pushed) _ (Out a) _ (R a) (Pushed a) (Works a) (no-refusal q) (pushed-count q) (set-of q)
-    (seven-alike (q .take .last .1 .1 .1 .1 .1 .1 .1 .0) (q .take .last .1 .1 .1 .1 .1 .1 .1 .1 .0) (q .take .last .1 .1 .1 .1 .1 .1 .1 .1 .1 .0) (q .take .last .1 .1 .1 .1 .1 .1 .1 .1 .1 .1 .0) (q .take .last .1 .1 .1 .1 .1 .1 .1 .1 .1 .1 .1 .0) (q .take .last .1 .1 .1 .1 .1 .1 .1 .1 .1 .1 .1 .1 .0) (a .args .tree .now) (a .args .own-labels .now) (a .args .own-blocks .now) (a .args .high .now) (a .args .low .now) (a .args .end-high .now) (a .args .end-low .now) (a .args .tree .now) (q .take .kept .1 .1 .1 .1 .1 .1 .1 .0) (q .take .kept .1 .1 .1 .1 .1 .1 .1 .1 .0) (q .take .kept .1 .1 .1 .1 .1 .1 .1 .1 .1 .0) (q .take .kept .1 .1 .1 .1 .1 .1 .1 .1 .1 .1 .0)
-    (q .take .kept .1 .1 .1 .1 .1 .1 .1 .1 .1 .1 .1 .0) (q .take .kept .1 .1 .1 .1 .1 .1 .1 .1 .1 .1 .1 .1 .0) refl)
+    (level (q .take .last .1 .1 .1 .1 .1 .1 .1 .0 ∷ q .take .last .1 .1 .1 .1 .1 .1 .1 .1 .0 ∷ q .take .last .1 .1 .1 .1 .1 .1 .1 .1 .1 .0 ∷ q .take .last .1 .1 .1 .1 .1 .1 .1 .1 .1 .1 .0 ∷ q .take .last .1 .1 .1 .1 .1 .1 .1 .1 .1 .1 .1 .0 ∷ q .take .last .1 .1 .1 .1 .1 .1 .1 .1 .1 .1 .1 .1 .0 ∷ a .args .tree .now ∷ []) (Works a)
+    (q .take .kept .1 .1 .1 .1 .1 .1 .1 .0, (q .take .kept .1 .1 .1 .1 .1 .1 .1 .1 .0, (q .take .kept .1 .1 .1 .1 .1 .1 .1 .1 .1 .0, (q .take .kept .1 .1 .1 .1 .1 .1 .1 .1 .1 .1 .0, (q .take .kept .1 .1 .1 .1 .1 .1 .1 .1 .1 .1 .1 .0, (q .take .kept .1 .1 .1 .1 .1 .1 .1 .1 .1 .1 .1 .1 .0, (refl, tt))))))))
 
 pub branching-bisim-signature-sorted-spec : {M : Type 1} → statement M
 branching-bisim-signature-sorted-spec =

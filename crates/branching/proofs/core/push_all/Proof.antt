@@ -4,13 +4,13 @@ use Prim.Native.Nat.{ℕ, _+_, _-_, _≤_}
 use mathlib.Core.Path.{_≡_, refl, sym, ap, _∙_}
 use mathlib.Core.List.{List, _++_}
 use lib.ListN.{length, getD}
+use Rattle.columns.specs.Columns.{laid}
 use Rattle.columns.specs.Rows.{pairsOf}
 use Rattle.columns.specs.Sets.{Pair}
-use Rattle.signatures.proofs.Picks.{length-pairs}
-use Rattle.signatures.proofs.Pushing.{pairs-none}
+use Rattle.columns.proofs.Laid.{laid-none, laid-more, laid-up}
+use Rattle.columns.proofs.TwoColumns.{length-pairs, pairs-none}
 use Rattle.table.specs.Lts.{lts}
-use Rattle.branching.specs.Visiting.{outerPairs, laid}
-use Rattle.branching.proofs.Laid.{laid-none, laid-more, laid-up}
+use Rattle.branching.specs.Visiting.{outerPairs}
 use Rattle.branching.proofs.core.push_all.Statement.{statement}
 use Rattle.branching.proofs.core.push_all.Tie as tie
 

@@ -6,13 +6,13 @@ use mathlib.Core.Path.{_≡_, sym, ap, subst, _∙_}
 use mathlib.Core.List.{List}
 use lib.ListN.{length, getD}
 use lib.Seq.{length-take-le}
-use Rattle.columns.specs.Columns.{zeros}
+use Rattle.columns.specs.Columns.{zeros, laid}
 use Rattle.columns.specs.Sets.{Pair}
 use Rattle.columns.proofs.Lists.{front-zeros}
+use Rattle.columns.proofs.TwoColumns.{length-pairs}
 use Rattle.signatures.specs.Pairs.{signature}
-use Rattle.signatures.proofs.Picks.{length-pairs}
 use Rattle.table.specs.Lts.{Lts, lts, Valid}
-use Rattle.branching.specs.Visiting.{Rowed, inertTable, Hunt, Lists, outerPairs, laid}
+use Rattle.branching.specs.Visiting.{Rowed, inertTable, Hunt, Lists, outerPairs}
 use Rattle.branching.proofs.Endings.{rowed, hunt-lists, hunt-marks}
 use Rattle.branching.proofs.Hunting.{hunt-size, hunt-room, hunt-few}
 use Rattle.branching.proofs.Visited.{visited-count, visited-few, visited-signature}

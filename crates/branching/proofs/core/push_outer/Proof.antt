@@ -10,9 +10,9 @@ use Rattle.columns.specs.Counting.{many}
 use Rattle.columns.specs.Rows.{pairsOf}
 use Rattle.columns.proofs.Bools.{and-both, and-no-left, and-no-right}
 use Rattle.columns.proofs.Counting.{many-strict}
+use Rattle.columns.proofs.TwoColumns.{length-pairs}
 use Rattle.signatures.specs.Inductive.{inertb}
 use Rattle.signatures.specs.Strong.{pairAt}
-use Rattle.signatures.proofs.Picks.{length-pairs}
 use Rattle.signatures.proofs.Pushing.{Pushing, push-start, push-more, push-pass, push-done}
 use Rattle.signatures.proofs.RowsOf.{RowsFrom, rows-from}
 use Rattle.table.specs.Lts.{Lts, lts, Valid}

@@ -1,15 +1,12 @@
 use borrow.Author.Count.{below-more}
-use Prim.Native.Nat.{ℕ, _<_, _≤_, _-_, _+_}
+use Prim.Native.Nat.{ℕ, _<_, _≤_, _-_}
 use native.Mathlib.Omega.{arith}
-use borrow.Author.Needs.{needs}
-use mathlib.Core.Bool.{Bool, true, false}
-use mathlib.Core.Path.{_≡_, refl, ap, sym, subst, _∙_}
-use mathlib.Core.Logic.{_⊎_, inl, inr, ⊎-elim}
-use mathlib.Core.List.{List}
-use lib.ListN.{length, getD, set, length-set}
-use lib.Dec.{eqb, ltb}
-use Rattle.passes.proofs.PassLaws.{first-is}
-use borrow.Author.Tests.{eq-eqb, ne-eqb, not-true, not-false, lt-ltb, le-ltb}
+use mathlib.Core.Bool.{false}
+use mathlib.Core.Path.{_≡_, sym, _∙_}
+use lib.ListN.{getD}
+use lib.Dec.{eqb}
+use Rattle.columns.proofs.Firsts.{first-is}
+use borrow.Author.Tests.{eq-eqb, ne-eqb}
 use Rattle.division.proofs.checks.first_zero.Statement.{statement}
 use Rattle.division.proofs.checks.first_zero.Tie as tie
 

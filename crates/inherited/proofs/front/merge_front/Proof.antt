@@ -9,7 +9,8 @@ use lib.Seq.{length-take-le}
 use Rattle.columns.specs.Columns.{over}
 use Rattle.columns.specs.Rows.{firstOf, lastOf}
 use Rattle.columns.specs.Sets.{Pair}
-use Rattle.inherited.proofs.Fronts.{reach-high, reach-low, reach-end-high, reach-end-low, left-front, merge-front, ready-front, wiped-changed, reach-changed}
+use Rattle.columns.proofs.Lists.{wiped-changed}
+use Rattle.inherited.proofs.Fronts.{reach-high, reach-low, reach-end-high, reach-end-low, left-front, merge-front, ready-front, reach-changed}
 use Rattle.inherited.proofs.front.merge_front.Statement.{statement}
 use Rattle.inherited.proofs.front.merge_front.Tie as tie
 

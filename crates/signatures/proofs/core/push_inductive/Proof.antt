@@ -7,9 +7,10 @@ use mathlib.Core.Bool.{_&&_, cond}
 use mathlib.Core.List.{[], map}
 use lib.Dec.{eqb}
 use lib.ListN.{getD}
+use Rattle.columns.proofs.TwoColumns.{pairs-none}
 use Rattle.signatures.specs.Inductive.{inertb, markedIn, keyedAt, inductivePushed}
 use Rattle.signatures.specs.Strong.{rowsOf, pairAt}
-use Rattle.signatures.proofs.Pushing.{Pushing, push-start, push-more, push-done, pairs-none}
+use Rattle.signatures.proofs.Pushing.{Pushing, push-start, push-more, push-done}
 use Rattle.signatures.proofs.RowsOf.{RowsFrom, rows-from}
 use Rattle.signatures.proofs.Keys.{keyed-either}
 use Rattle.signatures.proofs.core.push_inductive.Statement.{statement}

@@ -6,8 +6,9 @@ use mathlib.Core.Path.{sym, ap}
 use mathlib.Core.List.{[]}
 use lib.Dec.{eqb}
 use lib.ListN.{getD}
+use Rattle.columns.proofs.TwoColumns.{pairs-none}
 use Rattle.signatures.specs.Strong.{rowsOf, pairAt, strongPushed}
-use Rattle.signatures.proofs.Pushing.{Pushing, push-start, push-more, push-done, pairs-none}
+use Rattle.signatures.proofs.Pushing.{Pushing, push-start, push-more, push-done}
 use Rattle.signatures.proofs.RowsOf.{RowsFrom, rows-from}
 use Rattle.signatures.proofs.core.push_strong.Statement.{statement}
 use Rattle.signatures.proofs.core.push_strong.Tie as tie

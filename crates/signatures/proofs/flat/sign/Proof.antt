@@ -12,9 +12,10 @@ use Rattle.columns.specs.Columns.{zeros}
 use Rattle.columns.specs.Rows.{pairsOf}
 use Rattle.columns.specs.Sets.{Pair}
 use Rattle.columns.proofs.Bools.{and-left, and-right}
+use Rattle.columns.proofs.TwoColumns.{length-pairs}
 use Rattle.signatures.specs.Pairs.{Columns, fits, roomFor}
-use Rattle.signatures.proofs.Outcomes.{four-cleared, signing-short, signing-done}
-use Rattle.signatures.proofs.Picks.{length-pairs}
+use Rattle.signatures.proofs.Outcomes.{signing-short, signing-done}
+use Rattle.signatures.proofs.Works.{zeroed}
 use Rattle.signatures.proofs.flat.sign.Statement.{statement}
 use Rattle.signatures.proofs.flat.sign.Tie as tie
 
@@ -71,7 +72,7 @@ returns c =
     let w = c .before .before .before .before .before .before .before .before .before .before .wipe .ensures in
     signing-short none (Pushed a) (Out a) (Works a) refl _ _ (room a _ false (c .before .before .before .before .before .before .before .before .before .before .before .before .before .before .before .before .has-room .ensures) (not-true _ (c .before .before .before .before .before .before .before .before .before .before .before .before .before .before .before .if1 .taken)))
     (c .refusing-number .ensures ∙ ap (λ r. refused (r .number) (r .place)) (c .before .refuse .ensures) ∙ ap (refused 16) (sym (count a)))
-    (four-cleared _ _ _ _ _ _ _ _ (w .0 .0) (w .0 .1) (w .1 .0) (w .1 .1))
+    (zeroed _ _ (w .0 .0, (w .0 .1, (w .1 .0, (w .1 .1, tt)))))
 
 flatten-requires : tie.Need-flatten-requires
 flatten-requires c κs =
@@ -111,7 +112,7 @@ returns-2 c =
     signing-done none (Pushed a) (Out a) (Works a) refl _ _ _ (room a _ true (c .before .before .before .before .before .before .before .before .before .before .before .before .before .before .before .before .before .before .before .before .before .before .before .before .before .before .before .before .before .before .has-room .ensures) (not-false _ (c .before .before .before .before .before .before .before .before .before .before .before .before .before .before .before .before .before .before .before .before .before .before .before .before .before .before .before .before .before .if1 .left)))
     (c .number .ensures ∙ ap (λ (k : ℕ). done (k ∷ [])) (f .ensures .0))
     (f .ensures .1 .0)
-    (four-cleared _ _ _ _ _ _ _ _ (w .0 .0) (w .0 .1) (w .1 .0 ∙ ap zeros (f .kept .1 .1 .1 .1 .1 .0)) (w .1 .1 ∙ ap zeros (f .kept .1 .1 .1 .1 .1 .1 .0)))
+    (zeroed _ _ (w .0 .0, (w .0 .1, (w .1 .0 ∙ ap zeros (f .kept .1 .1 .1 .1 .1 .0), (w .1 .1 ∙ ap zeros (f .kept .1 .1 .1 .1 .1 .1 .0), tt)))))
 
 pub sign-spec : {M : Type 1} → statement M
 sign-spec =

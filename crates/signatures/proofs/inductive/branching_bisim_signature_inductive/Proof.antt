@@ -19,8 +19,9 @@ use Rattle.partition.proofs.Marks.{block-known}
 use Rattle.signatures.specs.Inductive.{markedIn, inductivePushed, branchingBisimSignatureInductive}
 use Rattle.signatures.specs.Pairs.{Columns}
 use Rattle.signatures.specs.Signing.{roomy, signatureRefusal}
-use Rattle.signatures.proofs.Outcomes.{cleared-alike, signing-refused, signing-on}
-use Rattle.signatures.proofs.Ready.{Ready, Roomy, signature-ready, roomy-of}
+use Rattle.signatures.proofs.Outcomes.{signing-refused, signing-on}
+use Rattle.signatures.proofs.Ready.{Ready, signature-ready}
+use Rattle.signatures.proofs.Works.{Wide, roomy-of, level}
 use Rattle.signatures.proofs.inductive.branching_bisim_signature_inductive.Statement.{statement}
 use Rattle.signatures.proofs.inductive.branching_bisim_signature_inductive.Tie as tie
 use Rattle.table.specs.Lts.{Lts, lts}
@@ -57,26 +58,30 @@ read : (a : tie.Start)
 unfolding markedIn unmarkedb
 read a = refl
 
+-- where the call begins
+abbrev start : tie.After-signature-refusal → tie.Start
+start q = q .before .before .before .before .before .before .before .before .before .before .before .before .before .before .before .before .before .before .before
+
 -- the checks have answered R
-answered : (q : tie.After-signature-refusal) → q .signature-refusal .result ≡ R (q .before .before .before .before .before .before .before .before .before .before .before .before .before .before .before .before .before .before .before)
+answered : (q : tie.After-signature-refusal) → q .signature-refusal .result ≡ R (start q)
 unfolding roomy
 answered q =
     q .signature-refusal .ensures
-    ∙ ap (λ (b : Bool). signatureRefusal (L (q .before .before .before .before .before .before .before .before .before .before .before .before .before .before .before .before .before .before .before)) (P (q .before .before .before .before .before .before .before .before .before .before .before .before .before .before .before .before .before .before .before)) (q .before .before .before .before .before .before .before .before .before .before .before .before .before .before .before .before .before .before .before .args .state) (Keys (q .before .before .before .before .before .before .before .before .before .before .before .before .before .before .before .before .before .before .before) && b)) (q .before .before .roomy .ensures)
+    ∙ ap (λ (b : Bool). signatureRefusal (L (start q)) (P (start q)) (start q .args .state) (Keys (start q) && b)) (q .before .before .roomy .ensures)
 
 -- and where they refuse nothing
 ready : (q : tie.After-signature-refusal) → q .signature-refusal .result .number ≡ 0
-    → Ready (L (q .before .before .before .before .before .before .before .before .before .before .before .before .before .before .before .before .before .before .before)) (P (q .before .before .before .before .before .before .before .before .before .before .before .before .before .before .before .before .before .before .before)) (q .before .before .before .before .before .before .before .before .before .before .before .before .before .before .before .before .before .before .before .args .state) (Keys (q .before .before .before .before .before .before .before .before .before .before .before .before .before .before .before .before .before .before .before) && roomy (L (q .before .before .before .before .before .before .before .before .before .before .before .before .before .before .before .before .before .before .before)) (Works (q .before .before .before .before .before .before .before .before .before .before .before .before .before .before .before .before .before .before .before)))
-ready q z = signature-ready (L (q .before .before .before .before .before .before .before .before .before .before .before .before .before .before .before .before .before .before .before)) (P (q .before .before .before .before .before .before .before .before .before .before .before .before .before .before .before .before .before .before .before)) refl (q .before .before .before .before .before .before .before .before .before .before .before .before .before .before .before .before .before .before .before .args .state) (Keys (q .before .before .before .before .before .before .before .before .before .before .before .before .before .before .before .before .before .before .before) && roomy (L (q .before .before .before .before .before .before .before .before .before .before .before .before .before .before .before .before .before .before .before)) (Works (q .before .before .before .before .before .before .before .before .before .before .before .before .before .before .before .before .before .before .before))) _ (answered q) z
+    → Ready (L (start q)) (P (start q)) (start q .args .state) (Keys (start q) && roomy (L (start q)) (Works (start q)))
+ready q z = signature-ready (L (start q)) (P (start q)) refl (start q .args .state) (Keys (start q) && roomy (L (start q)) (Works (start q))) _ (answered q) z
 
 wide : (q : tie.After-signature-refusal) → q .signature-refusal .result .number ≡ 0
-    → Roomy (L (q .before .before .before .before .before .before .before .before .before .before .before .before .before .before .before .before .before .before .before)) (q .before .before .before .before .before .before .before .before .before .before .before .before .before .before .before .before .before .before .before .args .pushed-labels .now) (q .before .before .before .before .before .before .before .before .before .before .before .before .before .before .before .before .before .before .before .args .pushed-blocks .now) (q .before .before .before .before .before .before .before .before .before .before .before .before .before .before .before .before .before .before .before .args .order .now) (q .before .before .before .before .before .before .before .before .before .before .before .before .before .before .before .before .before .before .before .args .spare .now)
+    → Wide (L (start q)) (Works (start q))
 wide q z =
-    roomy-of (L (q .before .before .before .before .before .before .before .before .before .before .before .before .before .before .before .before .before .before .before)) (q .before .before .before .before .before .before .before .before .before .before .before .before .before .before .before .before .before .before .before .args .pushed-labels .now) (q .before .before .before .before .before .before .before .before .before .before .before .before .before .before .before .before .before .before .before .args .pushed-blocks .now) (q .before .before .before .before .before .before .before .before .before .before .before .before .before .before .before .before .before .before .before .args .order .now) (q .before .before .before .before .before .before .before .before .before .before .before .before .before .before .before .before .before .before .before .args .spare .now)
-    (and-right (Keys (q .before .before .before .before .before .before .before .before .before .before .before .before .before .before .before .before .before .before .before)) (roomy (L (q .before .before .before .before .before .before .before .before .before .before .before .before .before .before .before .before .before .before .before)) (Works (q .before .before .before .before .before .before .before .before .before .before .before .before .before .before .before .before .before .before .before))) (ready q z .enough))
+    roomy-of (L (start q)) (Works (start q))
+    (and-right (Keys (start q)) (roomy (L (start q)) (Works (start q))) (ready q z .enough))
 
-keyed : (q : tie.After-signature-refusal) → q .signature-refusal .result .number ≡ 0 → q .before .before .before .before .before .before .before .before .before .before .before .before .before .before .before .before .before .before .before .args .table .n ≤ length (q .before .before .before .before .before .before .before .before .before .before .before .before .before .before .before .before .before .before .before .args .state-to-key .now)
-keyed q z = leb-true _ _ (and-left (Keys (q .before .before .before .before .before .before .before .before .before .before .before .before .before .before .before .before .before .before .before)) (roomy (L (q .before .before .before .before .before .before .before .before .before .before .before .before .before .before .before .before .before .before .before)) (Works (q .before .before .before .before .before .before .before .before .before .before .before .before .before .before .before .before .before .before .before))) (ready q z .enough))
+keyed : (q : tie.After-signature-refusal) → q .signature-refusal .result .number ≡ 0 → start q .args .table .n ≤ length (start q .args .state-to-key .now)
+keyed q z = leb-true _ _ (and-left (Keys (start q)) (roomy (L (start q)) (Works (start q))) (ready q z .enough))
 
 roomy-requires : tie.Need-roomy-requires
 roomy-requires c κs = search needs
@@ -105,7 +110,7 @@ push-inductive-requires c κs =
       (r .valid, r .known, keyed (c .before .before .before) (c .before .before .if1 .left)),
       (
         (r .sound .long .element-offset, r .sound .long .element-to-block),
-        (λ u l. block-known (P (c .before .before .before .before .before .before .before .before .before .before .before .before .before .before .before .before .before .before .before .before .before .before)) u _ refl (r .sound) l, (omega (arith, w .first), omega (arith, w .second))),
+        (λ u l. block-known (P (c .before .before .before .before .before .before .before .before .before .before .before .before .before .before .before .before .before .before .before .before .before .before)) u _ refl (r .sound) l, (omega (arith, w .0), omega (arith, w .1 .0))),
       ),
     )
 
@@ -116,10 +121,10 @@ sign-requires c κs =
     let q = c .before .before .before .before .before .before .before .before .before .before .push-inductive in
     let d = q .ensures .1 in (
       (
-        omega (arith, d, w .first, q .kept .1 .1 .1 .1 .1 .1 .1 .1 .1 .0),
-        omega (arith, d, w .second, q .kept .1 .1 .1 .1 .1 .1 .1 .1 .1 .1 .0),
+        omega (arith, d, w .0, q .kept .1 .1 .1 .1 .1 .1 .1 .1 .1 .0),
+        omega (arith, d, w .1 .0, q .kept .1 .1 .1 .1 .1 .1 .1 .1 .1 .1 .0),
       ),
-      (omega (arith, d, w .third), omega (arith, d, w .fourth), omega (arith, d, r .valid .few-rows)),
+      (omega (arith, d, w .1 .1 .0), omega (arith, d, w .1 .1 .1 .0), omega (arith, d, r .valid .few-rows)),
     )
 
 same-length : tie.Need-same-length
@@ -150,8 +155,7 @@ returns-2 c =
     c .before .before .before .before .before .before .before .before .before .before .before .before .sign .ensures
     ∙ signing-on (R a) (Pushed a) (Out a) (Works a) (sym (ap (λ (r : Refusal). r .number) (answered (c .before .before .before .before .before .before .before .before .before .before .before .before .before .before .before .before .before .before .before .before .before .before .before .before .before .before .before))) ∙ c .before .before .before .before .before .before .before .before .before .before .before .before .before .before .before .before .before .before .before .before .before .before .before .before .before .before .if1 .left)
     (pairsOf (q .result) l b) (l ∷ b ∷ a .args .order .now ∷ a .args .spare .now ∷ []) (q .ensures .0 ∙ read a)
-    (cleared-alike l b (a .args .order .now) (a .args .spare .now) (a .args .pushed-labels .now) (a .args .pushed-blocks .now) (a .args .order .now)
-    (a .args .spare .now) (q .kept .1 .1 .1 .1 .1 .1 .1 .1 .1 .0) (q .kept .1 .1 .1 .1 .1 .1 .1 .1 .1 .1 .0) refl refl)
+    (level (l ∷ b ∷ a .args .order .now ∷ a .args .spare .now ∷ []) (Works a) (q .kept .1 .1 .1 .1 .1 .1 .1 .1 .1 .0, (q .kept .1 .1 .1 .1 .1 .1 .1 .1 .1 .1 .0, (refl, (refl, tt)))))
 
 pub branching-bisim-signature-inductive-spec : {M : Type 1} → statement M
 branching-bisim-signature-inductive-spec =

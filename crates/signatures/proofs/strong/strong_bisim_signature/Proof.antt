@@ -13,8 +13,9 @@ use Rattle.partition.specs.Partition.{Partition, parts}
 use Rattle.signatures.specs.Pairs.{Columns}
 use Rattle.signatures.specs.Signing.{roomy, signatureRefusal}
 use Rattle.signatures.specs.Strong.{strongPushed, strongBisimSignature}
-use Rattle.signatures.proofs.Outcomes.{cleared-alike, signing-refused, signing-on}
-use Rattle.signatures.proofs.Ready.{Ready, Roomy, signature-ready, roomy-of}
+use Rattle.signatures.proofs.Outcomes.{signing-refused, signing-on}
+use Rattle.signatures.proofs.Ready.{Ready, signature-ready}
+use Rattle.signatures.proofs.Works.{Wide, roomy-of, level}
 use Rattle.signatures.proofs.strong.strong_bisim_signature.Statement.{statement}
 use Rattle.signatures.proofs.strong.strong_bisim_signature.Tie as tie
 use Rattle.table.specs.Lts.{Lts, lts}
@@ -40,23 +41,25 @@ R a = signatureRefusal (L a) (P a) (a .args .state) (roomy (L a) (Works a))
 abbrev Pushed : tie.Start → List Pair
 Pushed a = strongPushed (L a) (a .args .element-to-block .now) (a .args .state)
 
+-- where the call begins
+abbrev start : tie.After-signature-refusal → tie.Start
+start q = q .before .before .before .before .before .before .before .before .before .before .before .before .before .before .before .before .before
+
 -- the checks have answered R
-answered : (q : tie.After-signature-refusal) → q .signature-refusal .result ≡ R (q .before .before .before .before .before .before .before .before .before .before .before .before .before .before .before .before .before)
+answered : (q : tie.After-signature-refusal) → q .signature-refusal .result ≡ R (start q)
 unfolding roomy
 answered q =
     q .signature-refusal .ensures
-    ∙ ap (λ (b : Bool). signatureRefusal (L (q .before .before .before .before .before .before .before .before .before .before .before .before .before .before .before .before .before)) (P (q .before .before .before .before .before .before .before .before .before .before .before .before .before .before .before .before .before)) (q .before .before .before .before .before .before .before .before .before .before .before .before .before .before .before .before .before .args .state) b) (q .before .roomy .ensures)
+    ∙ ap (λ (b : Bool). signatureRefusal (L (start q)) (P (start q)) (start q .args .state) b) (q .before .roomy .ensures)
 
 -- and where they refuse nothing
 ready : (q : tie.After-signature-refusal) → q .signature-refusal .result .number ≡ 0
-    → Ready (L (q .before .before .before .before .before .before .before .before .before .before .before .before .before .before .before .before .before)) (P (q .before .before .before .before .before .before .before .before .before .before .before .before .before .before .before .before .before)) (q .before .before .before .before .before .before .before .before .before .before .before .before .before .before .before .before .before .args .state) (roomy (L (q .before .before .before .before .before .before .before .before .before .before .before .before .before .before .before .before .before)) (Works (q .before .before .before .before .before .before .before .before .before .before .before .before .before .before .before .before .before)))
-ready q z = signature-ready (L (q .before .before .before .before .before .before .before .before .before .before .before .before .before .before .before .before .before)) (P (q .before .before .before .before .before .before .before .before .before .before .before .before .before .before .before .before .before)) refl (q .before .before .before .before .before .before .before .before .before .before .before .before .before .before .before .before .before .args .state) (roomy (L (q .before .before .before .before .before .before .before .before .before .before .before .before .before .before .before .before .before)) (Works (q .before .before .before .before .before .before .before .before .before .before .before .before .before .before .before .before .before))) _ (answered q) z
+    → Ready (L (start q)) (P (start q)) (start q .args .state) (roomy (L (start q)) (Works (start q)))
+ready q z = signature-ready (L (start q)) (P (start q)) refl (start q .args .state) (roomy (L (start q)) (Works (start q))) _ (answered q) z
 
 wide : (q : tie.After-signature-refusal) → q .signature-refusal .result .number ≡ 0
-    → Roomy (L (q .before .before .before .before .before .before .before .before .before .before .before .before .before .before .before .before .before)) (q .before .before .before .before .before .before .before .before .before .before .before .before .before .before .before .before .before .args .pushed-labels .now) (q .before .before .before .before .before .before .before .before .before .before .before .before .before .before .before .before .before .args .pushed-blocks .now) (q .before .before .before .before .before .before .before .before .before .before .before .before .before .before .before .before .before .args .order .now) (q .before .before .before .before .before .before .before .before .before .before .before .before .before .before .before .before .before .args .spare .now)
-wide q z =
-    roomy-of (L (q .before .before .before .before .before .before .before .before .before .before .before .before .before .before .before .before .before)) (q .before .before .before .before .before .before .before .before .before .before .before .before .before .before .before .before .before .args .pushed-labels .now) (q .before .before .before .before .before .before .before .before .before .before .before .before .before .before .before .before .before .args .pushed-blocks .now) (q .before .before .before .before .before .before .before .before .before .before .before .before .before .before .before .before .before .args .order .now) (q .before .before .before .before .before .before .before .before .before .before .before .before .before .before .before .before .before .args .spare .now)
-    (ready q z .enough)
+    → Wide (L (start q)) (Works (start q))
+wide q z = roomy-of (L (start q)) (Works (start q)) (ready q z .enough)
 
 roomy-requires : tie.Need-roomy-requires
 roomy-requires c κs = search needs
@@ -79,7 +82,7 @@ push-strong-requires : tie.Need-push-strong-requires
 push-strong-requires c κs =
     let r = ready (c .before .before .before) (c .before .before .if1 .left) in
     let w = wide (c .before .before .before) (c .before .before .if1 .left) in
-    ((r .valid, r .known, r .sound .long .element-to-block), (omega (arith, w .first), omega (arith, w .second)))
+    ((r .valid, r .known, r .sound .long .element-to-block), (omega (arith, w .0), omega (arith, w .1 .0)))
 
 sign-requires : tie.Need-sign-requires
 sign-requires c κs =
@@ -87,8 +90,8 @@ sign-requires c κs =
     let w = wide (c .before .before .before .before .before .before .before .before .before .before .before .before .before .before) (c .before .before .before .before .before .before .before .before .before .before .before .before .before .if1 .left) in
     let q = c .before .before .before .before .before .before .before .before .before .before .push-strong in
     let d = q .ensures .1 in (
-      (omega (arith, d, w .first, q .kept .1 .1 .1 .1 .1 .1 .0), omega (arith, d, w .second, q .kept .1 .1 .1 .1 .1 .1 .1 .0)),
-      (omega (arith, d, w .third), omega (arith, d, w .fourth), omega (arith, d, r .valid .few-rows)),
+      (omega (arith, d, w .0, q .kept .1 .1 .1 .1 .1 .1 .0), omega (arith, d, w .1 .0, q .kept .1 .1 .1 .1 .1 .1 .1 .0)),
+      (omega (arith, d, w .1 .1 .0), omega (arith, d, w .1 .1 .1 .0), omega (arith, d, r .valid .few-rows)),
     )
 
 same-length : tie.Need-same-length
@@ -119,8 +122,7 @@ returns-2 c =
     c .before .before .before .before .before .before .before .before .before .before .before .before .sign .ensures
     ∙ signing-on (R a) (Pushed a) (Out a) (Works a) (sym (ap (λ (r : Refusal). r .number) (answered (c .before .before .before .before .before .before .before .before .before .before .before .before .before .before .before .before .before .before .before .before .before .before .before .before .before .before .before))) ∙ c .before .before .before .before .before .before .before .before .before .before .before .before .before .before .before .before .before .before .before .before .before .before .before .before .before .before .if1 .left)
     (pairsOf (q .result) l b) (l ∷ b ∷ a .args .order .now ∷ a .args .spare .now ∷ []) (q .ensures .0)
-    (cleared-alike l b (a .args .order .now) (a .args .spare .now) (a .args .pushed-labels .now) (a .args .pushed-blocks .now) (a .args .order .now)
-    (a .args .spare .now) (q .kept .1 .1 .1 .1 .1 .1 .0) (q .kept .1 .1 .1 .1 .1 .1 .1 .0) refl refl)
+    (level (l ∷ b ∷ a .args .order .now ∷ a .args .spare .now ∷ []) (Works a) (q .kept .1 .1 .1 .1 .1 .1 .0, (q .kept .1 .1 .1 .1 .1 .1 .1 .0, (refl, (refl, tt)))))
 
 pub strong-bisim-signature-spec : {M : Type 1} → statement M
 strong-bisim-signature-spec =

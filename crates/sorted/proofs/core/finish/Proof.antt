@@ -15,7 +15,8 @@ use Rattle.columns.proofs.Bools.{and-left, and-right}
 use Rattle.inherited.specs.Merged.{heads}
 use Rattle.signatures.specs.Pairs.{Columns, fits, roomFor}
 use Rattle.sorted.specs.Taking.{joined}
-use Rattle.sorted.proofs.Works.{seven-cleared, finish-short, finish-done}
+use Rattle.signatures.proofs.Works.{zeroed}
+use Rattle.sorted.proofs.Finishing.{finish-short, finish-done}
 use Rattle.sorted.proofs.core.finish.Statement.{statement}
 use Rattle.sorted.proofs.core.finish.Tie as tie
 
@@ -84,7 +85,7 @@ returns c =
     let w = c .before .before .before .before .before .before .before .before .before .before .before .before .before .before .before .before .wipe-all .ensures in
     finish-short (a .args .taken .pushed) (Pairs a) (Out a) (Works a) _ _ (room a _ false (c .before .before .before .before .before .before .before .before .before .before .before .before .before .before .before .before .before .before .before .before .before .before .before .before .before .has-room .ensures) (not-true _ (c .before .before .before .before .before .before .before .before .before .before .before .before .before .before .before .before .before .before .before .before .before .before .before .before .if1 .taken)))
     (c .refusing-number .ensures ∙ ap (λ r. refused (r .number) (r .place)) (c .before .refuse .ensures))
-    (seven-cleared _ _ _ _ _ _ _ _ _ _ _ _ _ _ (w .0 .0) (w .0 .1) (w .0 .2) (w .0 .3) (w .1 .0) (w .1 .1) (w .1 .2))
+    (zeroed _ _ (w .0 .0, (w .0 .1, (w .0 .2, (w .0 .3, (w .1 .0, (w .1 .1, (w .1 .2, tt))))))))
 
 join-requires : tie.Need-join-requires
 join-requires c κs =
@@ -133,9 +134,7 @@ returns-2 c =
     let w = c .before .before .before .before .before .before .before .before .before .before .before .before .before .before .before .wipe-all2 .ensures in
     finish-done (a .args .taken .pushed) (Pairs a) (Out a) (Works a) _ _ _ (room a _ true (c .before .before .before .before .before .before .before .before .before .before .before .before .before .before .before .before .before .before .before .before .before .before .before .before .before .before .before .before .before .before .before .before .before .before .before .before .before .before .before .before .before .before .before .before .before .before .before .before .before .before .before .before .has-room .ensures) (not-false _ (c .before .before .before .before .before .before .before .before .before .before .before .before .before .before .before .before .before .before .before .before .before .before .before .before .before .before .before .before .before .before .before .before .before .before .before .before .before .before .before .before .before .before .before .before .before .before .before .before .before .before .before .if1 .left)))
     (c .number .ensures ∙ ap (λ (k : ℕ). done (k ∷ [])) (j .ensures .0)) (j .ensures .1)
-    (seven-cleared _ _ _ _ _ _ _ _ _ _ _ _ _ _ (w .0 .0 ∙ ap zeros (j .kept .1 .1 .1 .1 .0)) (w .0 .1 ∙ ap zeros (j .kept .1 .1 .1 .1 .1 .0))
-    (w .0 .2 ∙ ap zeros (j .kept .1 .1 .1 .1 .1 .1 .1 .0)) (w .0 .3 ∙ ap zeros (j .kept .1 .1 .1 .1 .1 .1 .1 .1 .0)) (w .1 .0 ∙ ap zeros (j .kept .1 .1 .1 .1 .1 .1 .1 .1 .1 .0))
-    (w .1 .1 ∙ ap zeros (j .kept .1 .1 .1 .1 .1 .1 .1 .1 .1 .1 .0)) (w .1 .2 ∙ ap zeros (j .kept .1 .1 .1 .1 .1 .1 .1 .1 .1 .1 .1 .0)))
+    (zeroed _ _ (w .0 .0 ∙ ap zeros (j .kept .1 .1 .1 .1 .0), (w .0 .1 ∙ ap zeros (j .kept .1 .1 .1 .1 .1 .0), (w .0 .2 ∙ ap zeros (j .kept .1 .1 .1 .1 .1 .1 .1 .0), (w .0 .3 ∙ ap zeros (j .kept .1 .1 .1 .1 .1 .1 .1 .1 .0), (w .1 .0 ∙ ap zeros (j .kept .1 .1 .1 .1 .1 .1 .1 .1 .1 .0), (w .1 .1 ∙ ap zeros (j .kept .1 .1 .1 .1 .1 .1 .1 .1 .1 .1 .0), (w .1 .2 ∙ ap zeros (j .kept .1 .1 .1 .1 .1 .1 .1 .1 .1 .1 .1 .0), tt))))))))
 
 pub finish-spec : {M : Type 1} → statement M
 finish-spec =

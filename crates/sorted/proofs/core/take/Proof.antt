@@ -2,14 +2,11 @@
 use borrow.Author.Needs.{needs}
 use native.Mathlib.Omega.{arith}
 use Prim.Native.Nat.{ℕ, _+_, _≤_}
-use mathlib.Core.Path.{_≡_, sym, ap, ap₂, _∙_}
+use mathlib.Core.Path.{_≡_, ap, ap₂, _∙_}
 use lib.ListN.{length, getD}
-use Rattle.branching.specs.Visiting.{outerPairs}
 use Rattle.columns.specs.Rows.{pairsOf}
-use Rattle.columns.specs.Sets.{Pair}
+use Rattle.branching.specs.Visiting.{outerPairs}
 use Rattle.signatures.specs.Pairs.{signature}
-use Rattle.signatures.proofs.Picks.{length-pairs}
-use Rattle.signatures.proofs.Sigs.{sig-few}
 use Rattle.sorted.proofs.Openings.{few-lists}
 use Rattle.sorted.proofs.Pushed.{few-outer, pushed-pairs, pushed-count, set-pairs}
 use Rattle.sorted.proofs.core.take.Statement.{statement}
@@ -118,14 +115,9 @@ same-length-6 c = search needs
 returns : tie.Need-returns
 returns c =
     let a = c .before .before .before .before .before .before .before .before .before .before .before .before .before .before .before .before .before .before .before .before .before .before .before .before .before .before .before .before .before .before .before .before .before .before .before .before .before .before .before .before .before .before .before .before .before .before .before .before .before .before .before .before in
-    let q = c .before .before .before .before .before .before .before .before .before .before .before .before .before .before .before .before .before .before .before .before .before .before .before .before .before .before .before .before .before .before .before .before .before .before .before .before .before .push-outer in
     let f = c .before .before .before .before .before .before .before .before .before .before .before .before .before .before .before .before .before .before .before .before .before .before .before .before .before .before .flatten in
-    let b : c .before .before .before .before .before .before .before .before .before .before .before .before .before .before .before .before .before .before .before .before .before .before .before .before .before .before .before .before .before .before .before .before .before .before .before .before .before .before .before .before .at .result ≡ getD (a .args .element-to-block .now) (a .args .state) 0 = c .before .before .before .before .before .before .before .before .before .before .before .before .before .before .before .before .before .before .before .before .before .before .before .before .before .before .before .before .before .before .before .before .before .before .before .before .before .before .before .before .at .ensures .0 in
-    let most = few (c .before .before .before .before .before .before .before .before .before .before .before .before .before .before .before .before .before .before .before .before .before .before .before .before .before .before .before .before .before .before .before .before .before .before .before .before .before) in
-    let short = sig-few (pairsOf (q .result) (q .last .1 .1 .1 .1 .1 .1 .1 .0) (q .last .1 .1 .1 .1 .1 .1 .1 .1 .0)) in
-    let count = length-pairs (q .result) (q .last .1 .1 .1 .1 .1 .1 .1 .0) (q .last .1 .1 .1 .1 .1 .1 .1 .1 .0) in (
+    let b : c .before .before .before .before .before .before .before .before .before .before .before .before .before .before .before .before .before .before .before .before .before .before .before .before .before .before .before .before .before .before .before .before .before .before .before .before .before .before .before .before .at .result ≡ getD (a .args .element-to-block .now) (a .args .state) 0 = c .before .before .before .before .before .before .before .before .before .before .before .before .before .before .before .before .before .before .before .before .before .before .before .before .before .before .before .before .before .before .before .before .before .before .before .before .before .before .before .before .at .ensures .0 in (
       set-pairs _ _ _ _ (a .args .own-labels .now) (a .args .own-blocks .now) (f .ensures .0) (f .ensures .1 .0)
-          (omega (arith, most, short, count, a .pre .1 .0 .0)) (omega (arith, most, short, count, a .pre .1 .0 .1))
           ∙ ap signature (own (c .before .before .before .before .before .before .before .before .before .before .before .before .before .before .before .before .before .before .before .before .before .before .before .before .before .before .before .before .before .before .before .before .before .before .before .before .before) ∙ ap (λ (x : ℕ). outerPairs (L a) (a .args .element-to-block .now) x (a .args .state)) b),
       (
         c .before .before .before .before .before .before .before .before .before .before .before .before .before .open-lists .ensures,

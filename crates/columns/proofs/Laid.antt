@@ -6,10 +6,10 @@ use mathlib.Core.Path.{_≡_, refl, ap, _∙_}
 use mathlib.Core.Logic.{⊎-elim}
 use mathlib.Core.List.{List, [], _++_, List·Memᴰ·not-nil, List·Memᴰ·append-cases, Memᴰ·append-left, Memᴰ·append-right}
 use lib.ListN.{length, length-append}
+use Rattle.columns.specs.Columns.{laid}
 use Rattle.columns.specs.Counting.{sum}
 use Rattle.columns.specs.Sets.{Mem}
 use Rattle.columns.proofs.All.{top-or-below}
-use Rattle.branching.specs.Visiting.{laid}
 
 module _ {A : Type 0} (h : ℕ → List A) where
   pub laid-none : laid h 0 ≡ []

@@ -1,15 +1,17 @@
 -- Lists that are given by index: their members, and that a list ascends exactly if each is above the one before.
-use mathlib.Core.Path.{_≡_, ap, _∙_}
-use mathlib.Core.Logic.{_⊎_, ⊎-elim}
+use mathlib.Core.Path.{_≡_, ap, sym, subst, _∙_}
+use mathlib.Core.Logic.{⊎-elim}
 use mathlib.Core.Bool.{Bool, true}
 use mathlib.Core.List.{List, [], _∷_, _++_, List·Memᴰ·head, List·Memᴰ·tail, List·Memᴰ·cases-cons, List·Memᴰ·not-nil, List·Memᴰ·append-cases, List·Memᴰ·eq-of-singleton, Memᴰ·append-left, Memᴰ·append-right}
-use Prim.Native.Nat.{ℕ, zero, suc, _<_}
+use Prim.Native.Nat.{ℕ, zero, suc, _-_, _<_}
 use native.Mathlib.Omega.{arith}
+use lib.ListN.{length, getD}
 use Rattle.columns.specs.Columns.{listed}
 use Rattle.columns.specs.Sets.{Mem, Ascending}
 use Rattle.columns.proofs.All.{top-or-below}
+use Rattle.columns.proofs.Lists.{listed-cells}
 use Rattle.columns.proofs.Orders.{Order}
 use Rattle.columns.proofs.Sets.{here}
 
 module _ {A : Type 0} where
   pub listed-in : (n : ℕ) (f : ℕ → A) (i : ℕ) → i < n → Mem (f i) (listed n f)
@@ -47,7 +49,7 @@ module _ {A : Type 0} where
         ⊎-elim (λ (e : i ≡ j). ap (λ (k : ℕ). lt (f k) (f (suc j))) e ∙ s j w)
         (λ (l : i < j). o .trans (f i) (f j) (f (suc j)) (rising-of o n f s i j l (omega arith)) (s j w)) (top-or-below h)
 
-    snoc-ascending : (l : List A) (x : A) → Ascending lt l → ((z : A) → Mem z l → lt z x ≡ true) → Ascending lt (l ++ (x ∷ []))
+    pub snoc-ascending : (l : List A) (x : A) → Ascending lt l → ((z : A) → Mem z l → lt z x ≡ true) → Ascending lt (l ++ (x ∷ []))
     unfolding Ascending
     snoc-ascending [] x a h = (λ z m. absurd (List·Memᴰ·not-nil m), tt)
     snoc-ascending (y ∷ l) x a h = (
@@ -65,12 +67,26 @@ module _ {A : Type 0} where
           ⊎-elim (λ (e : z ≡ y). ap (λ (w : A). lt w x) e ∙ a .0 x (Memᴰ·append-right l here)) (λ (k : Mem z l). r .1 z k) (List·Memᴰ·cases-cons m),
     )
 
+    -- what each is below
+    pub listed-below : (n : ℕ) (f : ℕ → A) (x : A) → ((i : ℕ) → i < n → lt (f i) x ≡ true) → (y : A) → Mem y (listed n f) → lt y x ≡ true
+    listed-below n f x h y m = let p = listed-out n f y m in ap (λ (z : A). lt z x) (p .same) ∙ h (p .at) (p .below)
+
+    -- they are below what the last of them is below
+    pub below-last : Order lt → (n : ℕ) (f : ℕ → A) (x : A) → Rising n f → (0 < n → lt (f (n - 1)) x ≡ true)
+        → (y : A) → Mem y (listed n f) → lt y x ≡ true
+    below-last o n f x up h =
+        listed-below n f x
+        (λ i l.
+        let w : 0 < n = omega (arith, l) in
+        ⊎-elim (λ (e : i ≡ n - 1). ap (λ (k : ℕ). lt (f k) x) e ∙ h w)
+        (λ (k : i < n - 1). o .trans (f i) (f (n - 1)) x (up i (n - 1) k (omega arith)) (h w)) (top-or-below (omega (arith, l))))
+
     pub ascending-of : (n : ℕ) (f : ℕ → A) → Rising n f → Ascending lt (listed n f)
     unfolding listed Ascending
     ascending-of zero f h = tt
     ascending-of (suc n) f h =
         snoc-ascending (listed n f) (f n) (ascending-of n f (λ i j a b. h i j a (omega arith)))
-        (λ z m. let p = listed-out n f z m in ap (λ (y : A). lt y (f n)) (p .same) ∙ h (p .at) n (p .below) (omega arith))
+        (listed-below n f (f n) (λ i l. h i n l (omega arith)))
 
     pub of-ascending : (n : ℕ) (f : ℕ → A) → Ascending lt (listed n f) → Rising n f
     unfolding listed Ascending
@@ -79,3 +95,7 @@ module _ {A : Type 0} where
         let r = ascending-snoc (listed n f) (f n) a in
         ⊎-elim (λ (e : j ≡ n). ap (λ (k : ℕ). lt (f i) (f k)) e ∙ r .1 (f i) (listed-in n f i (omega arith)))
         (λ (l : j < n). of-ascending n f (r .0) i j h l) (top-or-below w)
+
+-- by place
+pub ascending-at : (lt : ℕ → ℕ → Bool) (l : List ℕ) → Ascending lt l → (i j : ℕ) → i < j → j < length l → lt (getD l i 0) (getD l j 0) ≡ true
+ascending-at lt l a = of-ascending lt (length l) (λ k. getD l k 0) (subst (Ascending lt) (sym (listed-cells l)) a)

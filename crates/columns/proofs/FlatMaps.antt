@@ -6,9 +6,10 @@ use mathlib.Core.Logic.{⊎-elim}
 use mathlib.Core.Bool.{Bool, true, false, cond}
 use mathlib.Core.List.{List, [], _∷_, _++_, map, flatMap, append-nil, append-assoc, List·Memᴰ·tail, List·Memᴰ·cases-cons, List·Memᴰ·not-nil, List·Memᴰ·append-cases, Memᴰ·append-left, Memᴰ·append-right}
 use lib.ListN.{length, getD, length-append}
 use Rattle.columns.specs.Counting.{sum, members}
 use Rattle.columns.specs.Sets.{Mem}
 use Rattle.columns.proofs.Sets.{here}
+use Rattle.columns.proofs.Sums.{sum-first}
 
 module _ {A B : Type 0} (f : A → List B) where
   pub flat-in : (l : List A) (x : A) (z : B) → Mem x l → Mem z (f x) → Mem z (flatMap f l)
@@ -42,12 +43,6 @@ module _ {A B : Type 0} (f : A → List B) where
   unfolding flatMap
   flat-map g [] = refl
   flat-map g (c ∷ l) = ap (λ (t : List B). f (g c) ++ t) (flat-map g l)
-
--- the first apart
-sum-first : (f : ℕ → ℕ) (n : ℕ) → sum f (suc n) ≡ f 0 + sum (λ j. f (suc j)) n
-unfolding sum
-sum-first f zero = omega arith
-sum-first f (suc n) = omega (arith, sum-first f n)
 
 module _ {B : Type 0} (f : ℕ → List B) where
   -- how long: by the places of a list
