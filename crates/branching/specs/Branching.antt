@@ -5,7 +5,7 @@ use mathlib.Core.Bool.{Bool, true, not, _&&_}
 use mathlib.Core.List.{List, map}
 use lib.Dec.{eqb}
 use lib.ListN.{getD}
-use Rattle.columns.specs.Answers.{Said}
+use Rattle.columns.specs.Answers.{Said, none}
 use Rattle.columns.specs.Counting.{members}
 use Rattle.columns.specs.Sets.{Pair}
 use Rattle.partition.specs.Partition.{Partition}
@@ -43,4 +43,4 @@ branchingSignature t home s = signature (branchingPushed t home s)
 unfoldable pub branchingBisimSignature : Lts → Partition → ℕ → Columns → List (List ℕ) → Said × Left
 unfolding signing signatureRefusal roomy branchingPushed
 branchingBisimSignature t p s out works =
-    signing (signatureRefusal t p s (roomy t works)) (branchingPushed t (p .element-to-block) s) out works
+    signing (signatureRefusal t p s (roomy t works) none) (branchingPushed t (p .element-to-block) s) out works

@@ -8,7 +8,6 @@ pub mod Puts
 pub mod Bests
 pub mod Advances
 pub mod Turns
-pub mod Fronts
 pub mod Differences
 pub mod Keeping
 pub mod Weaving

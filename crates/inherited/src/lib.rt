@@ -1,5 +1,4 @@
 // The merge of ascending lists of pairs.
-pub mod front;
 pub mod heads;
 pub mod left;
 pub mod merge;

@@ -5,7 +5,7 @@ use mathlib.Core.Bool.{Bool, not, _&&_, cond}
 use mathlib.Core.List.{List, map}
 use lib.Dec.{ltb, leb, eqb}
 use lib.ListN.{length, getD}
-use Rattle.columns.specs.Answers.{Said}
+use Rattle.columns.specs.Answers.{Said, none}
 use Rattle.columns.specs.Sets.{Pair}
 use Rattle.partition.specs.Partition.{Partition}
 use Rattle.partition.specs.Readers.{unmarkedb}
@@ -40,5 +40,5 @@ inductiveSignature t home marked keys s = signature (inductivePushed t home mark
 unfoldable pub branchingBisimSignatureInductive : Lts → Partition → ℕ → List ℕ → Columns → List (List ℕ) → Said × Left
 unfolding signing signatureRefusal roomy inductivePushed unmarkedb
 branchingBisimSignatureInductive t p s keys out works =
-    signing (signatureRefusal t p s (leb (t .n) (length keys) && roomy t works))
+    signing (signatureRefusal t p s (leb (t .n) (length keys) && roomy t works) none)
     (inductivePushed t (p .element-to-block) (λ u. not (unmarkedb p u)) keys s) out works

@@ -31,18 +31,19 @@ cleared works = map (λ w. zeros (length w)) works
 abbrev pub Left : Type 0
 Left = Columns × List (List ℕ)
 
--- a call whose checks have answered r: the signature of what is pushed, or 16 with the number of pairs pushed. Both leave the
--- work slices zero; a refusal by the checks leaves them as they were
-unfoldable pub signing : Refusal → List Pair → Columns → List (List ℕ) → Said × Left
-unfolding fits signature pairsOver cleared
-signing r pushed out works =
-    cond (eqb (r .number) 0)
-    (cond (fits (length pushed) out)
-    (done (length (signature pushed) ∷ []), (pairsOver (signature pushed) out, cleared works))
-    (refused 16 (length pushed), (out, cleared works)))
-    (refused (r .number) (r .place), (out, works))
+-- a signature is written, or 16 where there is no room for as many pairs as were pushed; the work slices are zero then
+unfoldable pub finishing : ℕ → List Pair → Columns → List (List ℕ) → Said × Left
+unfolding fits pairsOver cleared
+finishing pushed pairs out works =
+    cond (fits pushed out) (done (length pairs ∷ []), (pairsOver pairs out, cleared works)) (refused 16 pushed, (out, cleared works))
 
--- 1, 2, 3, 4, 7 (`room`: the call's other slices are long enough), 5 and 6, 14, 8
-unfoldable pub signatureRefusal : Lts → Partition → ℕ → Bool → Refusal
+-- a call whose checks have answered r: a refusal leaves everything as it was
+unfoldable pub signing : Refusal → List Pair → Columns → List (List ℕ) → Said × Left
+unfolding finishing signature
+signing r pushed out works =
+    cond (eqb (r .number) 0) (finishing (length pushed) (signature pushed) out works) (refused (r .number) (r .place), (out, works))
+
+-- 1, 2, 3, 4, 7 (`room`: the call's other slices are long enough), 5 and 6, 14, 8; then what the call tests next
+unfoldable pub signatureRefusal : Lts → Partition → ℕ → Bool → Refusal → Refusal
 unfolding checkedBoth
-signatureRefusal t p s room = checkedBoth t p room (unless (ltb s (t .n)) (refusal 8 s) none)
+signatureRefusal t p s room next = checkedBoth t p room (unless (ltb s (t .n)) (refusal 8 s) next)

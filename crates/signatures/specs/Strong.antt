@@ -3,7 +3,7 @@ use Prim.Native.Nat.{ℕ}
 use mathlib.Core.List.{List, map}
 use lib.Dec.{eqb}
 use lib.ListN.{getD}
-use Rattle.columns.specs.Answers.{Said}
+use Rattle.columns.specs.Answers.{Said, none}
 use Rattle.columns.specs.Counting.{members}
 use Rattle.columns.specs.Sets.{Pair}
 use Rattle.partition.specs.Partition.{Partition}
@@ -31,4 +31,4 @@ strongSignature t home s = signature (strongPushed t home s)
 unfoldable pub strongBisimSignature : Lts → Partition → ℕ → Columns → List (List ℕ) → Said × Left
 unfolding signing signatureRefusal roomy strongPushed
 strongBisimSignature t p s out works =
-    signing (signatureRefusal t p s (roomy t works)) (strongPushed t (p .element-to-block) s) out works
+    signing (signatureRefusal t p s (roomy t works) none) (strongPushed t (p .element-to-block) s) out works

@@ -2,6 +2,7 @@
 ghost use mathlib.Core.Path.{_≡_};
 ghost use mathlib.Core.List.{[], _∷_};
 ghost use Prim.Native.Nat.{_+_};
+ghost use Rattle.columns.specs.Answers.{none};
 ghost use Rattle.partition.specs.Partition.{parts};
 ghost use Rattle.signatures.specs.Signing.{allLong, signatureRefusal};
 ghost use Rattle.table.specs.Lts.{lts};
@@ -43,7 +44,7 @@ pub fn signature_refusal(
     state: usize,
     room: bool,
 ) -> Refusal
-    ensures { λ r. ⌜ r ≡ signatureRefusal (lts table (now (source .entry)) (now (label .entry)) (now (target .entry))) (parts (now (elements .entry)) (now («element_offset» .entry)) (now («element_to_block» .entry)) (now (begin .entry)) (now («marked_split» .entry)) (now (end .entry)) (table .n) count) state room ⌝ }
+    ensures { λ r. ⌜ r ≡ signatureRefusal (lts table (now (source .entry)) (now (label .entry)) (now (target .entry))) (parts (now (elements .entry)) (now («element_offset» .entry)) (now («element_to_block» .entry)) (now (begin .entry)) (now («marked_split» .entry)) (now (end .entry)) (table .n) count) state room none ⌝ }
 {
     let t = check(
         table,

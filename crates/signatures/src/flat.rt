@@ -3,11 +3,11 @@ ghost use mathlib.Core.Path.{_≡_};
 ghost use mathlib.Core.List.{[], _∷_, map};
 ghost use Prim.Native.Nat.{_*_, _+_, _/_, _≤_};
 ghost use lib.ListN.{length};
-ghost use Rattle.columns.specs.Answers.{saidNumber, none};
+ghost use Rattle.columns.specs.Answers.{saidNumber};
 ghost use Rattle.columns.specs.Columns.{over, wiped, zeros, cell};
 ghost use Rattle.columns.specs.Rows.{pairsOf};
 ghost use Rattle.signatures.specs.Pairs.{signature, pairsOver, roomFor};
-ghost use Rattle.signatures.specs.Signing.{signing};
+ghost use Rattle.signatures.specs.Signing.{finishing};
 use columns::answers::NumberAnswer;
 use columns::answers::number;
 use columns::answers::refuse;
@@ -88,7 +88,7 @@ pub fn sign(
 ) -> NumberAnswer
     requires { ⌜ (d ≤ length (now «pushed_labels»)) × (d ≤ length (now «pushed_blocks»)) ⌝ }
     requires { ⌜ (d ≤ length (now order)) × (d ≤ 2 * length (now spare) + 1) × (d ≤ 65536) ⌝ }
-    ensures { λ r. ⌜ (saidNumber r, ((now (labels .exit), now (blocks .exit)), now («pushed_labels» .exit) ∷ now («pushed_blocks» .exit) ∷ now (order .exit) ∷ now (spare .exit) ∷ [])) ≡ signing none (pairsOf d (now («pushed_labels» .entry)) (now («pushed_blocks» .entry))) (now (labels .entry), now (blocks .entry)) (now («pushed_labels» .entry) ∷ now («pushed_blocks» .entry) ∷ now (order .entry) ∷ now (spare .entry) ∷ []) ⌝ }
+    ensures { λ r. ⌜ (saidNumber r, ((now (labels .exit), now (blocks .exit)), now («pushed_labels» .exit) ∷ now («pushed_blocks» .exit) ∷ now (order .exit) ∷ now (spare .exit) ∷ [])) ≡ finishing d (signature (pairsOf d (now («pushed_labels» .entry)) (now («pushed_blocks» .entry)))) (now (labels .entry), now (blocks .entry)) (now («pushed_labels» .entry) ∷ now («pushed_blocks» .entry) ∷ now (order .entry) ∷ now (spare .entry) ∷ []) ⌝ }
 {
     if !has_room(d, labels.len(), blocks.len()) {
         wipe(pushed_labels, pushed_blocks, order, spare);

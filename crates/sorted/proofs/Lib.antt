@@ -8,4 +8,3 @@ pub mod Examples
 pub mod Refused
 pub mod Pushed
 pub mod Joined
-pub mod Finishing

@@ -2,16 +2,15 @@
 use Prim.Native.Nat.{ℕ, _+_}
 use mathlib.Core.Bool.{Bool, _&&_, cond}
 use mathlib.Core.List.{List, [], _∷_, flatMap}
-use lib.Dec.{ltb, leb}
+use lib.Dec.{leb}
 use lib.ListN.{length, getD}
 use Rattle.columns.specs.declared.answers.Refusal.{Refusal}
-use Rattle.columns.specs.Answers.{Said, refusal, none, unless}
+use Rattle.columns.specs.Answers.{Said, none}
 use Rattle.columns.specs.Sets.{Pair}
 use Rattle.partition.specs.Partition.{Partition}
-use Rattle.partitioned.specs.Checks.{checkedBoth}
 use Rattle.signatures.specs.Inductive.{inertb}
 use Rattle.signatures.specs.Pairs.{Columns, signature}
-use Rattle.signatures.specs.Signing.{Left, roomy, signing}
+use Rattle.signatures.specs.Signing.{Left, roomy, signing, signatureRefusal}
 use Rattle.signatures.specs.Strong.{rowsOf, pairAt}
 use Rattle.subset.specs.Lists.{listAt, listsRefusal}
 use Rattle.table.specs.Lts.{Lts}
@@ -41,10 +40,8 @@ flat starts labels blocks = record { starts = starts; labels = labels; blocks = 
 
 -- 1, 2, 3, 4, 7 (`room`: the call's other slices are long enough), 5 and 6, 14, 8, 15
 unfoldable pub sortedRefusal : Lts → Partition → ℕ → Given → Bool → Refusal
-unfolding checkedBoth listsRefusal
-sortedRefusal t p s g room =
-    checkedBoth t p room
-    (unless (ltb s (t .n)) (refusal 8 s) (listsRefusal (g .starts) (t .n) (g .labels) (g .blocks) none))
+unfolding signatureRefusal listsRefusal
+sortedRefusal t p s g room = signatureRefusal t p s room (listsRefusal (g .starts) (t .n) (g .labels) (g .blocks) none)
 
 unfoldable pub branchingBisimSignatureSorted : Lts → Partition → ℕ → Given → Columns → List (List ℕ) → Said × Left
 unfolding signing sortedRefusal roomy sortedPushed listAt

@@ -1,19 +1,16 @@
--- The lists that are taken, as heads of a merge, and what is left of the call once they are.
+-- The lists that are taken, as heads of a merge, and the set of them and the own pairs.
 use Prim.Native.Nat.{ℕ, _+_, _<_}
 use mathlib.Core.Path.{_≡_}
-use mathlib.Core.Bool.{Bool, _&&_, cond}
-use mathlib.Core.List.{List, [], _∷_, map}
+use mathlib.Core.Bool.{Bool, _&&_}
+use mathlib.Core.List.{List, map}
 use lib.Dec.{eqb}
 use lib.ListN.{length, getD}
-use Rattle.columns.specs.Answers.{Said, done, refused}
 use Rattle.columns.specs.Counting.{members}
 use Rattle.columns.specs.Rows.{pairsOf}
 use Rattle.columns.specs.Sets.{Pair, pairLt, addAll}
 use Rattle.inherited.specs.Merged.{Heads, wide}
 use Rattle.inherited.specs.Rest.{mergeOf}
 use Rattle.signatures.specs.Inductive.{inertb}
-use Rattle.signatures.specs.Pairs.{Columns, fits, pairsOver}
-use Rattle.signatures.specs.Signing.{Left, cleared}
 use Rattle.subset.specs.Lists.{startAt}
 use Rattle.table.specs.Lts.{Lts}
 
@@ -37,9 +34,3 @@ pub record Opened (starts states : List ℕ) (k : ℕ) (high low endHigh endLow 
 unfoldable pub joined : ℕ → List ℕ → List ℕ → Heads → ℕ → List Pair
 unfolding addAll pairLt pairsOf mergeOf
 joined own labels blocks d k = addAll pairLt (pairsOf own labels blocks) (mergeOf d k)
-
--- a signature is written, or 16 where there is no room for what was pushed
-unfoldable pub finishing : ℕ → List Pair → Columns → List (List ℕ) → Said × Left
-unfolding fits pairsOver cleared
-finishing pushed pairs out works =
-    cond (fits pushed out) (done (length pairs ∷ []), (pairsOver pairs out, cleared works)) (refused 16 pushed, (out, cleared works))

@@ -11,7 +11,8 @@ ghost use Rattle.columns.specs.Sets.{pairLt, Ascending};
 ghost use Rattle.inherited.specs.Merged.{heads};
 ghost use Rattle.inherited.specs.Rest.{leftIn, Ready};
 ghost use Rattle.signatures.specs.Pairs.{signature, pairsOver};
-ghost use Rattle.sorted.specs.Taking.{innerTargets, Opened, joined, finishing};
+ghost use Rattle.signatures.specs.Signing.{finishing};
+ghost use Rattle.sorted.specs.Taking.{innerTargets, Opened, joined};
 ghost use Rattle.table.specs.Lts.{lts, Valid};
 use crate::opening::open_lists;
 use branching::core::push_outer;
@@ -21,8 +22,8 @@ use columns::answers::refuse;
 use columns::answers::refusing_number;
 use columns::cells::at;
 use columns::cells::clear;
-use inherited::front::merge_front;
 use inherited::left::left_in;
+use inherited::merge::merge;
 use inherited::union::unite;
 use signatures::flat::flatten;
 use signatures::flat::has_room;
@@ -134,8 +135,8 @@ fn join(
     own: usize,
     high: &mut [u16],
     low: &mut [u16],
-    end_high: &mut [u16],
-    end_low: &mut [u16],
+    end_high: &[u16],
+    end_low: &[u16],
     tree: &mut [u16],
     lists: usize,
 ) -> usize
@@ -144,7 +145,7 @@ fn join(
     requires { ⌜ (own + leftIn (heads (now «given_labels») (now «given_blocks») (now high) (now low) (now «end_high») (now «end_low»)) lists ≤ length (now labels)) × (own + leftIn (heads (now «given_labels») (now «given_blocks») (now high) (now low) (now «end_high») (now «end_low»)) lists ≤ length (now blocks)) ⌝ }
     ensures { λ r. ⌜ (r ≡ length (joined own (now («own_labels» .entry)) (now («own_blocks» .entry)) (heads (now («given_labels» .entry)) (now («given_blocks» .entry)) (now (high .entry)) (now (low .entry)) (now («end_high» .entry)) (now («end_low» .entry))) lists)) × ((now (labels .exit), now (blocks .exit)) ≡ pairsOver (joined own (now («own_labels» .entry)) (now («own_blocks» .entry)) (heads (now («given_labels» .entry)) (now («given_blocks» .entry)) (now (high .entry)) (now (low .entry)) (now («end_high» .entry)) (now («end_low» .entry))) lists) (now (labels .entry), now (blocks .entry))) ⌝ }
 {
-    let r = merge_front(
+    let r = merge(
         given_labels,
         given_blocks,
         high,
@@ -195,8 +196,8 @@ pub fn finish(
         taken.own,
         &mut *high,
         &mut *low,
-        &mut *end_high,
-        &mut *end_low,
+        &*end_high,
+        &*end_low,
         &mut *tree,
         taken.lists,
     );

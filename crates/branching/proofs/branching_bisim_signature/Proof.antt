@@ -8,21 +8,21 @@ use mathlib.Core.List.{List, [], _∷_, _++_, map}
 use lib.ListN.{length, getD, take, drop, length-replicate}
 use lib.Seq.{length-take-le}
 use Rattle.columns.specs.declared.answers.Refusal.{Refusal}
-use Rattle.columns.specs.Answers.{refused}
+use Rattle.columns.specs.Answers.{refused, none}
 use Rattle.columns.specs.Columns.{zeros}
 use Rattle.columns.specs.Rows.{pairsOf}
 use Rattle.columns.specs.Sets.{Pair}
 use Rattle.columns.proofs.Lists.{front-zeros, zeros-at, take-zeros}
 use Rattle.columns.proofs.TwoColumns.{length-pairs}
 use Rattle.partition.specs.Partition.{Partition, parts}
-use Rattle.signatures.specs.Pairs.{Columns}
+use Rattle.signatures.specs.Pairs.{Columns, signature}
 use Rattle.signatures.specs.Signing.{roomy, signatureRefusal}
-use Rattle.signatures.proofs.Outcomes.{signing-refused}
+use Rattle.signatures.proofs.Outcomes.{signing-refused, signing-on}
 use Rattle.signatures.proofs.Ready.{Ready, signature-ready}
 use Rattle.signatures.proofs.Works.{Wide, roomy-of, long-append, long-again, zeroed, level, cleared-append}
 use Rattle.table.specs.Lts.{Lts, lts}
 use Rattle.branching.specs.Branching.{branchingPushed, branchingBisimSignature}
-use Rattle.branching.proofs.MoreWorks.{with-more, signing-more}
+use Rattle.branching.proofs.MoreWorks.{with-more, finish-more}
 use Rattle.branching.proofs.branching_bisim_signature.Statement.{statement}
 use Rattle.branching.proofs.branching_bisim_signature.Tie as tie
 
@@ -44,7 +44,7 @@ Works a =
     ∷ a .args .queue .now ∷ []
 
 abbrev R : tie.Start → Refusal
-R a = signatureRefusal (L a) (P a) (a .args .state) (roomy (L a) (Works a))
+R a = signatureRefusal (L a) (P a) (a .args .state) (roomy (L a) (Works a)) none
 
 abbrev Pushed : tie.Start → List Pair
 Pushed a = branchingPushed (L a) (a .args .element-to-block .now) (a .args .state)
@@ -62,14 +62,14 @@ answered q =
     let ls : List ℕ = map (λ (w : List ℕ). length w) (Works a) in
     let x = length (a .args .queue .now) in
     q .signature-refusal .ensures
-    ∙ ap (signatureRefusal (L a) (P a) (a .args .state))
+    ∙ ap (λ (b : Bool). signatureRefusal (L a) (P a) (a .args .state) b none)
     (ap₂ (λ (x y : Bool). x && y) (q .before .before .roomy .ensures) (q .before .roomy2 .ensures)
     ∙ long-append k (take 4 ls) (drop 4 ls ++ (x ∷ x ∷ [])) ∙ long-again k ls x ∙ long-again k (take 5 ls) x)
 
 -- and where they refuse nothing
 ready : (q : tie.After-signature-refusal) → q .signature-refusal .result .number ≡ 0
-    → Ready (L (start q)) (P (start q)) (start q .args .state) (roomy (L (start q)) (Works (start q)))
-ready q z = signature-ready (L (start q)) (P (start q)) refl (start q .args .state) (roomy (L (start q)) (Works (start q))) _ (answered q) z
+    → Ready (L (start q)) (P (start q)) (start q .args .state) (roomy (L (start q)) (Works (start q))) none
+ready q z = signature-ready (L (start q)) (P (start q)) refl (start q .args .state) (roomy (L (start q)) (Works (start q))) none _ (answered q) z
 
 wide : (q : tie.After-signature-refusal) → q .signature-refusal .result .number ≡ 0
     → Wide (L (start q)) (Works (start q))
@@ -217,12 +217,11 @@ returns-2 c =
     let w : List (List ℕ) = pushed-labels q ∷ pushed-blocks q ∷ a .args .order .now ∷ a .args .spare .now ∷ [] in
     let more : List (List ℕ) = left-marks q ∷ left-queue q ∷ [] in
     ap (with-more more) (c .before .before .before .before .before .before .before .before .before .before .before .before .sign .ensures)
-    ∙ signing-more (R a) (pairsOf (p .result) (pushed-labels q) (pushed-blocks q)) (Pushed a) (Out a) w more (Works a)
-    (sym (ap (λ (r : Refusal). r .number) (answered (c .before .before .before .before .before .before .before .before .before .before .before .before .before .before .before .before .before .before .before .before .before .before .before .before .before .before .before .before .before .before .before .before .before .before .before .before .before .before .before .before .before))) ∙ c .before .before .before .before .before .before .before .before .before .before .before .before .before .before .before .before .before .before .before .before .before .before .before .before .before .before .before .before .before .before .before .before .before .before .before .before .before .before .before .before .if1 .left)
-    (length-pairs (p .result) (pushed-labels q) (pushed-blocks q) ∙ p .ensures .0 .0) (p .ensures .0 .1)
+    ∙ finish-more (p .result) (signature (pairsOf (p .result) (pushed-labels q) (pushed-blocks q))) (Out a) w more (Works a)
     (ap₂ _++_ (level w (take 4 (Works a)) (p .kept .1 .1 .1 .1 .1 .1 .0, (p .kept .1 .1 .1 .1 .1 .1 .1 .0, (refl, (refl, tt)))))
     (zeroed more (drop 4 (Works a)) (marks-left q, (queue-left q, tt)))
     ∙ cleared-append (take 4 (Works a)) (drop 4 (Works a)))
+    ∙ signing-on (R a) (Pushed a) (Out a) (Works a) (p .result) _ (Works a) (sym (ap (λ (r : Refusal). r .number) (answered (c .before .before .before .before .before .before .before .before .before .before .before .before .before .before .before .before .before .before .before .before .before .before .before .before .before .before .before .before .before .before .before .before .before .before .before .before .before .before .before .before .before))) ∙ c .before .before .before .before .before .before .before .before .before .before .before .before .before .before .before .before .before .before .before .before .before .before .before .before .before .before .before .before .before .before .before .before .before .before .before .before .before .before .before .before .if1 .left) (p .ensures .0 .0) (p .ensures .0 .1) refl
 
 pub branching-bisim-signature-spec : {M : Type 1} → statement M
 branching-bisim-signature-spec =

@@ -20,17 +20,17 @@ use Rattle.inherited.proofs.Joins.{left-alike}
 use Rattle.partition.specs.Partition.{Partition, parts}
 use Rattle.signatures.specs.Pairs.{Columns, signature}
 use Rattle.signatures.specs.Signing.{roomy}
-use Rattle.signatures.proofs.Outcomes.{signing-refused}
-use Rattle.subset.specs.Lists.{listAt}
+use Rattle.signatures.proofs.Ready.{Ready}
+use Rattle.signatures.proofs.Outcomes.{signing-refused, signing-on}
+use Rattle.subset.specs.Lists.{listAt, Lists}
 use Rattle.table.specs.Lts.{Lts, lts, Valid}
 use Rattle.sorted.specs.Sorted.{Given, flat, sortedPushed, sortedSignature, sortedRefusal, branchingBisimSignatureSorted}
 use Rattle.sorted.specs.Taking.{joined}
 use Rattle.sorted.proofs.Counted.{sorted-count, sorted-set}
 use Rattle.sorted.proofs.Openings.{few-lists, lists-ready}
 use Rattle.sorted.proofs.Pushed.{few-outer, set-few, set-ascending}
-use Rattle.sorted.proofs.Refused.{Ready, sorted-ready}
+use Rattle.sorted.proofs.Refused.{tested, sorted-ready, sorted-lists}
 use Rattle.signatures.proofs.Works.{Wide, roomy-of, long-append, long-again, level}
-use Rattle.sorted.proofs.Finishing.{finish-signing}
 use Rattle.sorted.proofs.branching_bisim_signature_sorted.Statement.{statement}
 use Rattle.sorted.proofs.branching_bisim_signature_sorted.Tie as tie
 
@@ -87,8 +87,11 @@ answered q =
 
 -- and where they refuse nothing
 module _ (q : tie.After-sorted-refusal) (z : q .sorted-refusal .result .number ≡ 0) where
-  ready : Ready (L (start q)) (P (start q)) (start q .args .state) (G (start q)) (Room (start q))
-  ready = sorted-ready (L (start q)) (P (start q)) (start q .args .state) (G (start q)) (Room (start q)) refl _ (answered q) z
+  ready : Ready (L (start q)) (P (start q)) (start q .args .state) (Room (start q)) (tested (L (start q)) (G (start q)))
+  ready = sorted-ready (L (start q)) (P (start q)) refl (start q .args .state) (G (start q)) (Room (start q)) _ (answered q) z
+
+  lists : Lists (G (start q) .starts) (L (start q) .n) (G (start q) .labels) (G (start q) .blocks)
+  lists = sorted-lists (L (start q)) (P (start q)) refl (start q .args .state) (G (start q)) (Room (start q)) _ (answered q) z
 
   started : start q .args .table .n + 1 ≤ length (start q .args .starts .now)
   started = leb-true _ _ (and-left (Starts (start q)) (roomy (L (start q)) (Works (start q))) (ready .enough))
@@ -140,7 +143,7 @@ module _ (q : tie.After-take) where
   heads-ready =
       let k = taken-few .1 in
       lists-ready (L A) valid (A .args .element-to-block .now) (A .args .state) (A .args .given-labels .now) (A .args .given-blocks .now)
-      (ready (q .before .before .before .before .before .before .before .before) (q .before .before .before .before .before .before .before .if1 .left) .lists) _ _ _ _ _ (q .take .ensures .1 .0)
+      (lists (q .before .before .before .before .before .before .before .before) (q .before .before .before .before .before .before .before .if1 .left)) _ _ _ _ _ (q .take .ensures .1 .0)
       (omega (arith, k, room .1 .1 .0, q .take .kept .1 .1 .1 .1 .1 .1 .1 .1 .1 .0)) (omega (arith, k, room .1 .1 .1 .0, q .take .kept .1 .1 .1 .1 .1 .1 .1 .1 .1 .1 .0))
       (omega (arith, k, room .1 .1 .1 .1 .0, q .take .kept .1 .1 .1 .1 .1 .1 .1 .1 .1 .1 .1 .0)) (omega (arith, k, room .1 .1 .1 .1 .1 .0, q .take .kept .1 .1 .1 .1 .1 .1 .1 .1 .1 .1 .1 .1 .0))
 
@@ -243,7 +246,7 @@ returns-2 c =
     let a = c .before .before .before .before .before .before .before .before .before .before .before .before .before .before .before .before .before .before .before .before .before .before .before .before .before .before .before .before .before .before .before .before .before .before .before .before .before .before .before .before .before .before .before .before .before .before .before .before .before .before .before .before .before .before .before .before .before .before .before .before .before .before .before .before .before .before .before .before .before .before .before .before .before in
     let q = c .before .before .before .before .before .before .before .before .before .before .before .before .before .before .before .before .before .before .before .before .before .before .before .before .before .before .before .before .before .before .before .before .before .before .before .before .before .before .before .before in
     c .before .before .before .before .before .before .before .before .before .before .before .before .before .before .before .before .before .before .finish .ensures
-    ∙ finish-signing (q .take .result .pushed) _ (Out a) _ (R a) (Pushed a) (Works a) (no-refusal q) (pushed-count q) (set-of q)
+    ∙ signing-on (R a) (Pushed a) (Out a) (Works a) (q .take .result .pushed) _ _ (no-refusal q) (pushed-count q) (set-of q)
     (level (q .take .last .1 .1 .1 .1 .1 .1 .1 .0 ∷ q .take .last .1 .1 .1 .1 .1 .1 .1 .1 .0 ∷ q .take .last .1 .1 .1 .1 .1 .1 .1 .1 .1 .0 ∷ q .take .last .1 .1 .1 .1 .1 .1 .1 .1 .1 .1 .0 ∷ q .take .last .1 .1 .1 .1 .1 .1 .1 .1 .1 .1 .1 .0 ∷ q .take .last .1 .1 .1 .1 .1 .1 .1 .1 .1 .1 .1 .1 .0 ∷ a .args .tree .now ∷ []) (Works a)
     (q .take .kept .1 .1 .1 .1 .1 .1 .1 .0, (q .take .kept .1 .1 .1 .1 .1 .1 .1 .1 .0, (q .take .kept .1 .1 .1 .1 .1 .1 .1 .1 .1 .0, (q .take .kept .1 .1 .1 .1 .1 .1 .1 .1 .1 .1 .0, (q .take .kept .1 .1 .1 .1 .1 .1 .1 .1 .1 .1 .1 .0, (q .take .kept .1 .1 .1 .1 .1 .1 .1 .1 .1 .1 .1 .1 .0, (refl, tt))))))))
 

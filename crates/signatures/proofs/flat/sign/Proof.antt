@@ -2,19 +2,19 @@
 use borrow.Author.Needs.{needs}
 use borrow.Author.Tests.{not-true, not-false, leb-true}
 use Prim.Native.Nat.{ℕ, _≤_}
-use mathlib.Core.Path.{_≡_, refl, sym, ap, _∙_}
+use mathlib.Core.Path.{_≡_, sym, ap, _∙_}
 use mathlib.Core.Bool.{Bool, true, false}
 use mathlib.Core.List.{List, [], _∷_}
 use lib.Dec.{leb}
 use lib.ListN.{length}
-use Rattle.columns.specs.Answers.{done, refused, none}
+use Rattle.columns.specs.Answers.{done, refused}
 use Rattle.columns.specs.Columns.{zeros}
 use Rattle.columns.specs.Rows.{pairsOf}
 use Rattle.columns.specs.Sets.{Pair}
 use Rattle.columns.proofs.Bools.{and-left, and-right}
 use Rattle.columns.proofs.TwoColumns.{length-pairs}
-use Rattle.signatures.specs.Pairs.{Columns, fits, roomFor}
-use Rattle.signatures.proofs.Outcomes.{signing-short, signing-done}
+use Rattle.signatures.specs.Pairs.{Columns, signature, fits, roomFor}
+use Rattle.signatures.proofs.Outcomes.{finish-short, finish-done}
 use Rattle.signatures.proofs.Works.{zeroed}
 use Rattle.signatures.proofs.flat.sign.Statement.{statement}
 use Rattle.signatures.proofs.flat.sign.Tie as tie
@@ -29,13 +29,10 @@ Out a = (a .args .labels .now, a .args .blocks .now)
 abbrev Works : tie.Start → List (List ℕ)
 Works a = a .args .pushed-labels .now ∷ a .args .pushed-blocks .now ∷ a .args .order .now ∷ a .args .spare .now ∷ []
 
-count : (a : tie.Start) → length (Pushed a) ≡ a .args .d
-count a = length-pairs (a .args .d) (a .args .pushed-labels .now) (a .args .pushed-blocks .now)
-
 room : (a : tie.Start) (r t : Bool) → r ≡ roomFor (a .args .d) (length (a .args .labels .now)) (length (a .args .blocks .now)) → r ≡ t
-    → fits (length (Pushed a)) (Out a) ≡ t
+    → fits (a .args .d) (Out a) ≡ t
 unfolding fits
-room a r t e f = ap (λ (k : ℕ). roomFor k (length (a .args .labels .now)) (length (a .args .blocks .now))) (count a) ∙ sym e ∙ f
+room a r t e f = sym e ∙ f
 
 wide : (d l b : ℕ) (r : Bool) → r ≡ roomFor d l b → r ≡ true → (d ≤ l) × (d ≤ b)
 unfolding roomFor
@@ -70,8 +67,8 @@ returns : tie.Need-returns
 returns c =
     let a = c .before .before .before .before .before .before .before .before .before .before .before .before .before .before .before .before .before .before .before .before .before .before .before in
     let w = c .before .before .before .before .before .before .before .before .before .before .wipe .ensures in
-    signing-short none (Pushed a) (Out a) (Works a) refl _ _ (room a _ false (c .before .before .before .before .before .before .before .before .before .before .before .before .before .before .before .before .has-room .ensures) (not-true _ (c .before .before .before .before .before .before .before .before .before .before .before .before .before .before .before .if1 .taken)))
-    (c .refusing-number .ensures ∙ ap (λ r. refused (r .number) (r .place)) (c .before .refuse .ensures) ∙ ap (refused 16) (sym (count a)))
+    finish-short (a .args .d) (signature (Pushed a)) (Out a) (Works a) _ _ (room a _ false (c .before .before .before .before .before .before .before .before .before .before .before .before .before .before .before .before .has-room .ensures) (not-true _ (c .before .before .before .before .before .before .before .before .before .before .before .before .before .before .before .if1 .taken)))
+    (c .refusing-number .ensures ∙ ap (λ r. refused (r .number) (r .place)) (c .before .refuse .ensures))
     (zeroed _ _ (w .0 .0, (w .0 .1, (w .1 .0, (w .1 .1, tt)))))
 
 flatten-requires : tie.Need-flatten-requires
@@ -109,7 +106,7 @@ returns-2 c =
     let a = c .before .before .before .before .before .before .before .before .before .before .before .before .before .before .before .before .before .before .before .before .before .before .before .before .before .before .before .before .before .before .before .before .before .before .before .before .before in
     let f = c .before .before .before .before .before .before .before .before .before .before .before .before .before .before .before .before .before .before .before .before .before .before .flatten in
     let w = c .before .before .before .before .before .before .before .before .before .wipe2 .ensures in
-    signing-done none (Pushed a) (Out a) (Works a) refl _ _ _ (room a _ true (c .before .before .before .before .before .before .before .before .before .before .before .before .before .before .before .before .before .before .before .before .before .before .before .before .before .before .before .before .before .before .has-room .ensures) (not-false _ (c .before .before .before .before .before .before .before .before .before .before .before .before .before .before .before .before .before .before .before .before .before .before .before .before .before .before .before .before .before .if1 .left)))
+    finish-done (a .args .d) (signature (Pushed a)) (Out a) (Works a) _ _ _ (room a _ true (c .before .before .before .before .before .before .before .before .before .before .before .before .before .before .before .before .before .before .before .before .before .before .before .before .before .before .before .before .before .before .has-room .ensures) (not-false _ (c .before .before .before .before .before .before .before .before .before .before .before .before .before .before .before .before .before .before .before .before .before .before .before .before .before .before .before .before .before .if1 .left)))
     (c .number .ensures ∙ ap (λ (k : ℕ). done (k ∷ [])) (f .ensures .0))
     (f .ensures .1 .0)
     (zeroed _ _ (w .0 .0, (w .0 .1, (w .1 .0 ∙ ap zeros (f .kept .1 .1 .1 .1 .1 .0), (w .1 .1 ∙ ap zeros (f .kept .1 .1 .1 .1 .1 .1 .0), tt)))))

@@ -9,7 +9,7 @@ use mathlib.Core.List.{List, [], _∷_}
 use lib.Dec.{leb}
 use lib.ListN.{length}
 use Rattle.columns.specs.declared.answers.Refusal.{Refusal}
-use Rattle.columns.specs.Answers.{refused}
+use Rattle.columns.specs.Answers.{refused, none}
 use Rattle.columns.specs.Rows.{pairsOf}
 use Rattle.columns.specs.Sets.{Pair}
 use Rattle.columns.proofs.Bools.{and-left, and-right}
@@ -17,9 +17,10 @@ use Rattle.partition.specs.Partition.{Partition, parts}
 use Rattle.partition.specs.Readers.{unmarkedb}
 use Rattle.partition.proofs.Marks.{block-known}
 use Rattle.signatures.specs.Inductive.{markedIn, inductivePushed, branchingBisimSignatureInductive}
-use Rattle.signatures.specs.Pairs.{Columns}
+use Rattle.signatures.specs.Pairs.{Columns, signature}
 use Rattle.signatures.specs.Signing.{roomy, signatureRefusal}
 use Rattle.signatures.proofs.Outcomes.{signing-refused, signing-on}
+use Rattle.columns.proofs.TwoColumns.{length-pairs}
 use Rattle.signatures.proofs.Ready.{Ready, signature-ready}
 use Rattle.signatures.proofs.Works.{Wide, roomy-of, level}
 use Rattle.signatures.proofs.inductive.branching_bisim_signature_inductive.Statement.{statement}
@@ -45,7 +46,7 @@ abbrev Keys : tie.Start → Bool
 Keys a = leb (a .args .table .n) (length (a .args .state-to-key .now))
 
 abbrev R : tie.Start → Refusal
-R a = signatureRefusal (L a) (P a) (a .args .state) (Keys a && roomy (L a) (Works a))
+R a = signatureRefusal (L a) (P a) (a .args .state) (Keys a && roomy (L a) (Works a)) none
 
 abbrev Pushed : tie.Start → List Pair
 Pushed a = inductivePushed (L a) (a .args .element-to-block .now) (λ u. not (unmarkedb (P a) u)) (a .args .state-to-key .now) (a .args .state)
@@ -67,12 +68,12 @@ answered : (q : tie.After-signature-refusal) → q .signature-refusal .result �
 unfolding roomy
 answered q =
     q .signature-refusal .ensures
-    ∙ ap (λ (b : Bool). signatureRefusal (L (start q)) (P (start q)) (start q .args .state) (Keys (start q) && b)) (q .before .before .roomy .ensures)
+    ∙ ap (λ (b : Bool). signatureRefusal (L (start q)) (P (start q)) (start q .args .state) (Keys (start q) && b) none) (q .before .before .roomy .ensures)
 
 -- and where they refuse nothing
 ready : (q : tie.After-signature-refusal) → q .signature-refusal .result .number ≡ 0
-    → Ready (L (start q)) (P (start q)) (start q .args .state) (Keys (start q) && roomy (L (start q)) (Works (start q)))
-ready q z = signature-ready (L (start q)) (P (start q)) refl (start q .args .state) (Keys (start q) && roomy (L (start q)) (Works (start q))) _ (answered q) z
+    → Ready (L (start q)) (P (start q)) (start q .args .state) (Keys (start q) && roomy (L (start q)) (Works (start q))) none
+ready q z = signature-ready (L (start q)) (P (start q)) refl (start q .args .state) (Keys (start q) && roomy (L (start q)) (Works (start q))) none _ (answered q) z
 
 wide : (q : tie.After-signature-refusal) → q .signature-refusal .result .number ≡ 0
     → Wide (L (start q)) (Works (start q))
@@ -153,8 +154,8 @@ returns-2 c =
     let l : List ℕ = q .last .1 .1 .1 .1 .1 .1 .1 .1 .1 .0 in
     let b : List ℕ = q .last .1 .1 .1 .1 .1 .1 .1 .1 .1 .1 .0 in
     c .before .before .before .before .before .before .before .before .before .before .before .before .sign .ensures
-    ∙ signing-on (R a) (Pushed a) (Out a) (Works a) (sym (ap (λ (r : Refusal). r .number) (answered (c .before .before .before .before .before .before .before .before .before .before .before .before .before .before .before .before .before .before .before .before .before .before .before .before .before .before .before))) ∙ c .before .before .before .before .before .before .before .before .before .before .before .before .before .before .before .before .before .before .before .before .before .before .before .before .before .before .if1 .left)
-    (pairsOf (q .result) l b) (l ∷ b ∷ a .args .order .now ∷ a .args .spare .now ∷ []) (q .ensures .0 ∙ read a)
+    ∙ signing-on (R a) (Pushed a) (Out a) (Works a) (q .result) (signature (pairsOf (q .result) l b)) (l ∷ b ∷ a .args .order .now ∷ a .args .spare .now ∷ []) (sym (ap (λ (r : Refusal). r .number) (answered (c .before .before .before .before .before .before .before .before .before .before .before .before .before .before .before .before .before .before .before .before .before .before .before .before .before .before .before))) ∙ c .before .before .before .before .before .before .before .before .before .before .before .before .before .before .before .before .before .before .before .before .before .before .before .before .before .before .if1 .left)
+    (sym (length-pairs (q .result) l b) ∙ ap length (q .ensures .0 ∙ read a)) (ap signature (q .ensures .0 ∙ read a))
     (level (l ∷ b ∷ a .args .order .now ∷ a .args .spare .now ∷ []) (Works a) (q .kept .1 .1 .1 .1 .1 .1 .1 .1 .1 .0, (q .kept .1 .1 .1 .1 .1 .1 .1 .1 .1 .1 .0, (refl, (refl, tt)))))
 
 pub branching-bisim-signature-inductive-spec : {M : Type 1} → statement M

@@ -2,9 +2,10 @@
 use borrow.Author.Needs.{needs}
 use mathlib.Core.Path.{refl, sym, _∙_}
 use Rattle.partition.specs.Partition.{Partition, parts}
-use Rattle.signatures.proofs.Ready.{Ready, signature-ready}
-use Rattle.sorted.specs.Sorted.{Given, flat}
-use Rattle.sorted.proofs.Refused.{sorted-out, sorted-on}
+use Rattle.columns.specs.Answers.{none}
+use Rattle.signatures.proofs.Ready.{Ready, signature-ready, signature-out, signature-on}
+use Rattle.sorted.specs.Sorted.{Given, flat, sortedRefusal}
+use Rattle.sorted.proofs.Refused.{tested}
 use Rattle.sorted.proofs.checks.sorted_refusal.Statement.{statement}
 use Rattle.sorted.proofs.checks.sorted_refusal.Tie as tie
 use Rattle.table.specs.Lts.{Lts, lts}
@@ -25,7 +26,8 @@ signature-refusal-requires : tie.Need-signature-refusal-requires
 signature-refusal-requires c κs = search needs
 
 returns : tie.Need-returns
-returns c = let a = c .before .before .before .before .before .before .before .before .before .before .before .before .before .before in sorted-out (L a) (P a) (a .args .state) (G a) (a .args .room) _ (c .before .signature-refusal .ensures) (c .if1 .taken)
+unfolding sortedRefusal
+returns c = let a = c .before .before .before .before .before .before .before .before .before .before .before .before .before .before in signature-out (L a) (P a) (a .args .state) (a .args .room) (tested (L a) (G a)) _ (c .before .signature-refusal .ensures) (c .if1 .taken)
 
 cast-lists-refusal : tie.Need-cast-lists-refusal
 cast-lists-refusal c = search needs
@@ -33,15 +35,16 @@ cast-lists-refusal c = search needs
 lists-refusal-requires : tie.Need-lists-refusal-requires
 lists-refusal-requires c κs =
     let a = c .before .before .before .before .before .before .before .before .before .before .before .before .before .before .before in
-    let r : Ready (L a) (P a) (a .args .state) (a .args .room)
-    = signature-ready (L a) (P a) refl (a .args .state) (a .args .room) _ (c .before .before .signature-refusal .ensures) (c .before .if1 .left) in
+    let r : Ready (L a) (P a) (a .args .state) (a .args .room) none
+    = signature-ready (L a) (P a) refl (a .args .state) (a .args .room) none _ (c .before .before .signature-refusal .ensures) (c .before .if1 .left) in
     (a .pre (r .enough), r .valid .few-states)
 
 returns-2 : tie.Need-returns-2
+unfolding sortedRefusal
 returns-2 c =
     let a = c .before .before .before .before .before .before .before .before .before .before .before .before .before .before .before .before in
     c .lists-refusal .ensures
-    ∙ sym (sorted-on (L a) (P a) (a .args .state) (G a) (a .args .room) _ (c .before .before .before .signature-refusal .ensures) refl (c .before .before .if1 .left))
+    ∙ sym (signature-on (L a) (P a) (a .args .state) (a .args .room) (tested (L a) (G a)) _ (c .before .before .before .signature-refusal .ensures) refl (c .before .before .if1 .left))
 
 pub sorted-refusal-spec : {M : Type 1} → statement M
 sorted-refusal-spec =

@@ -16,7 +16,7 @@ use Rattle.inherited.specs.Merged.{heads}
 use Rattle.signatures.specs.Pairs.{Columns, fits, roomFor}
 use Rattle.sorted.specs.Taking.{joined}
 use Rattle.signatures.proofs.Works.{zeroed}
-use Rattle.sorted.proofs.Finishing.{finish-short, finish-done}
+use Rattle.signatures.proofs.Outcomes.{finish-short, finish-done}
 use Rattle.sorted.proofs.core.finish.Statement.{statement}
 use Rattle.sorted.proofs.core.finish.Tie as tie
 
