@@ -7,7 +7,7 @@ import signatures
 import splits
 import tables
 from cases_partition import small_size
-from faults import damage, damaged, every_length, outside, several, shorten
+from faults import above, damage, damaged, every_length, outside, several, shorten
 from operations import FLAGS, Case
 from partitions import LARGEST, random_partition
 from refusals import COLUMNS, GIVEN, MOST_LABELS, MOST_ROWS, MOST_STATES, ROWS
@@ -25,6 +25,11 @@ def takes_partition(operation):
 def argument_names(operation):
     """The flags and the start state."""
     return [name for name in operation.parameters if name in FLAGS + ('state',)]
+
+
+def rows_to_ask(operation, rows):
+    """The rows to ask from, where the operation takes one."""
+    return [{'from': row} for row in rows] if 'from' in operation.parameters else [{}]
 
 
 def takes_lists(operation):
@@ -69,14 +74,17 @@ def every_small(operation, rng):
     for n, labels in signatures.SMALL if operation.name in signatures.OPERATIONS else SMALL:
         arguments = every_argument(operation, n)
         for v, chosen in product(tables.every(n, labels), arguments):
-            yield {**with_slices(operation, rng, {**v, **chosen}), **chosen}
+            for row in rows_to_ask(operation, range(v['m'] + 1)):
+                yield {**with_slices(operation, rng, {**v, **chosen}), **chosen, **row}
 
 
 def arguments(operation, rng, v):
-    """Flags, a start state, a partition and a block, all in range."""
+    """Flags, a start state, a row to ask from, a partition and a block, all in range."""
     chosen = {name: rng.randrange(2) for name in operation.parameters if name in FLAGS}
     if 'state' in operation.parameters:
         chosen['state'] = rng.choice((0, v['initial'], rng.randrange(v['n'])))
+    if 'from' in operation.parameters:
+        chosen['from'] = rng.choice((0, v['m'], rng.randint(0, v['m'])))
     if takes_partition(operation):
         chosen |= random_partition(rng, v['n'], rng.choice((None, min(2, v['n']), 1)))
     if 'block' in operation.parameters:
@@ -134,12 +142,13 @@ def large(rng):
 
 
 def many_arguments(operation, rng, v):
-    """Arguments for a large table: every flag, the first and the last state; one block with little marked, and any."""
+    """Arguments for a large table: flags, states and rows at both ends; one block with little marked, and any."""
     if operation.name in signatures.OPERATIONS:
         return [{**arguments(operation, rng, v), 'state': state} for state in {0, v['n'] - 1, v['initial']}]
     if not takes_partition(operation):
         choices = {name: (0, v['n'] - 1) if name == 'state' else (0, 1) for name in argument_names(operation)}
-        return [dict(zip(choices, chosen)) for chosen in product(*choices.values())]
+        ends = [dict(zip(choices, chosen)) for chosen in product(*choices.values())]
+        return [{**one, **row} for one, row in product(ends, rows_to_ask(operation, sorted({0, v['m'] // 2, v['m']})))]
     order, cuts = list(range(v['n'])), sorted({max(v['n'] - 1, 0), 0, v['n'], v['n'] // 2})
     rng.shuffle(order)
     whole = [{**partitions.laid_out(order, [(0, split, v['n'])]), 'block': 0} for split in cuts]
@@ -181,6 +190,8 @@ def faults_of(operation):
     own = {
         'incoming': [],
         'reachable': [outside('state', 'n')],
+        'outgoing_transitions': [outside('state', 'n')],
+        'next_incoming': [above('from', 'm'), outside('state', 'n')],
         'mark_backward_closure': [outside('block', 'count'), damage],
         'sort_topological': [tables.make_cycle],
         **dict.fromkeys(signatures.OPERATIONS, [signatures.little_room, *of_lists, outside('state', 'n'), damage]),
@@ -209,7 +220,7 @@ def values(operation, rng, number):
 
 def example(operation):
     """A sound case of the operation."""
-    v = {**tables.given(4, 2, [(0, 0, 1), (1, 1, 2), (2, 0, 3)], 3), **dict.fromkeys(FLAGS, 1), 'state': 2}
+    v = {**tables.given(4, 2, [(0, 0, 1), (1, 1, 2), (2, 0, 3)], 3), **dict.fromkeys(FLAGS, 1), 'state': 2, 'from': 1}
     v |= {**partitions.laid_out([2, 3, 0, 1], [(0, 1, 3), (3, 4, 4)]), 'block': 0}
     v |= given_lists.laid_flat([[(0, 1)], [], [(1, 0), (1, 1)], [(0, 1), (2, 0)]]) if takes_lists(operation) else {}
     v |= {name: [7] * operation.lengths()[name](v) for name in slices_besides(operation) if name not in GIVEN}

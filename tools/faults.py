@@ -34,6 +34,13 @@ def outside(argument, bound):
     return fault
 
 
+def above(argument, bound):
+    """A row argument just above its bound, or far above it."""
+    def fault(rng, v):
+        v[argument] = rng.choice((min(v[bound] + 1, LARGEST), LARGEST))
+    return fault
+
+
 def damage(rng, v):
     """14: any damage of the partition."""
     rng.choice(DAMAGES)(rng, v)

@@ -3,7 +3,7 @@ from typing import Callable, NamedTuple
 
 import plain
 import refusals
-from refusals import COLUMNS, GIVEN, RESULT, ROWS, WORK, WORKED, a_row, a_start, a_state, below, pushed, worked
+from refusals import COLUMNS, GIVEN, RESULT, ROWS, WORK, WORKED, a_row, a_start, a_state, below, pushed, up_to, worked
 
 
 class Operation(NamedTuple):
@@ -70,11 +70,15 @@ EACH_STATE = dict.fromkeys(COLUMNS, a_state)
 BESIDES = ('numbers', 'choice') + WORK
 # A state or block argument, and the number that it lies below.
 BOUNDS = {'element': 'n', 'state': 'n', 'block': 'count', 'left': 'count', 'right': 'count'}
+# A row argument, and the number that it is not above.
+MOST = {'from': 'm'}
 
 
 def ranges(arguments):
     """The tests of the arguments in their order."""
-    return tuple(below(argument, BOUNDS[argument]) for argument in arguments if argument in BOUNDS)
+    tests = {**{name: below(name, bound) for name, bound in BOUNDS.items()},
+             **{name: up_to(name, bound) for name, bound in MOST.items()}}
+    return tuple(tests[argument] for argument in arguments if argument in tests)
 
 
 def on_partition(name, arguments=(), changed=(), tests=(), **more):
@@ -127,6 +131,8 @@ ALL = (
              has_rust=False, computed=plain.incoming),
     on_table('reachable', ('hidden', 'state', 'reached', 'queue'), {'reached': a_state, 'queue': worked},
              ('reached', 'queue'), has_rust=False, computed=plain.reachable),
+    on_table('outgoing_transitions', ('state',), {}, (), computed=plain.outgoing_transitions),
+    on_table('next_incoming', ('state', 'from'), {}, (), has_rust=False, computed=plain.next_incoming),
     on_table('mark_backward_closure', COLUMNS + ('count', 'block', 'head', 'link'),
              {**EACH_STATE, 'head': worked, 'link': worked},
              ('elements', 'element_offset', 'marked_split', 'head', 'link'), (refusals.partition,),
@@ -210,8 +216,16 @@ def slices_of(line):
 
 
 def alike(case, line, other):
-    """Whether two answers are the same; for `mark_backward_closure`, whether they mark the same states."""
+    """Whether two answers are the same; by marked states or by rows where the Rust's answer has another form."""
+    if case.operation.name == 'outgoing_transitions':
+        return line == rows_line(case.values, other)
     return marks_alike(case.values, line, other) if 'block' in case.operation.parameters else line == other
+
+
+def rows_line(values, line):
+    """`rows`, and the label and target of each row of the run that an answer to `outgoing_transitions` names."""
+    first, end = (int(word) for word in line.split()[1:])
+    return 'rows' + ''.join(cells(row[1:]) for row in plain.rows(values)[first:end])
 
 
 def marks_alike(values, line, other):

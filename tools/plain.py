@@ -39,6 +39,19 @@ def reachable(v):
     return [len(reached)], {'reached': over([int(s in reached) for s in range(v['n'])], v['reached'])}
 
 
+def outgoing_transitions(v):
+    """The first row of the state, or where it would stand, and the row after its last."""
+    sources = [source for source, _, _ in rows(v)]
+    before = sum(source < v['state'] for source in sources)
+    return [before, before + sources.count(v['state'])], {}
+
+
+def next_incoming(v):
+    """The first row into the state at or after the one to ask from, or m."""
+    into = [row for row, (_, _, target) in enumerate(rows(v)) if target == v['state']]
+    return [next((row for row in into if row >= v['from']), v['m'])], {}
+
+
 def outer_rows(v):
     """The rows of the states reached by hidden steps that stay in the state's block, without these steps."""
     block_of = dict(enumerate(v['element_to_block'])).get

@@ -118,6 +118,11 @@ def below(argument, bound):
     return lambda v: None if v[argument] < v[bound] else (8, v[argument])
 
 
+def up_to(argument, bound):
+    """8: an argument above its bound; its place is its value."""
+    return lambda v: None if v[argument] <= v[bound] else (8, v[argument])
+
+
 def marked(v):
     """The marked states of the block, in the order of the elements."""
     return v['elements'][v['marked_split'][v['block']]:v['end'][v['block']]]

@@ -33,6 +33,7 @@ SIGNED = (
     ('hidden steps to marked states of another block', [(1, 0, 0), (1, 0, 2)], [(2, 2, 4), (0, 0, 2)]),
     ('pairs that ascend in another order than the rows', [(1, 1, 0), (1, 1, 2), (1, 1, 3)],
      [(3, 4, 4), (2, 2, 3), (0, 1, 2)]),
+    ('hidden steps that leave the block and come back', [(0, 1, 2), (1, 0, 3), (3, 0, 0)], [(1, 4, 4), (0, 1, 1)]),
     ('rows of other states before and after', [(0, 1, 3), (1, 0, 3), (1, 2, 0), (2, 2, 2), (3, 0, 0)], [(0, 3, 4)]),
 )
 

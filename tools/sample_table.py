@@ -10,7 +10,8 @@ from operations import BY_NAME, FLAGS, Case, written
 from partitions import LARGEST, laid_out
 from refusals import GIVEN, MOST_LABELS, MOST_ROWS, MOST_STATES
 
-OPERATIONS = ('incoming', 'reachable', 'mark_backward_closure', 'sort_topological')
+OPERATIONS = ('incoming', 'reachable', 'outgoing_transitions', 'next_incoming', 'mark_backward_closure',
+              'sort_topological')
 # Stands where nothing is read.
 X = LARGEST
 
@@ -31,6 +32,7 @@ SOUND = (
 
 # Words, the rows of a table of five states, and the blocks of its states in the order 4 2 0 3 1; the first is closed.
 CLOSED = (
+    ('no rows', [], [(0, 3, 5)]),
     ('nothing marked', [(0, 0, 2), (2, 0, 4)], [(0, 5, 5)]),
     ('all marked', [(0, 0, 2), (2, 0, 4)], [(0, 0, 5)]),
     ('no hidden row', [(4, 1, 1), (2, 1, 3)], [(0, 4, 5)]),
@@ -53,11 +55,12 @@ def lent(operation, v):
 
 
 def of_sound(operation):
-    """Every table with every flag and start state."""
+    """Every table with every flag, start state and row to ask from."""
     for words, v in SOUND:
         yield f'# {operation.name}: {words}'
         for chosen in cases_table.every_argument(operation, v['n']):
-            yield Case(operation, {**v, **chosen, **lent(operation, v)})
+            for row in cases_table.rows_to_ask(operation, range(v['m'] + 1)):
+                yield Case(operation, {**v, **chosen, **row, **lent(operation, v)})
 
 
 def closing(operation, rows, blocks):
@@ -73,7 +76,7 @@ def of_closed(operation):
 
 def a_case(operation):
     """A sound case with two rows, to be made faulty."""
-    v = {**tables.given(3, 2, [(0, 0, 1), (1, 1, 2)], 2), **dict.fromkeys(FLAGS, 0), 'state': 1}
+    v = {**tables.given(3, 2, [(0, 0, 1), (1, 1, 2)], 2), **dict.fromkeys(FLAGS, 0), 'state': 1, 'from': 1}
     v |= {**laid_out([2, 0, 1], [(0, 2, 3)], X), 'block': 0}
     v |= given_lists.laid_flat([[(0, 2)], [(X, X)], [(1, 0), (1, 1)]]) if cases_table.takes_lists(operation) else {}
     return {name: value for name, value in {**v, **lent(operation, v)}.items() if name in operation.parameters}
@@ -110,7 +113,7 @@ def of_order(operation, v):
     last = list(operation.needs)[-1]
     faults = [{'n': 0}, {'labels': 0}, {'m': MOST_ROWS + 1}, {'initial': 3}, {last: v[last][:-1]}, {'target': [3, 2]},
               {'source': [1, 1], 'label': [1, 1], 'target': [2, 1]}]
-    faults += [{name: number} for name, number in (('count', 0), ('block', X), ('state', X)) if name in v]
+    faults += [{name: number} for name, number in (('count', 0), ('block', X), ('state', X), ('from', 3)) if name in v]
     faults += [{'starts': [0, 1, 0, 9]}, {'given_blocks': [2, X, 1, 1]}] if 'starts' in v else []
     faults += [dict.fromkeys(operation.rooms, [])] if operation.rooms else []
     if 'places' in v:
@@ -134,7 +137,7 @@ def of_partition(operation, v):
 
 def of_arguments(operation, v):
     """8."""
-    for name, numbers in (('block', (1, 3, X)), ('state', (3, X))):
+    for name, numbers in (('block', (1, 3, X)), ('state', (3, X)), ('from', (3, X))):
         if name in v:
             yield f'# {operation.name}: a {name} out of range'
             yield from (Case(operation, {**v, name: number}) for number in numbers)
@@ -160,10 +163,11 @@ def of(name):
 
 def of_size():
     """More states than a byte counts."""
-    for name, v in product(('reachable', 'sort_topological'), (tables.chain(300), tables.chain(300, 0, False))):
+    names = ('reachable', 'outgoing_transitions', 'next_incoming', 'sort_topological')
+    for name, v in product(names, (tables.chain(300), tables.chain(300, 0, False))):
         operation = BY_NAME[name]
         yield f'# {name}: a chain of 300 states'
-        yield Case(operation, {**v, 'hidden': 1, 'reversed': 0, 'state': 299, **lent(operation, v)})
+        yield Case(operation, {**v, 'hidden': 1, 'reversed': 0, 'state': 299, 'from': 1, **lent(operation, v)})
 
 
 def of_no_case():

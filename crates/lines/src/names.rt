@@ -83,6 +83,13 @@ pub const BRANCHINGS: usize = 1200;
 
 pub const SORTED: usize = 1300;
 
+// The operations that name the rows of a state.
+pub const TRANSITIONS: usize = 1400;
+
+pub const OUTGOING: usize = 1401;
+
+pub const NEXT_INCOMING: usize = 1402;
+
 // The operation with this name. The names of a family stand in the order of their numbers, each with a blank after it.
 pub fn operation(name: &[u8]) -> usize {
     let block = place(
@@ -124,6 +131,10 @@ fn on_table(name: &[u8]) -> usize {
     let table = place(name, b"incoming reachable ");
     if table != 0 {
         return TABLES + table;
+    }
+    let rows = place(name, b"outgoing_transitions next_incoming ");
+    if rows != 0 {
+        return TRANSITIONS + rows;
     }
     if place(name, b"mark_backward_closure ") != 0 {
         return CLOSURES;

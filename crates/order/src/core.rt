@@ -13,7 +13,7 @@ ghost use Rattle.order.specs.Turn.{seenOf, Pushed, Standing, Turned, Sea
 use columns::cells::at;
 use columns::cells::clear;
 use table::Table;
-use table::core::first_row;
+use table::core::rows_of;
 use table::core::taken;
 
 // The mark of the target of row i, a row of s; 2 if the row is not accepted, and for a self-loop.
@@ -46,8 +46,9 @@ fn push_successors(
     ensures { λ r. ⌜ Pushed (next (lts table (now (source .entry)) (now (label .entry)) (now (target .entry))) hidden s) (now (marks .entry)) (now (stack .entry)) (now (stack .exit)) top r ⌝ }
 {
     let m = table.m as usize;
-    let mut i = first_row(source, m, s);
-    let end = first_row(source, m, s + 1);
+    let rows = rows_of(source, m, s);
+    let mut i = rows.first;
+    let end = rows.end;
     let mut high = top;
     while i < end {
         let k = seen(label, target, hidden, s, i, marks);

@@ -16,6 +16,7 @@ use lines::names;
 use lines::output;
 use signature_cases::subset_cases;
 use signature_cases::tau_hat_cases;
+use table_cases::transition_cases;
 
 // The rest of a line, and its answer.
 fn replay(line: Line, buffer: &mut Buffer, out: &mut Buffer, used: usize) -> Answered {
@@ -26,6 +27,7 @@ fn replay(line: Line, buffer: &mut Buffer, out: &mut Buffer, used: usize) -> Ans
         names::DIVISIONS => division_cases::replay(line, buffer, out, used),
         names::SPLITS => split_cases::replay(line, buffer, out, used),
         names::TABLES => table_cases::replay(line, buffer, out, used),
+        names::TRANSITIONS => transition_cases::replay(line, buffer, out, used),
         names::CLOSURES => closure_cases::replay(line, buffer, out, used),
         names::ORDERS => order_cases::replay(line, buffer, out, used),
         names::SIGNATURES => signature_cases::replay(line, buffer, out, used),

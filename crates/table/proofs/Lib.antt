@@ -5,3 +5,7 @@ pub mod Incomings
 pub mod Walks
 pub mod Searching
 pub mod Linking
+pub mod Sayings
+pub mod Runs
+pub mod Meetings
+pub mod Examples

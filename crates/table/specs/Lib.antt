@@ -1,6 +1,7 @@
 pub mod Lts
 pub mod Checks
 pub mod Stretch
+pub mod Transitions
 pub mod Links
 pub mod Incoming
 pub mod Reach

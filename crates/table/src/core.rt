@@ -15,7 +15,7 @@ use columns::cells::clear;
 use columns::cells::count_up;
 use columns::sorting::sort;
 
-// How many of the first m rows have a source below s. The rows of s are those from first_row(s) to first_row(s + 1).
+// How many of the first m rows have a source below s.
 pub fn first_row(source: &[u16], m: usize, s: usize) -> usize
     requires { ⌜ (m ≤ length (now source)) × Rising (now source) m ⌝ }
     ensures { λ r. ⌜ r ≡ firstRow (now (source .entry)) m s ⌝ }
@@ -31,6 +31,22 @@ pub fn first_row(source: &[u16], m: usize, s: usize) -> usize
         }
     }
     low
+}
+
+// A run of rows: those from `first` to before `end`.
+pub struct Stretch {
+    pub first: usize,
+    pub end: usize,
+}
+
+// The rows of s among the first m.
+pub fn rows_of(source: &[u16], m: usize, s: usize) -> Stretch
+    requires { ⌜ (m ≤ length (now source)) × Rising (now source) m × (s < 65536) ⌝ }
+    ensures { λ r. ⌜ (r .first ≡ firstRow (now (source .entry)) m s) × (r .end ≡ firstRow (now (source .entry)) m (s + 1)) ⌝ }
+{
+    let first = first_row(source, m, s);
+    let end = first_row(source, m, s + 1);
+    Stretch { first, end }
 }
 
 // The least of the first m rows, at or after `from`, whose target is u; m if there is none. The incoming rows of a state
@@ -107,8 +123,9 @@ fn visit(
 {
     let m = table.m as usize;
     let s = at(&*queue, head);
-    let mut i = first_row(source, m, s);
-    let end = first_row(source, m, s + 1);
+    let rows = rows_of(source, m, s);
+    let mut i = rows.first;
+    let end = rows.end;
     let mut high = tail;
     while i < end {
         if fresh(label, target, &*marks, hidden, i) {

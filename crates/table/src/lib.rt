@@ -5,6 +5,7 @@ pub mod core;
 pub mod incoming;
 pub mod links;
 pub mod reach;
+pub mod transitions;
 
 // The numbers that travel with the columns: n states, labels, m rows and the initial state. Label 0 is hidden.
 pub struct Table {

@@ -1,8 +1,9 @@
-// The cases of the operations on a transition table alone: `incoming` and `reachable`. Each has one result column and one work
-// slice.
+// The cases of the operations on a transition table alone: `incoming` and `reachable`, each with one result column and one work
+// slice, here; those that name the rows of a state in a file of their own.
 ghost use Rattle.io.specs.Counts.{Counts};
 
 pub mod tables;
+pub mod transition_cases;
 
 use crate::tables::read_table;
 use columns::answers::NumberAnswer;

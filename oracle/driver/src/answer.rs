@@ -19,6 +19,13 @@ pub fn done(numbers: &[usize], slices: &[&[usize]]) -> String {
     line
 }
 
+/// `rows`, and two numbers for each row.
+pub fn rows(rows: impl Iterator<Item = [usize; 2]>) -> String {
+    let mut line = String::from("rows");
+    rows.for_each(|row| push_cells(&mut line, &row));
+    line
+}
+
 /// `part`, the part's length and its cells.
 pub fn part(cells: &[usize]) -> String {
     let mut line = String::from("part");

@@ -1,18 +1,32 @@
 //! The operations that follow the steps of a table.
 
 use merc_collections::BlockIndex;
-use merc_lts::{IncomingTransitions, LTS};
+use merc_lts::{IncomingTransitions, LTS, StateIndex};
 use merc_reduction::sort_topological as sort;
 
 use crate::accept::accept;
-use crate::answer::done;
+use crate::answer::{done, rows};
 use crate::lent::{Columns, Lent};
 use crate::line::{Line, Stop};
 use crate::run::{Operation, rust};
 use crate::table::Table;
 
-pub const OPERATIONS: &[(&str, Operation)] =
-    &[("mark_backward_closure", mark_backward_closure), ("sort_topological", sort_topological)];
+pub const OPERATIONS: &[(&str, Operation)] = &[
+    ("outgoing_transitions", outgoing_transitions),
+    ("mark_backward_closure", mark_backward_closure),
+    ("sort_topological", sort_topological),
+];
+
+/// The Rust has no row numbers: the label and target of each row, in order.
+fn outgoing_transitions(line: &mut Line) -> Result<String, Stop> {
+    let (table, state) = (Table::read(line)?, line.number()?);
+    line.end()?;
+    table.accept()?;
+    accept(state < table.n)?;
+    let system = table.system();
+    let found: Vec<_> = rust(|| system.outgoing_transitions(StateIndex::new(state)).collect())?;
+    Ok(rows(found.iter().map(|row| [row.label.value(), row.to.value()])))
+}
 
 fn mark_backward_closure(line: &mut Line) -> Result<String, Stop> {
     let (table, columns) = (Table::read(line)?, Columns::read(line)?);

@@ -25,59 +25,52 @@ L a = lts (a .args .table) (a .args .source .now) (a .args .label .now) (a .args
 cast-m : tie.Need-cast-m Inv-loop μ-loop
 cast-m c = omega arith
 
-first-row-requires : tie.Need-first-row-requires Inv-loop μ-loop
-first-row-requires c κs = let a = c .before .before .before .before .before .before in
-    (a .pre .0 .long .source, rising (L a) (a .pre .0))
-
-add-first-row : tie.Need-add-first-row Inv-loop μ-loop
-add-first-row c = omega arith
-
-first-row-requires-2 : tie.Need-first-row-requires-2 Inv-loop μ-loop
-first-row-requires-2 c κs = let a = c .before .before .before .before .before .before .before in
-    (a .pre .0 .long .source, rising (L a) (a .pre .0))
+rows-of-requires : tie.Need-rows-of-requires Inv-loop μ-loop
+rows-of-requires c κs = let a = c .before .before .before .before .before .before in
+    (a .pre .0 .long .source, rising (L a) (a .pre .0), omega (arith, a .pre .1 .0, a .pre .0 .few-states))
 
 loop-holds : tie.Need-loop-holds Inv-loop μ-loop
-loop-holds c = let a = c .before .before .before .before .before .before .before .before in
-    ((omega arith, omega (arith, c .before .first-row .ensures, c .first-row2 .ensures, first-row-up (a .args .source .now) (a .args .table .m) (rising (L a) (a .pre .0)) (a .args .s))), (refl, offer-start (a .args .hidden) (a .args .source .now) (a .args .label .now) (a .args .target .now) (a .args .s) (a .args .table .m) (rising (L a) (a .pre .0)) _ (c .before .first-row .ensures) _ _ _))
+loop-holds c = let a = c .before .before .before .before .before .before .before in
+    ((omega arith, omega (arith, c .rows-of .ensures .0, c .rows-of .ensures .1, first-row-up (a .args .source .now) (a .args .table .m) (rising (L a) (a .pre .0)) (a .args .s))), (refl, offer-start (a .args .hidden) (a .args .source .now) (a .args .label .now) (a .args .target .now) (a .args .s) (a .args .table .m) (rising (L a) (a .pre .0)) _ (c .rows-of .ensures .0) _ _ _))
 
 seen-requires : tie.Need-seen-requires Inv-loop μ-loop
-seen-requires c κs = let a = c .before .before .before .before .before .before .before .before .before .before in
-    let o : Own (L a) (a .args .s) (c .before .loop .i) = own-row (L a) (a .pre .0) (a .args .s) (c .before .before .before .first-row .result) (c .before .before .first-row2 .result) (c .before .loop .i) (c .before .before .before .first-row .ensures) (c .before .before .first-row2 .ensures) (c .before .loop .inv .0 .0) (c .loop-test .taken) in
+seen-requires c κs = let a = c .before .before .before .before .before .before .before .before .before in
+    let o : Own (L a) (a .args .s) (c .before .loop .i) = own-row (L a) (a .pre .0) (a .args .s) (c .before .before .rows-of .result .first) (c .before .before .rows-of .result .end) (c .before .loop .i) (c .before .before .rows-of .ensures .0) (c .before .before .rows-of .ensures .1) (c .before .loop .inv .0 .0) (c .loop-test .taken) in
     omega (arith, o .below, a .pre .0 .long .label, a .pre .0 .long .target, a .pre .0 .fields (c .before .loop .i) (o .below) .target)
 
 same-length : tie.Need-same-length Inv-loop μ-loop
 same-length c = c .before .before .before .loop .inv .1 .0
 
 returns : tie.Need-returns Inv-loop μ-loop
-returns c = let a = c .before .before .before .before .before .before .before .before .before .before .before .before in
-    let o : Own (L a) (a .args .s) (c .before .before .before .loop .i) = own-row (L a) (a .pre .0) (a .args .s) (c .before .before .before .before .before .first-row .result) (c .before .before .before .before .first-row2 .result) (c .before .before .before .loop .i) (c .before .before .before .before .before .first-row .ensures) (c .before .before .before .before .first-row2 .ensures) (c .before .before .before .loop .inv .0 .0) (c .before .before .loop-test .taken) in
+returns c = let a = c .before .before .before .before .before .before .before .before .before .before .before in
+    let o : Own (L a) (a .args .s) (c .before .before .before .loop .i) = own-row (L a) (a .pre .0) (a .args .s) (c .before .before .before .before .rows-of .result .first) (c .before .before .before .before .rows-of .result .end) (c .before .before .before .loop .i) (c .before .before .before .before .rows-of .ensures .0) (c .before .before .before .before .rows-of .ensures .1) (c .before .before .before .loop .inv .0 .0) (c .before .before .loop-test .taken) in
     clash-pushed (a .args .hidden) (a .args .source .now) (a .args .label .now) (a .args .target .now) (a .args .s) (c .before .before .before .loop .i) (o .own) (a .args .marks .now) _ (c .before .seen .ensures) (a .args .table .m) (o .below) (c .if1 .taken) _ _ _
 
 mul-stack : tie.Need-mul-stack Inv-loop μ-loop
-mul-stack c = let a = c .before .before .before .before .before .before .before .before .before .before .before .before .before in
-    let o : Own (L a) (a .args .s) (c .before .before .before .before .loop .i) = own-row (L a) (a .pre .0) (a .args .s) (c .before .before .before .before .before .before .first-row .result) (c .before .before .before .before .before .first-row2 .result) (c .before .before .before .before .loop .i) (c .before .before .before .before .before .before .first-row .ensures) (c .before .before .before .before .before .first-row2 .ensures) (c .before .before .before .before .loop .inv .0 .0) (c .before .before .before .loop-test .taken) in
+mul-stack c = let a = c .before .before .before .before .before .before .before .before .before .before .before .before in
+    let o : Own (L a) (a .args .s) (c .before .before .before .before .loop .i) = own-row (L a) (a .pre .0) (a .args .s) (c .before .before .before .before .before .rows-of .result .first) (c .before .before .before .before .before .rows-of .result .end) (c .before .before .before .before .loop .i) (c .before .before .before .before .before .rows-of .ensures .0) (c .before .before .before .before .before .rows-of .ensures .1) (c .before .before .before .before .loop .inv .0 .0) (c .before .before .before .loop-test .taken) in
     scaled-fits _ _ _ (omega (arith, o .below, a .pre .0 .long .target)) (a .good .1 .1 .1 .0 .1)
 
 shared-slice-read-stack : tie.Need-shared-slice-read-stack Inv-loop μ-loop
-shared-slice-read-stack c = let a = c .before .before .before .before .before .before .before .before .before .before .before .before .before .before in
-    let o : Own (L a) (a .args .s) (c .before .before .before .before .before .loop .i) = own-row (L a) (a .pre .0) (a .args .s) (c .before .before .before .before .before .before .before .first-row .result) (c .before .before .before .before .before .before .first-row2 .result) (c .before .before .before .before .before .loop .i) (c .before .before .before .before .before .before .before .first-row .ensures) (c .before .before .before .before .before .before .first-row2 .ensures) (c .before .before .before .before .before .loop .inv .0 .0) (c .before .before .before .before .loop-test .taken) in
+shared-slice-read-stack c = let a = c .before .before .before .before .before .before .before .before .before .before .before .before .before in
+    let o : Own (L a) (a .args .s) (c .before .before .before .before .before .loop .i) = own-row (L a) (a .pre .0) (a .args .s) (c .before .before .before .before .before .before .rows-of .result .first) (c .before .before .before .before .before .before .rows-of .result .end) (c .before .before .before .before .before .loop .i) (c .before .before .before .before .before .before .rows-of .ensures .0) (c .before .before .before .before .before .before .rows-of .ensures .1) (c .before .before .before .before .before .loop .inv .0 .0) (c .before .before .before .before .loop-test .taken) in
     omega (arith, o .below, a .pre .0 .long .target)
 
 mul-stack-2 : tie.Need-mul-stack-2 Inv-loop μ-loop
-mul-stack-2 c = let a = c .before .before .before .before .before .before .before .before .before .before .before .before .before .before in
-    let o : Own (L a) (a .args .s) (c .before .before .before .before .before .loop .i) = own-row (L a) (a .pre .0) (a .args .s) (c .before .before .before .before .before .before .before .first-row .result) (c .before .before .before .before .before .before .first-row2 .result) (c .before .before .before .before .before .loop .i) (c .before .before .before .before .before .before .before .first-row .ensures) (c .before .before .before .before .before .before .first-row2 .ensures) (c .before .before .before .before .before .loop .inv .0 .0) (c .before .before .before .before .loop-test .taken) in
+mul-stack-2 c = let a = c .before .before .before .before .before .before .before .before .before .before .before .before .before in
+    let o : Own (L a) (a .args .s) (c .before .before .before .before .before .loop .i) = own-row (L a) (a .pre .0) (a .args .s) (c .before .before .before .before .before .before .rows-of .result .first) (c .before .before .before .before .before .before .rows-of .result .end) (c .before .before .before .before .before .loop .i) (c .before .before .before .before .before .before .rows-of .ensures .0) (c .before .before .before .before .before .before .rows-of .ensures .1) (c .before .before .before .before .before .loop .inv .0 .0) (c .before .before .before .before .loop-test .taken) in
     let h = push-fits (a .args .hidden) (a .args .source .now) (a .args .label .now) (a .args .target .now) (a .args .s) (c .before .before .before .before .before .loop .i) (o .own) (a .args .marks .now) _ (c .before .before .before .seen .ensures) (a .args .table .m) (o .below) (c .before .if2 .taken) _ _ _ _ (c .before .before .before .before .before .loop .inv .1 .1) (length (a .args .stack .now)) (a .pre .1 .3) in
     scaled-fits _ _ _ (omega (arith, h, c .before .before .before .before .before .loop .inv .1 .0)) (a .good .1 .1 .1 .1 .1 .1 .1 .0 .1)
 
 slice-write-stack : tie.Need-slice-write-stack Inv-loop μ-loop
-slice-write-stack c = let a = c .before .before .before .before .before .before .before .before .before .before .before .before .before .before in
-    let o : Own (L a) (a .args .s) (c .before .before .before .before .before .loop .i) = own-row (L a) (a .pre .0) (a .args .s) (c .before .before .before .before .before .before .before .first-row .result) (c .before .before .before .before .before .before .first-row2 .result) (c .before .before .before .before .before .loop .i) (c .before .before .before .before .before .before .before .first-row .ensures) (c .before .before .before .before .before .before .first-row2 .ensures) (c .before .before .before .before .before .loop .inv .0 .0) (c .before .before .before .before .loop-test .taken) in
+slice-write-stack c = let a = c .before .before .before .before .before .before .before .before .before .before .before .before .before in
+    let o : Own (L a) (a .args .s) (c .before .before .before .before .before .loop .i) = own-row (L a) (a .pre .0) (a .args .s) (c .before .before .before .before .before .before .rows-of .result .first) (c .before .before .before .before .before .before .rows-of .result .end) (c .before .before .before .before .before .loop .i) (c .before .before .before .before .before .before .rows-of .ensures .0) (c .before .before .before .before .before .before .rows-of .ensures .1) (c .before .before .before .before .before .loop .inv .0 .0) (c .before .before .before .before .loop-test .taken) in
     let h = push-fits (a .args .hidden) (a .args .source .now) (a .args .label .now) (a .args .target .now) (a .args .s) (c .before .before .before .before .before .loop .i) (o .own) (a .args .marks .now) _ (c .before .before .before .seen .ensures) (a .args .table .m) (o .below) (c .before .if2 .taken) _ _ _ _ (c .before .before .before .before .before .loop .inv .1 .1) (length (a .args .stack .now)) (a .pre .1 .3) in
     omega (arith, h, c .before .before .before .before .before .loop .inv .1 .0)
 
 add-high : tie.Need-add-high Inv-loop μ-loop
-add-high c = let a = c .before .before .before .before .before .before .before .before .before .before .before .before .before .before in
-    let o : Own (L a) (a .args .s) (c .before .before .before .before .before .loop .i) = own-row (L a) (a .pre .0) (a .args .s) (c .before .before .before .before .before .before .before .first-row .result) (c .before .before .before .before .before .before .first-row2 .result) (c .before .before .before .before .before .loop .i) (c .before .before .before .before .before .before .before .first-row .ensures) (c .before .before .before .before .before .before .first-row2 .ensures) (c .before .before .before .before .before .loop .inv .0 .0) (c .before .before .before .before .loop-test .taken) in
+add-high c = let a = c .before .before .before .before .before .before .before .before .before .before .before .before .before in
+    let o : Own (L a) (a .args .s) (c .before .before .before .before .before .loop .i) = own-row (L a) (a .pre .0) (a .args .s) (c .before .before .before .before .before .before .rows-of .result .first) (c .before .before .before .before .before .before .rows-of .result .end) (c .before .before .before .before .before .loop .i) (c .before .before .before .before .before .before .rows-of .ensures .0) (c .before .before .before .before .before .before .rows-of .ensures .1) (c .before .before .before .before .before .loop .inv .0 .0) (c .before .before .before .before .loop-test .taken) in
     let h = push-fits (a .args .hidden) (a .args .source .now) (a .args .label .now) (a .args .target .now) (a .args .s) (c .before .before .before .before .before .loop .i) (o .own) (a .args .marks .now) _ (c .before .before .before .seen .ensures) (a .args .table .m) (o .below) (c .before .if2 .taken) _ _ _ _ (c .before .before .before .before .before .loop .inv .1 .1) (length (a .args .stack .now)) (a .pre .1 .3) in
     omega (arith, h, c .before .before .before .before .before .loop .inv .1 .0)
 
@@ -88,8 +81,8 @@ loop-less : tie.Need-loop-less Inv-loop μ-loop
 loop-less c = omega arith
 
 loop-again : tie.Need-loop-again Inv-loop μ-loop
-loop-again c = let a = c .before .before .before .before .before .before .before .before .before .before .before .before .before .before in
-    let o : Own (L a) (a .args .s) (c .before .before .before .before .before .loop .i) = own-row (L a) (a .pre .0) (a .args .s) (c .before .before .before .before .before .before .before .first-row .result) (c .before .before .before .before .before .before .first-row2 .result) (c .before .before .before .before .before .loop .i) (c .before .before .before .before .before .before .before .first-row .ensures) (c .before .before .before .before .before .before .first-row2 .ensures) (c .before .before .before .before .before .loop .inv .0 .0) (c .before .before .before .before .loop-test .taken) in
+loop-again c = let a = c .before .before .before .before .before .before .before .before .before .before .before .before .before in
+    let o : Own (L a) (a .args .s) (c .before .before .before .before .before .loop .i) = own-row (L a) (a .pre .0) (a .args .s) (c .before .before .before .before .before .before .rows-of .result .first) (c .before .before .before .before .before .before .rows-of .result .end) (c .before .before .before .before .before .loop .i) (c .before .before .before .before .before .before .rows-of .ensures .0) (c .before .before .before .before .before .before .rows-of .ensures .1) (c .before .before .before .before .before .loop .inv .0 .0) (c .before .before .before .before .loop-test .taken) in
     let h = push-fits (a .args .hidden) (a .args .source .now) (a .args .label .now) (a .args .target .now) (a .args .s) (c .before .before .before .before .before .loop .i) (o .own) (a .args .marks .now) _ (c .before .before .before .seen .ensures) (a .args .table .m) (o .below) (c .before .if2 .taken) _ _ _ _ (c .before .before .before .before .before .loop .inv .1 .1) (length (a .args .stack .now)) (a .pre .1 .3) in
     ((omega arith, omega arith), (simp length-set (c .before .before .before .before .before .loop .inv .1 .0), offer-push (a .args .hidden) (a .args .source .now) (a .args .label .now) (a .args .target .now) (a .args .s) (c .before .before .before .before .before .loop .i) (o .own) (a .args .marks .now) _ (c .before .before .before .seen .ensures) _ _ _ _ (c .before .before .before .before .before .loop .inv .1 .1) (c .before .if2 .taken) (omega (arith, h, c .before .before .before .before .before .loop .inv .1 .0))))
 
@@ -100,17 +93,17 @@ loop-less-2 : tie.Need-loop-less-2 Inv-loop μ-loop
 loop-less-2 c = omega arith
 
 loop-again-2 : tie.Need-loop-again-2 Inv-loop μ-loop
-loop-again-2 c = let a = c .before .before .before .before .before .before .before .before .before .before .before .before .before in
-    let o : Own (L a) (a .args .s) (c .before .before .before .before .loop .i) = own-row (L a) (a .pre .0) (a .args .s) (c .before .before .before .before .before .before .first-row .result) (c .before .before .before .before .before .first-row2 .result) (c .before .before .before .before .loop .i) (c .before .before .before .before .before .before .first-row .ensures) (c .before .before .before .before .before .first-row2 .ensures) (c .before .before .before .before .loop .inv .0 .0) (c .before .before .before .loop-test .taken) in
+loop-again-2 c = let a = c .before .before .before .before .before .before .before .before .before .before .before .before in
+    let o : Own (L a) (a .args .s) (c .before .before .before .before .loop .i) = own-row (L a) (a .pre .0) (a .args .s) (c .before .before .before .before .before .rows-of .result .first) (c .before .before .before .before .before .rows-of .result .end) (c .before .before .before .before .loop .i) (c .before .before .before .before .before .rows-of .ensures .0) (c .before .before .before .before .before .rows-of .ensures .1) (c .before .before .before .before .loop .inv .0 .0) (c .before .before .before .loop-test .taken) in
     ((omega arith, omega arith), (c .before .before .before .before .loop .inv .1 .0, offer-skip (a .args .hidden) (a .args .source .now) (a .args .label .now) (a .args .target .now) (a .args .s) (c .before .before .before .before .loop .i) (o .own) (a .args .marks .now) _ (c .before .before .seen .ensures) _ _ _ _ (c .before .before .before .before .loop .inv .1 .1) (c .if2 .left) (c .before .if1 .left)))
 
 same-length-2 : tie.Need-same-length-2 Inv-loop μ-loop
 same-length-2 c = c .before .loop .inv .1 .0
 
 returns-2 : tie.Need-returns-2 Inv-loop μ-loop
-returns-2 c = let a = c .before .before .before .before .before .before .before .before .before .before in
-    let e : c .before .loop .i ≡ c .before .before .first-row2 .result = omega arith in
-    offer-end (a .args .hidden) (a .args .source .now) (a .args .label .now) (a .args .target .now) (a .args .s) (a .args .table .m) (rising (L a) (a .pre .0)) _ (e ∙ c .before .before .first-row2 .ensures) _ _ _ _ _ (a .pre .1 .2) (c .before .loop .inv .1 .1)
+returns-2 c = let a = c .before .before .before .before .before .before .before .before .before in
+    let e : c .before .loop .i ≡ c .before .before .rows-of .result .end = omega arith in
+    offer-end (a .args .hidden) (a .args .source .now) (a .args .label .now) (a .args .target .now) (a .args .s) (a .args .table .m) (rising (L a) (a .pre .0)) _ (e ∙ c .before .before .rows-of .ensures .1) _ _ _ _ _ (a .pre .1 .2) (c .before .loop .inv .1 .1)
 
 pub push-successors-spec : {M : Type 1} → statement M
 push-successors-spec =
@@ -119,9 +112,7 @@ push-successors-spec =
     Inv-loop
     μ-loop
     cast-m
-    first-row-requires
-    add-first-row
-    first-row-requires-2
+    rows-of-requires
     loop-holds
     seen-requires
     same-length

@@ -1,0 +1,116 @@
+// The rows of a state: those that leave it, as a run of row numbers, and those that lead to it, one after the other.
+ghost use mathlib.Core.Path.{_≡_};
+ghost use Rattle.columns.specs.Answers.{none, saidNumber};
+ghost use Rattle.table.specs.Lts.{lts};
+ghost use Rattle.table.specs.Transitions.{saidStretch, stateRefusal, fromRefusal, outgoingTransitions, nextIncomingRow};
+use crate::Table;
+use crate::checks::check;
+use crate::core::rows_of;
+use columns::answers::NumberAnswer;
+use columns::answers::Refusal;
+use columns::answers::number;
+use columns::answers::refuse;
+use columns::answers::refusing_number;
+
+// The outcome: the rows from `first` to before `end`.
+pub enum StretchOutcome {
+    Done { first: u64, end: u64 },
+    Refused(Refusal),
+}
+
+pub struct StretchAnswer {
+    pub outcome: StretchOutcome,
+}
+
+// The refusal of a call with the table and a state.
+fn state_refusal(
+    table: Table,
+    source: &[u16],
+    label: &[u16],
+    target: &[u16],
+    state: usize,
+) -> Refusal
+    ensures { λ r. ⌜ r ≡ stateRefusal (lts table (now (source .entry)) (now (label .entry)) (now (target .entry))) state none ⌝ }
+{
+    let t = check(table, source, label, target, true);
+    let refused = t.number;
+    if refused != 0 {
+        return t;
+    }
+    if table.n as usize <= state {
+        return refuse(8, state as u64);
+    }
+    refuse(0, 0)
+}
+
+// The refusal of a call with the table, a state, and the row from which another one is sought.
+fn next_refusal(
+    table: Table,
+    source: &[u16],
+    label: &[u16],
+    target: &[u16],
+    state: usize,
+    from: usize,
+) -> Refusal
+    ensures { λ r. ⌜ r ≡ stateRefusal (lts table (now (source .entry)) (now (label .entry)) (now (target .entry))) state (fromRefusal (table .m) from) ⌝ }
+{
+    let t = state_refusal(table, source, label, target, state);
+    let refused = t.number;
+    if refused != 0 {
+        return t;
+    }
+    if (table.m as usize) < from {
+        return refuse(8, from as u64);
+    }
+    refuse(0, 0)
+}
+
+// The run of the state's rows: their first, and the row after their last.
+pub fn outgoing_transitions(
+    table: Table,
+    source: &[u16],
+    label: &[u16],
+    target: &[u16],
+    state: u16,
+) -> StretchAnswer
+    ensures { λ r. ⌜ saidStretch r ≡ outgoingTransitions (lts table (now (source .entry)) (now (label .entry)) (now (target .entry))) state ⌝ }
+{
+    let s = state as usize;
+    let t = state_refusal(table, source, label, target, s);
+    let refused = t.number;
+    if refused != 0 {
+        return StretchAnswer {
+            outcome: StretchOutcome::Refused(t),
+        };
+    }
+    let rows = rows_of(source, table.m as usize, s);
+    StretchAnswer {
+        outcome: StretchOutcome::Done {
+            first: rows.first as u64,
+            end: rows.end as u64,
+        },
+    }
+}
+
+// The least row, at or after `from`, that leads to the state; m if there is none. Asked again from the row after the last
+// answer, it names all rows into the state, by ascending source, then label.
+pub fn next_incoming(
+    table: Table,
+    source: &[u16],
+    label: &[u16],
+    target: &[u16],
+    state: u16,
+    from: u16,
+) -> NumberAnswer
+    ensures { λ r. ⌜ saidNumber r ≡ nextIncomingRow (lts table (now (source .entry)) (now (label .entry)) (now (target .entry))) state from ⌝ }
+{
+    let s = state as usize;
+    let i = from as usize;
+    let t = next_refusal(table, source, label, target, s, i);
+    let refused = t.number;
+    if refused != 0 {
+        return refusing_number(t);
+    }
+    let row = crate::core::next_incoming(target, table.m as usize, s, i);
+    number(row as u64)
+}
