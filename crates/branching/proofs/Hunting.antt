@@ -64,10 +64,6 @@ module _ (n m : ℕ) (source label target home : List ℕ) (b : ℕ) where
     unfolding inertTable
     hunt-few = omega (arith, h .search .counted, many-le n (λ u. eqb (getD marks u 0) 1))
 
-    pub hunt-state : (k : ℕ) → k < tail → getD queue k 0 < n
-    unfolding inertTable
-    hunt-state k w = h .search .state k w
-
   -- ---- the rows of state x, from the first to the last
   pub record Turning (start x : ℕ) (marks queue : List ℕ) (head tail i : ℕ) : Type 0 where
     pub hunt : Hunt inner start marks queue head tail

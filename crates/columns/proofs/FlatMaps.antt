@@ -35,10 +35,6 @@ module _ {A B : Type 0} (f : A → List B) where
   unfolding flatMap
   flat-one x = append-nil (f x)
 
-  pub flat-none : flatMap f [] ≡ []
-  unfolding flatMap
-  flat-none = refl
-
   pub flat-map : {C : Type 0} (g : C → A) (l : List C) → flatMap f (map g l) ≡ flatMap (λ c. f (g c)) l
   unfolding flatMap
   flat-map g [] = refl

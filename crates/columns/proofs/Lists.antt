@@ -55,10 +55,6 @@ pub take-over : (m l : List ℕ) → take (length m) (over m l) ≡ m
 unfolding over
 take-over m l = lib.Seq.take-append-seam m (drop (length m) l)
 
-pub drop-over : (m l : List ℕ) → drop (length m) (over m l) ≡ drop (length m) l
-unfolding over
-drop-over m l = lib.Seq.drop-append-seam m (drop (length m) l)
-
 pub over-front : (m l : List ℕ) (i : ℕ) → i < length m → getD (over m l) i 0 ≡ getD m i 0
 unfolding over
 over-front m l i h = List·getD-append m (drop (length m) l) 0 i h
@@ -88,11 +84,6 @@ module _ (h : ℕ) (m l x : List ℕ) (fits : h ≤ length m) (e : x ≡ over (t
 pub wiped-front : (h : ℕ) (l x z : List ℕ) → h ≤ length x → z ≡ zeros (length (take h x)) → drop h x ≡ drop h l → z ++ drop h x ≡ wiped h l
 unfolding wiped over
 wiped-front h l x z w e k = rw (e, k, length-take-le h x w, length-replicate {A = ℕ} h 0)
-
--- the first h cells changed, and then cleared
-pub wiped-changed : (h : ℕ) (x z : List ℕ) → length z ≡ h → wiped h (z ++ drop h x) ≡ wiped h x
-unfolding wiped over
-wiped-changed h x z e = rw (length-replicate {A = ℕ} h 0, drop-at z (drop h x) h e)
 
 -- the front of zeros
 pub take-zeros : (h n : ℕ) → h ≤ n → take h (zeros n) ≡ zeros h

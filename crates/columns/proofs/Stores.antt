@@ -24,9 +24,6 @@ module _ (f : ℕ → Bool) (i v : ℕ → ℕ) where
   pub stores-more : (n : ℕ) (l x : List ℕ) → f n ≡ true → x ≡ stores f i v n l → set x (i n) (v n) ≡ stores f i v (n + 1) l
   stores-more n l x t e = rw (stores-suc n l, t, e)
 
-  pub stores-pass : (n : ℕ) (l x : List ℕ) → f n ≡ false → x ≡ stores f i v n l → x ≡ stores f i v (n + 1) l
-  stores-pass n l x t e = rw (stores-suc n l, t, e)
-
   pub length-stores : (n : ℕ) (l : List ℕ) → length (stores f i v n l) ≡ length l
   unfolding stores
   length-stores zero l = refl

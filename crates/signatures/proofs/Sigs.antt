@@ -33,9 +33,6 @@ sig-ext l m f g = ascending-unique pairLt pair-order (signature l) (signature m)
 pub sig-same : (l m : List Pair) → ((p : Pair) → Mem p l → Mem p m) → ((p : Pair) → Mem p m → Mem p l) → signature l ≡ signature m
 sig-same l m f g = sig-ext l m (λ p k. sig-in m p (f p (sig-out l p k))) (λ p k. sig-in l p (g p (sig-out m p k)))
 
-pub sig-again : (l : List Pair) → signature (signature l) ≡ signature l
-sig-again l = sig-same (signature l) l (λ p k. sig-out l p k) (λ p k. sig-in l p k)
-
 -- ---- it has at most as many pairs as were pushed
 pub sig-few : (l : List Pair) → length (signature l) ≤ length l
 unfolding signature

@@ -177,10 +177,6 @@ module _ (starts : List ℕ) (n : ℕ) (labels blocks : List ℕ) where
       ∙ least-on (endOf labels blocks) (badInLists starts n labels blocks) next
       (clean-lists starts labels blocks n (endOf labels blocks) (λ u h. of-ascends starts labels blocks u (l .ascending u h)))
 
-  -- once the lists are not refused, the chain goes on
-  pub lists-next : (next q : Refusal) → q ≡ listsRefusal starts n labels blocks none → q .number ≡ 0 → listsRefusal starts n labels blocks next ≡ next
-  lists-next next q e z = lists-on next (lists-of none (sym (ap (λ (r : Refusal). r .number) e) ∙ z) .0)
-
   -- ---- the two places of a refusal, as they are found
   module _ (end bad : ℕ) (ends : end ≡ endOf labels blocks) (found : bad ≡ first (n + 1) (badStart starts end)) where
     found-in : bad ≡ first (n + 1) (badStart starts (endOf labels blocks))
