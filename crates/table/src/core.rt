@@ -15,8 +15,8 @@ use columns::cells::clear;
 use columns::cells::count_up;
 use columns::sorting::sort;
 
-// How many of the first m rows have a source below s.
-pub fn first_row(source: &[u16], m: usize, s: usize) -> usize
+// Where the rows of s begin: how many of the first m rows have a source below s.
+fn first_row(source: &[u16], m: usize, s: usize) -> usize
     requires { ⌜ (m ≤ length (now source)) × Rising (now source) m ⌝ }
     ensures { λ r. ⌜ r ≡ firstRow (now (source .entry)) m s ⌝ }
 {
