@@ -88,7 +88,7 @@ pub fn split_marked(
     if e == z {
         return count;
     }
-    // The whole block is.
+    // The whole block is: its marks stay.
     let all = e == x;
     marked_split[b] = marks_then(all, m, e) as u16;
     if all {

@@ -34,6 +34,17 @@ module _ (q : tie.After-push-outer) where
   few : q .push-outer .result ≤ A .args .table .m
   few = omega (arith, own-count, few-outer (L A) (A .args .element-to-block .now) (q .before .before .before .at .result) (A .args .state))
 
+-- how many of them are left as a set
+few-own : (q : tie.After-flatten) → q .flatten .result ≤ q .before .before .before .before .before .before .before .before .before .before .before .push-outer .result
+few-own q =
+    let p = q .before .before .before .before .before .before .before .before .before .before .before .push-outer in
+    omega (
+      arith,
+      q .flatten .ensures .0,
+      sig-few (pairsOf (p .result) (p .last .1 .1 .1 .1 .1 .1 .1 .0) (p .last .1 .1 .1 .1 .1 .1 .1 .1 .0)),
+      length-pairs (p .result) (p .last .1 .1 .1 .1 .1 .1 .1 .0) (p .last .1 .1 .1 .1 .1 .1 .1 .1 .0),
+    )
+
 -- how many lists are taken
 few-open : (q : tie.After-open-lists) → q .open-lists .result ≤ q .before .before .before .before .before .before .before .before .before .before .before .before .before .before .before .before .before .before .before .before .before .before .before .before .before .before .before .before .before .before .before .before .before .before .before .before .before .before .before .args .table .m
 few-open q =
@@ -95,7 +106,7 @@ left-in-requires c κs =
     )
 
 add-t51 : tie.Need-add-t51
-add-t51 c = omega (arith, few (c .before .before .before .before .before .before .before .before .before .before .before .before .before .before .before .before .before .before .before .before .before .before .before .before .before .before .before .before .before .before .before .before .before .before .before .before .before), few-open (c .before .before .before .before .before .before .before .before .before .before .before .before .before), c .left-in .ensures .1, c .before .before .before .before .before .before .before .before .before .before .before .before .before .before .before .before .before .before .before .before .before .before .before .before .before .before .before .before .before .before .before .before .before .before .before .before .before .before .before .before .before .before .before .before .before .before .before .before .before .before .before .before .pre .0 .0 .few-rows)
+add-t51 c = omega (arith, few-own (c .before .before .before .before .before .before .before .before .before .before .before .before .before .before .before .before .before .before .before .before .before .before .before .before .before .before), few (c .before .before .before .before .before .before .before .before .before .before .before .before .before .before .before .before .before .before .before .before .before .before .before .before .before .before .before .before .before .before .before .before .before .before .before .before .before), few-open (c .before .before .before .before .before .before .before .before .before .before .before .before .before), c .left-in .ensures .1, c .before .before .before .before .before .before .before .before .before .before .before .before .before .before .before .before .before .before .before .before .before .before .before .before .before .before .before .before .before .before .before .before .before .before .before .before .before .before .before .before .before .before .before .before .before .before .before .before .before .before .before .before .pre .0 .0 .few-rows)
 
 same-length : tie.Need-same-length
 same-length c = search needs
@@ -122,10 +133,9 @@ returns c =
     let f = c .before .before .before .before .before .before .before .before .before .before .before .before .before .before .before .before .before .before .before .before .before .before .before .before .before .before .flatten in
     let b : c .before .before .before .before .before .before .before .before .before .before .before .before .before .before .before .before .before .before .before .before .before .before .before .before .before .before .before .before .before .before .before .before .before .before .before .before .before .before .before .before .at .result ≡ getD (a .args .element-to-block .now) (a .args .state) 0 = c .before .before .before .before .before .before .before .before .before .before .before .before .before .before .before .before .before .before .before .before .before .before .before .before .before .before .before .before .before .before .before .before .before .before .before .before .before .before .before .before .at .ensures .0 in
     let most = few (c .before .before .before .before .before .before .before .before .before .before .before .before .before .before .before .before .before .before .before .before .before .before .before .before .before .before .before .before .before .before .before .before .before .before .before .before .before) in
-    let short = sig-few (pairsOf (q .result) (q .last .1 .1 .1 .1 .1 .1 .1 .0) (q .last .1 .1 .1 .1 .1 .1 .1 .1 .0)) in
-    let count = length-pairs (q .result) (q .last .1 .1 .1 .1 .1 .1 .1 .0) (q .last .1 .1 .1 .1 .1 .1 .1 .1 .0) in (
+    let short = few-own (c .before .before .before .before .before .before .before .before .before .before .before .before .before .before .before .before .before .before .before .before .before .before .before .before .before .before) in (
       set-pairs _ _ _ _ (a .args .own-labels .now) (a .args .own-blocks .now) (f .ensures .0) (f .ensures .1 .0)
-          (omega (arith, most, short, count, a .pre .1 .0 .0)) (omega (arith, most, short, count, a .pre .1 .0 .1))
+          (omega (arith, most, short, f .ensures .0, a .pre .1 .0 .0)) (omega (arith, most, short, f .ensures .0, a .pre .1 .0 .1))
           ∙ ap signature (own (c .before .before .before .before .before .before .before .before .before .before .before .before .before .before .before .before .before .before .before .before .before .before .before .before .before .before .before .before .before .before .before .before .before .before .before .before .before) ∙ ap (λ (x : ℕ). outerPairs (L a) (a .args .element-to-block .now) x (a .args .state)) b),
       (
         c .before .before .before .before .before .before .before .before .before .before .before .before .before .open-lists .ensures,
