@@ -14,7 +14,7 @@ use columns::cells::at;
 use columns::cells::clear;
 use signatures::core::inert;
 use table::Table;
-use table::core::first_row;
+use table::core::rows_of;
 
 // Whether row i is hidden, leads to block b, and its target is not yet marked.
 fn fresh(
@@ -54,8 +54,9 @@ fn visit(
     ensures { λ r. ⌜ Hunt (inertTable (length (now (marks .entry))) m (now (source .entry)) (now (label .entry)) (now (target .entry)) (now («element_to_block» .entry)) b) (getD (now (queue .entry)) 0 0) (now (marks .exit)) (now (queue .exit)) (head + 1) r ⌝ }
 {
     let x = at(&*queue, head);
-    let mut i = first_row(source, m, x);
-    let end = first_row(source, m, x + 1);
+    let rows = rows_of(source, m, x);
+    let mut i = rows.first;
+    let end = rows.end;
     let mut high = tail;
     while i < end {
         if fresh(label, target, element_to_block, &*marks, b, i) {
@@ -128,8 +129,9 @@ pub fn push_outer(
     ensures { λ r. ⌜ pairsOf r (now («pushed_labels» .exit)) (now («pushed_blocks» .exit)) ≡ pairsOf d (now («pushed_labels» .entry)) (now («pushed_blocks» .entry)) ++ outerPairs (lts table (now (source .entry)) (now (label .entry)) (now (target .entry))) (now («element_to_block» .entry)) b x ⌝ }
 {
     let m = table.m as usize;
-    let mut i = first_row(source, m, x);
-    let end = first_row(source, m, x + 1);
+    let rows = rows_of(source, m, x);
+    let mut i = rows.first;
+    let end = rows.end;
     let mut k = d;
     while i < end {
         if inert(label, target, element_to_block, b, i) {

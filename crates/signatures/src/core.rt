@@ -10,7 +10,7 @@ ghost use Rattle.signatures.specs.Strong.{strongPushed};
 ghost use Rattle.table.specs.Lts.{lts, Valid};
 use columns::cells::at;
 use table::Table;
-use table::core::first_row;
+use table::core::rows_of;
 
 // (label, block of target) for each row of a state.
 pub fn push_strong(
@@ -28,8 +28,9 @@ pub fn push_strong(
     ensures { λ r. ⌜ (pairsOf r (now («pushed_labels» .exit)) (now («pushed_blocks» .exit)) ≡ strongPushed (lts table (now (source .entry)) (now (label .entry)) (now (target .entry))) (now («element_to_block» .entry)) state) × (r ≤ table .m) ⌝ }
 {
     let m = table.m as usize;
-    let mut i = first_row(source, m, state);
-    let end = first_row(source, m, state + 1);
+    let rows = rows_of(source, m, state);
+    let mut i = rows.first;
+    let end = rows.end;
     let mut d = 0;
     while i < end {
         let u = at(target, i);
@@ -96,8 +97,9 @@ pub fn push_inductive(
     let m = table.m as usize;
     let tau_hat = table.labels;
     let b = at(element_to_block, state);
-    let mut i = first_row(source, m, state);
-    let end = first_row(source, m, state + 1);
+    let rows = rows_of(source, m, state);
+    let mut i = rows.first;
+    let end = rows.end;
     let mut d = 0;
     while i < end {
         let u = at(target, i);

@@ -10,7 +10,7 @@ use columns::cells::at;
 use signatures::core::inert;
 use subset::lists::start;
 use table::Table;
-use table::core::first_row;
+use table::core::rows_of;
 
 // A place in the flat pairs, over cells j.
 fn set_place(high: &mut [u16], low: &mut [u16], j: usize, place: usize)
@@ -60,8 +60,9 @@ pub fn open_lists(
 {
     let m = table.m as usize;
     let b = at(element_to_block, state);
-    let mut i = first_row(source, m, state);
-    let end = first_row(source, m, state + 1);
+    let rows = rows_of(source, m, state);
+    let mut i = rows.first;
+    let end = rows.end;
     let mut k = 0;
     while i < end {
         if inert(label, target, element_to_block, b, i) {

@@ -44,41 +44,35 @@ cast-m c = search needs
 at-requires : tie.Need-at-requires Inv-loop μ-loop
 at-requires c κs = omega (arith, c .before .before .before .before .before .before .before .before .before .before .pre .0 .1, c .before .before .before .before .before .before .before .before .before .before .pre .0 .2)
 
-first-row-requires : tie.Need-first-row-requires Inv-loop μ-loop
-first-row-requires c κs = (valid (c .before .before .before .before .before .before .before .before .before .before .before) .long .source, rising (L (c .before .before .before .before .before .before .before .before .before .before .before)) (valid (c .before .before .before .before .before .before .before .before .before .before .before)))
-
-add-first-row : tie.Need-add-first-row Inv-loop μ-loop
-add-first-row c = omega (arith, c .before .before .before .before .before .before .before .before .before .before .before .before .pre .0 .1, valid (c .before .before .before .before .before .before .before .before .before .before .before .before) .few-states)
-
-first-row-requires-2 : tie.Need-first-row-requires-2 Inv-loop μ-loop
-first-row-requires-2 c κs = (valid (c .before .before .before .before .before .before .before .before .before .before .before .before) .long .source, rising (L (c .before .before .before .before .before .before .before .before .before .before .before .before)) (valid (c .before .before .before .before .before .before .before .before .before .before .before .before)))
+rows-of-requires : tie.Need-rows-of-requires Inv-loop μ-loop
+rows-of-requires c κs = (valid (c .before .before .before .before .before .before .before .before .before .before .before) .long .source, rising (L (c .before .before .before .before .before .before .before .before .before .before .before)) (valid (c .before .before .before .before .before .before .before .before .before .before .before)), omega (arith, c .before .before .before .before .before .before .before .before .before .before .before .pre .0 .1, valid (c .before .before .before .before .before .before .before .before .before .before .before) .few-states))
 
 -- the rows of the state
-from : (q : tie.After-first-row2 Inv-loop μ-loop) → RowsFrom (L (q .before .before .before .before .before .before .before .before .before .before .before .before .before)) (q .before .before .before .before .before .before .before .before .before .before .before .before .before .args .state) (q .before .first-row .result) (q .first-row2 .result)
-from q = rows-from (L (q .before .before .before .before .before .before .before .before .before .before .before .before .before)) (valid (q .before .before .before .before .before .before .before .before .before .before .before .before .before)) (q .before .before .before .before .before .before .before .before .before .before .before .before .before .args .state) _ _ (q .before .first-row .ensures) (q .first-row2 .ensures)
+from : (q : tie.After-rows-of Inv-loop μ-loop) → RowsFrom (L (q .before .before .before .before .before .before .before .before .before .before .before .before)) (q .before .before .before .before .before .before .before .before .before .before .before .before .args .state) (q .rows-of .result .first) (q .rows-of .result .end)
+from q = rows-from (L (q .before .before .before .before .before .before .before .before .before .before .before .before)) (valid (q .before .before .before .before .before .before .before .before .before .before .before .before)) (q .before .before .before .before .before .before .before .before .before .before .before .before .args .state) _ _ (q .rows-of .ensures .0) (q .rows-of .ensures .1)
 
 loop-holds : tie.Need-loop-holds Inv-loop μ-loop
 loop-holds c = opening-start _ _ _ _ _ _ _ _ _ (from c .up) (λ r l. and-no-left _ _ (from c .before r l))
 
-below : (q : tie.In-loop Inv-loop μ-loop) → q .before .loop .i < q .before .before .before .before .before .before .before .before .before .before .before .before .before .before .before .args .table .m
+below : (q : tie.In-loop Inv-loop μ-loop) → q .before .loop .i < q .before .before .before .before .before .before .before .before .before .before .before .before .before .before .args .table .m
 below q = omega (arith, from (q .before .before) .most, q .loop-test)
 
 -- head k is there
-few : (q : tie.In-loop Inv-loop μ-loop) → q .before .loop .k < q .before .before .before .before .before .before .before .before .before .before .before .before .before .before .before .args .table .m
-few q = omega (arith, below q, q .before .loop .inv .count, many-le (q .before .loop .i) (F (q .before .before .before .before .before .before .before .before .before .before .before .before .before .before .before)))
+few : (q : tie.In-loop Inv-loop μ-loop) → q .before .loop .k < q .before .before .before .before .before .before .before .before .before .before .before .before .before .before .args .table .m
+few q = omega (arith, below q, q .before .loop .inv .count, many-le (q .before .loop .i) (F (q .before .before .before .before .before .before .before .before .before .before .before .before .before .before)))
 
 inert-requires : tie.Need-inert-requires Inv-loop μ-loop
 inert-requires c κs =
-    let v = valid (c .before .before .before .before .before .before .before .before .before .before .before .before .before .before .before) in
+    let v = valid (c .before .before .before .before .before .before .before .before .before .before .before .before .before .before) in
     let l = below c in
-    (omega (arith, l, v .long .label), omega (arith, l, v .long .target), omega (arith, v .fields (c .before .loop .i) l .target, c .before .before .before .before .before .before .before .before .before .before .before .before .before .before .before .pre .0 .2))
+    (omega (arith, l, v .long .label), omega (arith, l, v .long .target), omega (arith, v .fields (c .before .loop .i) l .target, c .before .before .before .before .before .before .before .before .before .before .before .before .before .before .pre .0 .2))
 
 at-requires-2 : tie.Need-at-requires-2 Inv-loop μ-loop
-at-requires-2 c κs = omega (arith, below (c .before .before), valid (c .before .before .before .before .before .before .before .before .before .before .before .before .before .before .before .before .before) .long .target)
+at-requires-2 c κs = omega (arith, below (c .before .before), valid (c .before .before .before .before .before .before .before .before .before .before .before .before .before .before .before .before) .long .target)
 
 open-requires : tie.Need-open-requires Inv-loop μ-loop
 open-requires c κs =
-    let a = c .before .before .before .before .before .before .before .before .before .before .before .before .before .before .before .before .before .before .before .before .before .before in
+    let a = c .before .before .before .before .before .before .before .before .before .before .before .before .before .before .before .before .before .before .before .before .before in
     let p = c .before .before .before .before .before .before .before .before .loop .inv in
     let l = few (c .before .before .before .before .before .before .before) in
     let u = valid a .fields (c .before .before .before .before .before .before .before .before .loop .i) (below (c .before .before .before .before .before .before .before)) .target in (
@@ -92,21 +86,21 @@ open-requires c κs =
     )
 
 add-k : tie.Need-add-k Inv-loop μ-loop
-add-k c = omega (arith, few (c .before .before .before .before .before .before .before .before .before .before .before .before .before .before .before .before), valid (c .before .before .before .before .before .before .before .before .before .before .before .before .before .before .before .before .before .before .before .before .before .before .before .before .before .before .before .before .before .before .before) .few-rows)
+add-k c = omega (arith, few (c .before .before .before .before .before .before .before .before .before .before .before .before .before .before .before .before), valid (c .before .before .before .before .before .before .before .before .before .before .before .before .before .before .before .before .before .before .before .before .before .before .before .before .before .before .before .before .before .before) .few-rows)
 
 add-i : tie.Need-add-i Inv-loop μ-loop
-add-i c = omega (arith, below (c .before .before .before .before .before .before .before .before .before .before .before .before .before .before .before .before), valid (c .before .before .before .before .before .before .before .before .before .before .before .before .before .before .before .before .before .before .before .before .before .before .before .before .before .before .before .before .before .before .before) .few-rows)
+add-i c = omega (arith, below (c .before .before .before .before .before .before .before .before .before .before .before .before .before .before .before .before), valid (c .before .before .before .before .before .before .before .before .before .before .before .before .before .before .before .before .before .before .before .before .before .before .before .before .before .before .before .before .before .before) .few-rows)
 
 loop-less : tie.Need-loop-less Inv-loop μ-loop
 loop-less c = omega (arith, c .before .before .before .before .before .before .before .before .before .before .before .before .before .before .before .before .loop-test)
 
 -- what was tested of row i
-tested : (q : tie.After-inert Inv-loop μ-loop) → q .inert .result ≡ inertb (q .before .before .before .before .before .before .before .before .before .before .before .before .before .before .before .before .args .label .now) (q .before .before .before .before .before .before .before .before .before .before .before .before .before .before .before .before .args .target .now) (q .before .before .before .before .before .before .before .before .before .before .before .before .before .before .before .before .args .element-to-block .now) (getD (q .before .before .before .before .before .before .before .before .before .before .before .before .before .before .before .before .args .element-to-block .now) (q .before .before .before .before .before .before .before .before .before .before .before .before .before .before .before .before .args .state) 0) (q .before .before .loop .i)
+tested : (q : tie.After-inert Inv-loop μ-loop) → q .inert .result ≡ inertb (q .before .before .before .before .before .before .before .before .before .before .before .before .before .before .before .args .label .now) (q .before .before .before .before .before .before .before .before .before .before .before .before .before .before .before .args .target .now) (q .before .before .before .before .before .before .before .before .before .before .before .before .before .before .before .args .element-to-block .now) (getD (q .before .before .before .before .before .before .before .before .before .before .before .before .before .before .before .args .element-to-block .now) (q .before .before .before .before .before .before .before .before .before .before .before .before .before .before .before .args .state) 0) (q .before .before .loop .i)
 tested q =
-    let a = q .before .before .before .before .before .before .before .before .before .before .before .before .before .before .before .before .args in
-    q .inert .ensures ∙ ap (λ (b : ℕ). inertb (a .label .now) (a .target .now) (a .element-to-block .now) b (q .before .before .loop .i)) (q .before .before .before .before .before .at .ensures .0)
+    let a = q .before .before .before .before .before .before .before .before .before .before .before .before .before .before .before .args in
+    q .inert .ensures ∙ ap (λ (b : ℕ). inertb (a .label .now) (a .target .now) (a .element-to-block .now) b (q .before .before .loop .i)) (q .before .before .before .before .at .ensures .0)
 
-passes : (q : tie.Then1 Inv-loop μ-loop) → F (q .before .before .before .before .before .before .before .before .before .before .before .before .before .before .before .before .before) (q .before .before .before .loop .i) ≡ true
+passes : (q : tie.Then1 Inv-loop μ-loop) → F (q .before .before .before .before .before .before .before .before .before .before .before .before .before .before .before .before) (q .before .before .before .loop .i) ≡ true
 passes q = and-both (from (q .before .before .before .before) .own (q .before .before .before .loop .i) (q .before .before .before .loop .inv .from) (omega (arith, q .before .before .loop-test))) (sym (tested (q .before)) ∙ q .if1 .taken)
 
 loop-again : tie.Need-loop-again Inv-loop μ-loop
@@ -115,11 +109,11 @@ loop-again c =
     let o = c .before .before .before .before .before .before .before .before .«open» in
     let e = c .before .before .before .before .before .before .before .before .before .before .before .before .before .at2 .ensures .0 in
     opening-more _ _ _ _ _ _ _ _ _ _ _ _ _ _ _ (l .inv) (omega (arith, c .before .before .before .before .before .before .before .before .before .before .before .before .before .before .before .before .loop-test)) _ _ _ _ (passes (c .before .before .before .before .before .before .before .before .before .before .before .before .before .before))
-    (o .ensures .0 .0 ∙ ap (startAt (c .before .before .before .before .before .before .before .before .before .before .before .before .before .before .before .before .before .before .before .before .before .before .before .before .before .before .before .before .before .before .before .args .starts .now)) e, o .ensures .0 .1 ∙ ap (λ (u : ℕ). startAt (c .before .before .before .before .before .before .before .before .before .before .before .before .before .before .before .before .before .before .before .before .before .before .before .before .before .before .before .before .before .before .before .args .starts .now) (u + 1)) e)
+    (o .ensures .0 .0 ∙ ap (startAt (c .before .before .before .before .before .before .before .before .before .before .before .before .before .before .before .before .before .before .before .before .before .before .before .before .before .before .before .before .before .before .args .starts .now)) e, o .ensures .0 .1 ∙ ap (λ (u : ℕ). startAt (c .before .before .before .before .before .before .before .before .before .before .before .before .before .before .before .before .before .before .before .before .before .before .before .before .before .before .before .before .before .before .args .starts .now) (u + 1)) e)
     (o .ensures .1) (o .kept .1 .1 .0) (o .kept .1 .1 .1 .0) (o .kept .1 .1 .1 .1 .0) (o .kept .1 .1 .1 .1 .1 .0)
 
 add-i-2 : tie.Need-add-i-2 Inv-loop μ-loop
-add-i-2 c = omega (arith, below (c .before .before), valid (c .before .before .before .before .before .before .before .before .before .before .before .before .before .before .before .before .before) .few-rows)
+add-i-2 c = omega (arith, below (c .before .before), valid (c .before .before .before .before .before .before .before .before .before .before .before .before .before .before .before .before) .few-rows)
 
 loop-less-2 : tie.Need-loop-less-2 Inv-loop μ-loop
 loop-less-2 c = omega (arith, c .before .before .loop-test)
@@ -127,7 +121,7 @@ loop-less-2 c = omega (arith, c .before .before .loop-test)
 loop-again-2 : tie.Need-loop-again-2 Inv-loop μ-loop
 loop-again-2 c =
     opening-pass _ _ _ _ _ _ _ _ _ _ _ _ _ _ _ (c .before .before .before .loop .inv) (omega (arith, c .before .before .loop-test))
-    (and-no-right (eqb (getD (c .before .before .before .before .before .before .before .before .before .before .before .before .before .before .before .before .before .args .source .now) (c .before .before .before .loop .i) 0) (c .before .before .before .before .before .before .before .before .before .before .before .before .before .before .before .before .before .args .state)) _ (sym (tested (c .before)) ∙ c .if1 .left))
+    (and-no-right (eqb (getD (c .before .before .before .before .before .before .before .before .before .before .before .before .before .before .before .before .args .source .now) (c .before .before .before .loop .i) 0) (c .before .before .before .before .before .before .before .before .before .before .before .before .before .before .before .before .args .state)) _ (sym (tested (c .before)) ∙ c .if1 .left))
 
 same-length : tie.Need-same-length Inv-loop μ-loop
 same-length c = c .before .loop .inv .same-high
@@ -145,7 +139,7 @@ returns : tie.Need-returns Inv-loop μ-loop
 unfolding innerTargets innerRow
 returns c =
     let f = from (c .before .before) in
-    opening-done _ _ _ _ _ _ _ _ _ _ _ _ _ _ _ (c .before .loop .inv) (c .before .before .before .before .before .before .before .before .before .before .before .before .before .before .before .args .table .m) (omega (arith, c .loop-test)) (f .most)
+    opening-done _ _ _ _ _ _ _ _ _ _ _ _ _ _ _ (c .before .loop .inv) (c .before .before .before .before .before .before .before .before .before .before .before .before .before .before .args .table .m) (omega (arith, c .loop-test)) (f .most)
     (λ r u v. and-no-left _ _ (f .after r u v))
 
 pub open-lists-spec : {M : Type 1} → statement M
@@ -156,9 +150,7 @@ open-lists-spec =
     μ-loop
     cast-m
     at-requires
-    first-row-requires
-    add-first-row
-    first-row-requires-2
+    rows-of-requires
     loop-holds
     inert-requires
     at-requires-2
