@@ -330,9 +330,9 @@ module _ (p : Partition) (b : ℕ) (v : List ℕ) (y : Ready p b v) (x z : ℕ) 
   unfolding lenAt lengthIn
   read-length = omega (arith, ex, ez)
 
-  pub core-one : z - x ≡ 1 → parts (p .elements) (p .element-offset) (p .element-to-block) (p .begin) (set (p .marked-split) b z) (p .end) (p .n) (p .count) ≡ partitionMarked p b v
+  pub core-one : z - x ≡ 1 → (s : List ℕ) → s ≡ set (p .marked-split) b z → parts (p .elements) (p .element-offset) (p .element-to-block) (p .begin) s (p .end) (p .n) (p .count) ≡ partitionMarked p b v
   unfolding unmarked
-  core-one e = ap (λ (w : ℕ). parts (p .elements) (p .element-offset) (p .element-to-block) (p .begin) (set (p .marked-split) b w) (p .end) (p .n) (p .count)) ez ∙ sym (by-one p b v y (sym read-length ∙ e))
+  core-one e s es = ap (λ (w : List ℕ). parts (p .elements) (p .element-offset) (p .element-to-block) (p .begin) w (p .end) (p .n) (p .count)) (es ∙ ap (λ (w : ℕ). set (p .marked-split) b w) ez) ∙ sym (by-one p b v y (sym read-length ∙ e))
 
   module _ (m : z - x ≡ 1 → ⊥) where
     many-states : lenAt p b ≡ 1 → ⊥

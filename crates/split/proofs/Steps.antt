@@ -1,10 +1,13 @@
 -- What `split` does, said of the numbers and columns that the code has read and left.
 use Prim.Native.Nat.{ℕ, _+_, _-_, _≤_, _<_}
 use native.Mathlib.Omega.{arith}
-use mathlib.Core.Bool.{true, false}
+use borrow.Author.Tests.{eqb-true, eqb-false}
+use mathlib.Core.Bool.{Bool, true, false, cond}
 use mathlib.Core.Path.{_≡_, ap, sym, _∙_}
 use mathlib.Core.List.{List}
+use lib.Dec.{eqb}
 use lib.ListN.{length, getD, set}
+use lib.Seq.{set-getD}
 use Rattle.partition.specs.Partition.{Partition, parts, Sound}
 use Rattle.partition.specs.SwapBlocks.{renumbered}
 use Rattle.split.specs.Split.{Sifted, sifting, sifted, siftedIn, reordered, cut, partsb, splitsb, split}
@@ -42,12 +45,19 @@ module _ (p : Partition) (g : Sound p) (b : ℕ) (w : b < p .count) (c : List �
     pub nothing-chosen : e ≡ z → parts l o (p .element-to-block) (p .begin) (p .marked-split) (p .end) (p .n) (p .count) ≡ split p b c
     nothing-chosen q = unsplit (parts-nothing p b e (q ∙ ez))
 
-    pub all-chosen : e ≡ x → parts l o (p .element-to-block) (p .begin) (p .marked-split) (p .end) (p .n) (p .count) ≡ split p b c
-    all-chosen q = unsplit (parts-all p b e (q ∙ ex))
+    pub place-small : e < 65536
+    place-small = omega (arith, place, sieved p b c g w .high, g .consistent .bounds b w .most, g .small)
 
-    module _ (nz : e ≡ z → ⊥) (nx : e ≡ x → ⊥) where
+    -- the marks of a block that is chosen whole are written where they were
+    pub all-chosen : (k : ℕ) → k ≡ cond (eqb e x) m e → eqb e x ≡ true → parts l o (p .element-to-block) (p .begin) (set (p .marked-split) b k) (p .end) (p .n) (p .count) ≡ split p b c
+    all-chosen k ek t =
+        ap (λ (y : List ℕ). parts l o (p .element-to-block) (p .begin) y (p .end) (p .n) (p .count))
+        (ap (set (p .marked-split) b) (ek ∙ ap (λ (y : Bool). cond y m e) t ∙ em) ∙ set-getD (p .marked-split) b 0)
+        ∙ unsplit (parts-all p b e (eqb-true e x t ∙ ex))
+
+    module _ (nz : e ≡ z → ⊥) (nx : eqb e x ≡ false) where
       made : splitsb p b c ≡ true
-      made = sym made-at ∙ parts-both p b e (λ q. nz (q ∙ sym ez)) (λ q. nx (q ∙ sym ex))
+      made = sym made-at ∙ parts-both p b e (λ q. nz (q ∙ sym ez)) (λ q. eqb-false e x nx (q ∙ sym ex))
 
       -- the cut is inside the block, and there is room for one block more
       pub record Ready : Type 0 where
@@ -75,10 +85,10 @@ module _ (p : Partition) (g : Sound p) (b : ℕ) (w : b < p .count) (c : List �
           }
 
       pub split-done :
-          (bl bg sp en : List ℕ) → bg ≡ set (p .begin) (p .count) e → sp ≡ set (set (p .marked-split) b e) (p .count) z
-          → en ≡ set (set (p .end) b e) (p .count) z → bl ≡ renumbered l e z (p .count) (p .element-to-block)
-          → parts l o bl bg sp en (p .n) (p .count + 1) ≡ split p b c
+          (k : ℕ) (bl bg sp en : List ℕ) → k ≡ cond (eqb e x) m e → bg ≡ set (p .begin) (p .count) e
+          → sp ≡ set (set (p .marked-split) b k) (p .count) z → en ≡ set (set (p .end) b e) (p .count) z
+          → bl ≡ renumbered l e z (p .count) (p .element-to-block) → parts l o bl bg sp en (p .n) (p .count + 1) ≡ split p b c
       unfolding reordered cut
-      split-done bl bg sp en qg qs qe ql =
-          rw (qg, qs, qe, ql, ez)
+      split-done k bl bg sp en ek qg qs qe ql =
+          rw (qg, qs, ek, nx, qe, ql, ez)
           (ap (λ (f : Sifted). cut (reordered p (f .elements) (f .element-offset)) b (f .first)) same ∙ sym (split-made p b c made))

@@ -1,5 +1,6 @@
 // The work of `split_marked`, on columns that are checked already. This is no entry point: it asks that the columns are sound.
 ghost use mathlib.Core.Path.{_≡_};
+ghost use mathlib.Core.Bool.{cond};
 ghost use Prim.Native.Nat.{ℕ, _-_, _≤_, _<_};
 ghost use lib.ListN.{length, getD, set};
 ghost use Rattle.partition.specs.Partition.{parts, Sound};
@@ -34,7 +35,15 @@ fn sift(
     e
 }
 
-// Block b ends at e, where it ended at z; block `count` is from e to z. Both are unmarked.
+// Where the marks of a block begin then: where they began, at m, if all of it is chosen, and otherwise at its new end e.
+fn marks_then(all: bool, m: usize, e: usize) -> usize
+    requires { ⌜ (m < 65536) × (e < 65536) ⌝ }
+    ensures { λ r. ⌜ (r ≡ cond all m e) × (r < 65536) ⌝ }
+{
+    if all { m } else { e }
+}
+
+// Block b ends at e, where it ended at z; block `count` is from e to z, and unmarked.
 fn cut(
     begin: &mut [u16],
     marked_split: &mut [u16],
@@ -44,11 +53,10 @@ fn cut(
     e: usize,
     z: usize,
 )
-    requires { ⌜ (b < length (now «marked_split»)) × (b < length (now end)) × (e < 65536) × (z < 65536) ⌝ }
+    requires { ⌜ (b < length (now end)) × (e < 65536) × (z < 65536) ⌝ }
     requires { ⌜ (count < length (now begin)) × (count < length (now «marked_split»)) × (count < length (now end)) ⌝ }
-    ensures { λ _. ⌜ (now (begin .exit) ≡ set (now (begin .entry)) count e) × (now («marked_split» .exit) ≡ set (set (now («marked_split» .entry)) b e) count z) × (now (end .exit) ≡ set (set (now (end .entry)) b e) count z) ⌝ }
+    ensures { λ _. ⌜ (now (begin .exit) ≡ set (now (begin .entry)) count e) × (now («marked_split» .exit) ≡ set (now («marked_split» .entry)) count z) × (now (end .exit) ≡ set (set (now (end .entry)) b e) count z) ⌝ }
 {
-    marked_split[b] = e as u16;
     end[b] = e as u16;
     begin[count] = e as u16;
     marked_split[count] = z as u16;
@@ -80,8 +88,10 @@ pub fn split_marked(
     if e == z {
         return count;
     }
-    // The whole block is.
-    if e == x {
+    // The whole block is: its marks stay.
+    let all = e == x;
+    marked_split[b] = marks_then(all, m, e) as u16;
+    if all {
         return count;
     }
     cut(&mut *begin, &mut *marked_split, &mut *end, b, count, e, z);

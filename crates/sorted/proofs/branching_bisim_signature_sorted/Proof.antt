@@ -245,9 +245,10 @@ unfolding branchingBisimSignatureSorted
 returns-2 c =
     let a = c .before .before .before .before .before .before .before .before .before .before .before .before .before .before .before .before .before .before .before .before .before .before .before .before .before .before .before .before .before .before .before .before .before .before .before .before .before .before .before .before .before .before .before .before .before .before .before .before .before .before .before .before .before .before .before .before .before .before .before .before .before .before .before .before .before .before .before .before .before .before .before .before .before in
     let q = c .before .before .before .before .before .before .before .before .before .before .before .before .before .before .before .before .before .before .before .before .before .before .before .before .before .before .before .before .before .before .before .before .before .before .before .before .before .before .before .before in
+    let w : List (List ℕ) = q .take .last .1 .1 .1 .1 .1 .1 .1 .0 ∷ q .take .last .1 .1 .1 .1 .1 .1 .1 .1 .0 ∷ q .take .last .1 .1 .1 .1 .1 .1 .1 .1 .1 .0 ∷ q .take .last .1 .1 .1 .1 .1 .1 .1 .1 .1 .1 .0 ∷ q .take .last .1 .1 .1 .1 .1 .1 .1 .1 .1 .1 .1 .0 ∷ q .take .last .1 .1 .1 .1 .1 .1 .1 .1 .1 .1 .1 .1 .0 ∷ a .args .tree .now ∷ [] in
     c .before .before .before .before .before .before .before .before .before .before .before .before .before .before .before .before .before .before .finish .ensures
-    ∙ signing-on (R a) (Pushed a) (Out a) (Works a) (q .take .result .pushed) _ _ (no-refusal q) (pushed-count q) (set-of q)
-    (level (q .take .last .1 .1 .1 .1 .1 .1 .1 .0 ∷ q .take .last .1 .1 .1 .1 .1 .1 .1 .1 .0 ∷ q .take .last .1 .1 .1 .1 .1 .1 .1 .1 .1 .0 ∷ q .take .last .1 .1 .1 .1 .1 .1 .1 .1 .1 .1 .0 ∷ q .take .last .1 .1 .1 .1 .1 .1 .1 .1 .1 .1 .1 .0 ∷ q .take .last .1 .1 .1 .1 .1 .1 .1 .1 .1 .1 .1 .1 .0 ∷ a .args .tree .now ∷ []) (Works a)
+    ∙ signing-on (R a) (Pushed a) (Out a) (Works a) (q .take .result .pushed) _ w (no-refusal q) (pushed-count q) (set-of q)
+    (level w (Works a)
     (q .take .kept .1 .1 .1 .1 .1 .1 .1 .0, (q .take .kept .1 .1 .1 .1 .1 .1 .1 .1 .0, (q .take .kept .1 .1 .1 .1 .1 .1 .1 .1 .1 .0, (q .take .kept .1 .1 .1 .1 .1 .1 .1 .1 .1 .1 .0, (q .take .kept .1 .1 .1 .1 .1 .1 .1 .1 .1 .1 .1 .0, (q .take .kept .1 .1 .1 .1 .1 .1 .1 .1 .1 .1 .1 .1 .0, (refl, tt))))))))
 
 pub branching-bisim-signature-sorted-spec : {M : Type 1} → statement M

@@ -27,7 +27,7 @@ sub-swap-elements c = search needs
 
 swap-elements-requires : tie.Need-swap-elements-requires
 swap-elements-requires c κs = let a = c .before .before .before .before .before .before .before .before .before .before .before .before .before .before in
-    let q = placed (P a) _ _ _ _ (c .before .before .before .before .before .before .before .at .ensures .0) (c .before .before .before .before .before .at2 .ensures .0) (c .before .before .before .at3 .ensures .0) (a .pre .0) (a .pre .1) (c .before .before .if1 .taken) in
+    let q = placed (P a) _ _ _ _ (c .before .before .before .before .before .before .before .at .ensures .0) (c .before .before .before .before .before .at2 .ensures .0) (c .before .before .before .at3 .ensures .0) (a .pre .0) (a .pre .1) (omega (arith, c .before .before .if1 .taken)) in
     omega arith
 
 sub-marked-split : tie.Need-sub-marked-split
@@ -41,7 +41,7 @@ mul-marked-split c = search needs
 
 slice-write-marked-split : tie.Need-slice-write-marked-split
 slice-write-marked-split c = let a = c .before .before .before .before .before .before .before .before .before .before .before .before .before .before .before .before .before .before .before in
-    placed (P a) _ _ _ _ (c .before .before .before .before .before .before .before .before .before .before .before .before .at .ensures .0) (c .before .before .before .before .before .before .before .before .before .before .at2 .ensures .0) (c .before .before .before .before .before .before .before .before .at3 .ensures .0) (a .pre .0) (a .pre .1) (c .before .before .before .before .before .before .before .if1 .taken) .in-split
+    placed (P a) _ _ _ _ (c .before .before .before .before .before .before .before .before .before .before .before .before .at .ensures .0) (c .before .before .before .before .before .before .before .before .before .before .at2 .ensures .0) (c .before .before .before .before .before .before .before .before .at3 .ensures .0) (a .pre .0) (a .pre .1) (omega (arith, c .before .before .before .before .before .before .before .if1 .taken)) .in-split
 
 same-length : tie.Need-same-length
 same-length c = search needs
@@ -53,7 +53,7 @@ same-length-3 : tie.Need-same-length-3
 same-length-3 c = search needs
 
 returns : tie.Need-returns
-returns c = mark-moves (P (c .before .before .before .before .before .before .before .before .before .before .before .before .before .before .before .before .before .before .before)) _ _ _ _ (c .before .before .before .before .before .before .before .before .before .before .before .before .at .ensures .0) (c .before .before .before .before .before .before .before .before .before .before .at2 .ensures .0) (c .before .before .before .before .before .before .before .before .at3 .ensures .0) _ _ (c .before .before .before .before .before .before .before .if1 .taken) (c .before .before .before .before .swap-elements .ensures .0) (c .before .before .before .before .swap-elements .ensures .1)
+returns c = mark-moves (P (c .before .before .before .before .before .before .before .before .before .before .before .before .before .before .before .before .before .before .before)) _ _ _ _ (c .before .before .before .before .before .before .before .before .before .before .before .before .at .ensures .0) (c .before .before .before .before .before .before .before .before .before .before .at2 .ensures .0) (c .before .before .before .before .before .before .before .before .at3 .ensures .0) _ _ (omega (arith, c .before .before .before .before .before .before .before .if1 .taken)) (c .before .before .before .before .swap-elements .ensures .0) (c .before .before .before .before .swap-elements .ensures .1)
 
 same-length-4 : tie.Need-same-length-4
 same-length-4 c = search needs

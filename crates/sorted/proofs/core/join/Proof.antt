@@ -12,14 +12,14 @@ D a =
     heads (a .args .given-labels .now) (a .args .given-blocks .now) (a .args .high .now) (a .args .low .now) (a .args .end-high .now)
     (a .args .end-low .now)
 
-merge-front-requires : tie.Need-merge-front-requires
-merge-front-requires c κs =
-    let p = c .before .before .before .before .before .before .before .before .before .before .before .before .before .before .before .before .before .before .pre in ((p .0 .0, p .0 .1), (p .1 .0 .0, (omega (arith, p .1 .1 .0), omega (arith, p .1 .1 .1))))
+merge-requires : tie.Need-merge-requires
+merge-requires c κs =
+    let p = c .before .before .before .before .before .before .before .before .before .before .before .before .before .before .before .before .pre in ((p .0 .0, p .0 .1), (p .1 .0 .0, (omega (arith, p .1 .1 .0), omega (arith, p .1 .1 .1))))
 
 unite-requires : tie.Need-unite-requires
 unite-requires c κs =
-    let a = c .before .before .before .before .before .before .before .before .before .before .before .before .before .before .before .before .before .before .before .before .before .before .before .before .before .before .before .before .before .before .before .before .before .before .before .before .before in
-    let e = c .before .before .before .before .before .before .before .before .before .before .before .before .before .before .before .before .before .before .merge-front .ensures .0 in
+    let a = c .before .before .before .before .before .before .before .before .before .before .before .before .before .before .before .before .before .before .before .before .before .before .before .before .before .before .before .before .before .before .before in
+    let e = c .before .before .before .before .before .before .before .before .before .before .before .before .before .before .merge .ensures in
     let p = a .pre in (
       (
         room-a (D a) (a .args .lists) (a .args .own) _ _ _ (a .args .labels .now) (a .args .blocks .now) (e .0) (e .1) (e .2) (p .1 .1 .0) (p .1 .1 .1),
@@ -55,16 +55,10 @@ same-length-6 c = search needs
 same-length-7 : tie.Need-same-length-7
 same-length-7 c = search needs
 
-same-length-8 : tie.Need-same-length-8
-same-length-8 c = search needs
-
-same-length-9 : tie.Need-same-length-9
-same-length-9 c = search needs
-
 returns : tie.Need-returns
 returns c =
-    let a = c .before .before .before .before .before .before .before .before .before .before .before .before .before .before .before .before .before .before .before .before .before .before .before .before .before .before .before .before .before .before .before .before .before .before .before .before .before .before .before .before .before .before .before .before .before .before in
-    let e = c .before .before .before .before .before .before .before .before .before .before .before .before .before .before .before .before .before .before .before .before .before .before .before .before .before .before .before .merge-front .ensures .0 in
+    let a = c .before .before .before .before .before .before .before .before .before .before .before .before .before .before .before .before .before .before .before .before .before .before .before .before .before .before .before .before .before .before .before .before .before .before .before .before .before .before .before .before in
+    let e = c .before .before .before .before .before .before .before .before .before .before .before .before .before .before .before .before .before .before .before .before .before .before .before .merge .ensures in
     let u = c .before .before .before .before .before .before .before .before .unite .ensures in
     let p = a .pre in (
       joined-count (D a) (a .args .lists) (a .args .own) _ _ _ (a .args .labels .now) (a .args .blocks .now) (e .0) (e .1) (e .2) (p .1 .1 .0)
@@ -77,7 +71,7 @@ pub join-spec : {M : Type 1} → statement M
 join-spec =
     tie.close
     (tie.spec
-    merge-front-requires
+    merge-requires
     unite-requires
     same-length
     same-length-2
@@ -86,6 +80,4 @@ join-spec =
     same-length-5
     same-length-6
     same-length-7
-    same-length-8
-    same-length-9
     returns)

@@ -6,7 +6,9 @@ use mathlib.Core.Path.{_≡_, ap, ap₂, _∙_}
 use lib.ListN.{length, getD}
 use Rattle.columns.specs.Rows.{pairsOf}
 use Rattle.branching.specs.Visiting.{outerPairs}
+use Rattle.columns.proofs.TwoColumns.{length-pairs}
 use Rattle.signatures.specs.Pairs.{signature}
+use Rattle.signatures.proofs.Sigs.{sig-few}
 use Rattle.sorted.proofs.Openings.{few-lists}
 use Rattle.sorted.proofs.Pushed.{few-outer, pushed-pairs, pushed-count, set-pairs}
 use Rattle.sorted.proofs.core.take.Statement.{statement}
@@ -30,6 +32,17 @@ module _ (q : tie.After-push-outer) where
 
   few : q .push-outer .result ≤ A .args .table .m
   few = omega (arith, own-count, few-outer (L A) (A .args .element-to-block .now) (q .before .before .before .at .result) (A .args .state))
+
+-- how many of them are left as a set
+few-own : (q : tie.After-flatten) → q .flatten .result ≤ q .before .before .before .before .before .before .before .before .before .before .before .push-outer .result
+few-own q =
+    let p = q .before .before .before .before .before .before .before .before .before .before .before .push-outer in
+    omega (
+      arith,
+      q .flatten .ensures .0,
+      sig-few (pairsOf (p .result) (p .last .1 .1 .1 .1 .1 .1 .1 .0) (p .last .1 .1 .1 .1 .1 .1 .1 .1 .0)),
+      length-pairs (p .result) (p .last .1 .1 .1 .1 .1 .1 .1 .0) (p .last .1 .1 .1 .1 .1 .1 .1 .1 .0),
+    )
 
 -- how many lists are taken
 few-open : (q : tie.After-open-lists) → q .open-lists .result ≤ q .before .before .before .before .before .before .before .before .before .before .before .before .before .before .before .before .before .before .before .before .before .before .before .before .before .before .before .before .before .before .before .before .before .before .before .before .before .before .before .args .table .m
@@ -92,7 +105,7 @@ left-in-requires c κs =
     )
 
 add-t51 : tie.Need-add-t51
-add-t51 c = omega (arith, few (c .before .before .before .before .before .before .before .before .before .before .before .before .before .before .before .before .before .before .before .before .before .before .before .before .before .before .before .before .before .before .before .before .before .before .before .before .before), few-open (c .before .before .before .before .before .before .before .before .before .before .before .before .before), c .left-in .ensures .1, c .before .before .before .before .before .before .before .before .before .before .before .before .before .before .before .before .before .before .before .before .before .before .before .before .before .before .before .before .before .before .before .before .before .before .before .before .before .before .before .before .before .before .before .before .before .before .before .before .before .before .before .before .pre .0 .0 .few-rows)
+add-t51 c = omega (arith, few-own (c .before .before .before .before .before .before .before .before .before .before .before .before .before .before .before .before .before .before .before .before .before .before .before .before .before .before), few (c .before .before .before .before .before .before .before .before .before .before .before .before .before .before .before .before .before .before .before .before .before .before .before .before .before .before .before .before .before .before .before .before .before .before .before .before .before), few-open (c .before .before .before .before .before .before .before .before .before .before .before .before .before), c .left-in .ensures .1, c .before .before .before .before .before .before .before .before .before .before .before .before .before .before .before .before .before .before .before .before .before .before .before .before .before .before .before .before .before .before .before .before .before .before .before .before .before .before .before .before .before .before .before .before .before .before .before .before .before .before .before .before .pre .0 .0 .few-rows)
 
 same-length : tie.Need-same-length
 same-length c = search needs
