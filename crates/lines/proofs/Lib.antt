@@ -1,1 +1,4 @@
 pub mod Putting
+pub mod Examples
+pub mod Spelled
+pub mod Telling

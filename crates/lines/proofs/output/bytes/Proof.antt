@@ -1,15 +1,20 @@
--- `output::bytes` is safe and ends: what is left of the bytes falls.
+-- `output::bytes` meets its contract. The loop's invariant: the bytes passed are put.
 use borrow.Author.Needs.{needs}
 use Prim.Native.Nat.{_≤_, _-_}
-use lib.ListN.{length}
+use mathlib.Core.List.{[], _∷_}
+use mathlib.Core.Path.{_≡_, ap}
+use lib.ListN.{length, take}
+use Rattle.lines.specs.Text.{puts}
+use Rattle.lines.specs.Spelling.{spelled, listed, columnText}
+use Rattle.lines.proofs.Putting.{puts-as, puts-then, listed-none, listed-turn, listed-stop, listed-end}
 use Rattle.lines.proofs.output.bytes.Statement.{statement}
 use Rattle.lines.proofs.output.bytes.Tie as tie
 
 abbrev Inv-loop : tie.InvT-loop
-Inv-loop out₀ used text count at₀ i₀ out at i = i ≤ 70000
+Inv-loop out₀ used text count at₀ i₀ out at i = (i ≤ length text) × (i ≤ count) × ((at, out) ≡ puts (listed (take i text)) (at₀, out₀))
 
 abbrev μ-loop : tie.MeasureT-loop
-μ-loop out₀ used text count at₀ i₀ out at i = 70000 - i
+μ-loop out₀ used text count at₀ i₀ out at i = length text - i
 
 slice-aggregate-word : tie.Need-slice-aggregate-word Inv-loop μ-loop
 slice-aggregate-word c = search needs
@@ -18,13 +23,18 @@ word-requires : tie.Need-word-requires Inv-loop μ-loop
 word-requires c κs = search needs
 
 loop-holds : tie.Need-loop-holds Inv-loop μ-loop
-loop-holds c = search needs
+loop-holds c = (search needs, search needs, listed-none)
 
 returns : tie.Need-returns Inv-loop μ-loop
-returns c = search needs
+unfolding columnText
+returns c = puts-then (32 ∷ 124 ∷ []) _ _ (c .before .before .before .word .ensures)
+    (listed-stop (c .before .before .before .before .before .before .before .args .text .now) (c .before .before .loop .i) (c .before .before .before .before .before .before .before .args .count) _ (c .before .before .loop .inv .2) (c .if1 .taken))
 
-element-copy-out-widest : tie.Need-element-copy-out-widest Inv-loop μ-loop
-element-copy-out-widest c = search needs
+mul-widest : tie.Need-mul-widest Inv-loop μ-loop
+mul-widest c = search needs
+
+shared-slice-read-widest : tie.Need-shared-slice-read-widest Inv-loop μ-loop
+shared-slice-read-widest c = search needs
 
 widest-requires : tie.Need-widest-requires Inv-loop μ-loop
 widest-requires c κs = search needs
@@ -39,10 +49,14 @@ loop-less : tie.Need-loop-less Inv-loop μ-loop
 loop-less c = search needs
 
 loop-again : tie.Need-loop-again Inv-loop μ-loop
-loop-again c = search needs
+loop-again c = (search needs,
+    search needs,
+    listed-turn (c .before .before .before .before .before .before .before .before .before .before .before .args .text .now) (c .before .before .before .before .before .before .loop .i) _ (c .before .before .before .before .before .before .loop .inv .2) (puts-as _ _ _ (c .number .ensures) (ap spelled (c .before .widest .ensures))) (search needs))
 
 returns-2 : tie.Need-returns-2 Inv-loop μ-loop
-returns-2 c = search needs
+unfolding columnText
+returns-2 c = puts-then (32 ∷ 124 ∷ []) _ _ (c .before .before .word .ensures)
+    (listed-end (c .before .before .before .before .before .before .args .text .now) (c .before .loop .i) (c .before .before .before .before .before .before .args .count) _ (c .before .loop .inv .2) (search needs) (search needs))
 
 pub bytes-spec : {M : Type 1} → statement M
 bytes-spec =
@@ -54,7 +68,8 @@ bytes-spec =
     word-requires
     loop-holds
     returns
-    element-copy-out-widest
+    mul-widest
+    shared-slice-read-widest
     widest-requires
     number-requires
     add-i

@@ -1,58 +1,46 @@
--- `output::said` is safe and ends: what is left of the numbers falls.
+-- `output::said` meets its contract: each arm writes the text of its case.
 use borrow.Author.Needs.{needs}
-use Prim.Native.Nat.{_≤_, _-_}
+use mathlib.Core.List.{[], _∷_}
+use Rattle.lines.proofs.Putting.{puts-as, puts-then}
+use Rattle.lines.proofs.Telling.{told-refused, told-done}
 use Rattle.lines.proofs.output.said.Statement.{statement}
 use Rattle.lines.proofs.output.said.Tie as tie
 
-abbrev Inv-loop : tie.InvT-loop
-Inv-loop out₀ used count numbers at₀ i₀ out at i = i ≤ 6
+slice-aggregate-word : tie.Need-slice-aggregate-word
+slice-aggregate-word c = search needs
 
-abbrev μ-loop : tie.MeasureT-loop
-μ-loop out₀ used count numbers at₀ i₀ out at i = 6 - i
+word-requires : tie.Need-word-requires
+word-requires c κs = search needs
 
-verdict-requires : tie.Need-verdict-requires Inv-loop μ-loop
-verdict-requires c κs = search needs
+numbers-requires : tie.Need-numbers-requires
+numbers-requires c κs = search needs
 
-loop-holds : tie.Need-loop-holds Inv-loop μ-loop
-loop-holds c = search needs
+returns : tie.Need-returns
+returns c = puts-as _ _ _ (puts-then (114 ∷ 101 ∷ 102 ∷ 117 ∷ 115 ∷ 101 ∷ 100 ∷ []) _ _ (c .before .before .word .ensures) (c .numbers .ensures))
+    (told-refused (c .before .before .before .before .before .before .before .args .said) (c .before .before .before .before .before .if1 .taken) (search needs))
 
-returns : tie.Need-returns Inv-loop μ-loop
-returns c = search needs
+slice-aggregate-word-2 : tie.Need-slice-aggregate-word-2
+slice-aggregate-word-2 c = search needs
 
-mul-number : tie.Need-mul-number Inv-loop μ-loop
-mul-number c = search needs
+word-requires-2 : tie.Need-word-requires-2
+word-requires-2 c κs = search needs
 
-array-read-number : tie.Need-array-read-number Inv-loop μ-loop
-array-read-number c = search needs
+numbers-requires-2 : tie.Need-numbers-requires-2
+numbers-requires-2 c κs = search needs
 
-number-requires : tie.Need-number-requires Inv-loop μ-loop
-number-requires c κs = search needs
-
-add-i : tie.Need-add-i Inv-loop μ-loop
-add-i c = search needs
-
-loop-less : tie.Need-loop-less Inv-loop μ-loop
-loop-less c = search needs
-
-loop-again : tie.Need-loop-again Inv-loop μ-loop
-loop-again c = search needs
-
-returns-2 : tie.Need-returns-2 Inv-loop μ-loop
-returns-2 c = search needs
+returns-2 : tie.Need-returns-2
+returns-2 c = puts-as _ _ _ (puts-then (100 ∷ 111 ∷ 110 ∷ 101 ∷ []) _ _ (c .before .before .word2 .ensures) (c .numbers2 .ensures))
+    (told-done (c .before .before .before .before .before .before .before .args .said) (c .before .before .before .before .before .if1 .left))
 
 pub said-spec : {M : Type 1} → statement M
 said-spec =
     tie.close
     (tie.spec
-    Inv-loop
-    μ-loop
-    verdict-requires
-    loop-holds
+    slice-aggregate-word
+    word-requires
+    numbers-requires
     returns
-    mul-number
-    array-read-number
-    number-requires
-    add-i
-    loop-less
-    loop-again
+    slice-aggregate-word-2
+    word-requires-2
+    numbers-requires-2
     returns-2)
