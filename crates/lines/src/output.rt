@@ -1,6 +1,7 @@
 // Standard output, byte by byte through a lent buffer, of which the first `used` cells are not written yet.
 ghost use mathlib.Core.Path.{_≡_};
 ghost use lib.ListN.{take};
+ghost use Rattle.columns.specs.Answers.{refused as refusedWith};
 ghost use Rattle.lines.specs.Text.{put, puts};
 ghost use Rattle.lines.specs.Told.{told};
 ghost use Rattle.lines.specs.Spelling.{spelled, listed, columnText, partText, saidText};
@@ -128,14 +129,22 @@ fn numbers(out: &mut Buffer, used: usize, numbers: [u64; 6], count: usize) -> us
     at
 }
 
+// What is refused: a number and a place.
+fn refused(out: &mut Buffer, used: usize, refusal: u64, place: u64) -> usize
+    ensures { λ r. ⌜ (r, now (out .exit)) ≡ puts (saidText (refusedWith refusal place)) (used, now (out .entry)) ⌝ }
+{
+    let a = word(out, used, b"refused");
+    let b = number(out, a, refusal);
+    number(out, b, place)
+}
+
 // What an answer says.
 pub fn said(out: &mut Buffer, used: usize, said: Said) -> usize
     ensures { λ r. ⌜ (r, now (out .exit)) ≡ puts (saidText (told said)) (used, now (out .entry)) ⌝ }
 {
     let given = said.numbers;
     if said.refused {
-        let at = word(out, used, b"refused");
-        return numbers(out, at, given, 2);
+        return refused(out, used, given[0], given[1]);
     }
     let at = word(out, used, b"done");
     numbers(out, at, given, said.count)

@@ -30,9 +30,6 @@ unfolding columnText
 returns c = puts-then (32 ∷ 124 ∷ []) _ _ (c .before .before .before .word .ensures)
     (listed-stop (c .before .before .before .before .before .before .before .args .text .now) (c .before .before .loop .i) (c .before .before .before .before .before .before .before .args .count) _ (c .before .before .loop .inv .2) (c .if1 .taken))
 
-mul-widest : tie.Need-mul-widest Inv-loop μ-loop
-mul-widest c = search needs
-
 shared-slice-read-widest : tie.Need-shared-slice-read-widest Inv-loop μ-loop
 shared-slice-read-widest c = search needs
 
@@ -49,9 +46,11 @@ loop-less : tie.Need-loop-less Inv-loop μ-loop
 loop-less c = search needs
 
 loop-again : tie.Need-loop-again Inv-loop μ-loop
-loop-again c = (search needs,
-    search needs,
-    listed-turn (c .before .before .before .before .before .before .before .before .before .before .before .args .text .now) (c .before .before .before .before .before .before .loop .i) _ (c .before .before .before .before .before .before .loop .inv .2) (puts-as _ _ _ (c .number .ensures) (ap spelled (c .before .widest .ensures))) (search needs))
+loop-again c = (
+  search needs,
+  search needs,
+  listed-turn (c .before .before .before .before .before .before .before .before .before .before .before .args .text .now) (c .before .before .before .before .before .before .loop .i) _ (c .before .before .before .before .before .before .loop .inv .2) (puts-as _ _ _ (c .number .ensures) (ap spelled (c .before .widest .ensures))) (search needs),
+)
 
 returns-2 : tie.Need-returns-2 Inv-loop μ-loop
 unfolding columnText
@@ -68,7 +67,6 @@ bytes-spec =
     word-requires
     loop-holds
     returns
-    mul-widest
     shared-slice-read-widest
     widest-requires
     number-requires

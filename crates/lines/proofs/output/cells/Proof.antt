@@ -40,9 +40,11 @@ loop-less : tie.Need-loop-less Inv-loop μ-loop
 loop-less c = search needs
 
 loop-again : tie.Need-loop-again Inv-loop μ-loop
-loop-again c = (search needs,
-    search needs,
-    listed-turn (c .before .before .before .before .before .before .before .before .args .cells .now) (c .before .before .before .before .before .before .loop .i) _ (c .before .before .before .before .before .before .loop .inv .2) (puts-as _ _ _ (c .number .ensures) (ap spelled (c .before .wide .ensures))) (search needs))
+loop-again c = (
+  search needs,
+  search needs,
+  listed-turn (c .before .before .before .before .before .before .before .before .args .cells .now) (c .before .before .before .before .before .before .loop .i) _ (c .before .before .before .before .before .before .loop .inv .2) (puts-as _ _ _ (c .number .ensures) (ap spelled (c .before .wide .ensures))) (search needs),
+)
 
 returns-2 : tie.Need-returns-2 Inv-loop μ-loop
 returns-2 c = listed-end (c .before .before .before .args .cells .now) (c .before .loop .i) (c .before .before .before .args .count) _ (c .before .loop .inv .2) (search needs) (search needs)

@@ -37,9 +37,11 @@ loop-less : tie.Need-loop-less Inv-loop μ-loop
 loop-less c = search needs
 
 loop-again : tie.Need-loop-again Inv-loop μ-loop
-loop-again c = (search needs,
-    search needs,
-    listed-turn (c .before .before .before .before .before .args .t3) (c .before .before .before .before .loop .i) _ (c .before .before .before .before .loop .inv .2) (c .number .ensures) (search needs))
+loop-again c = (
+  search needs,
+  search needs,
+  listed-turn (c .before .before .before .before .before .args .t3) (c .before .before .before .before .loop .i) _ (c .before .before .before .before .loop .inv .2) (c .number .ensures) (search needs),
+)
 
 returns-2 : tie.Need-returns-2 Inv-loop μ-loop
 returns-2 c = listed-end (c .before .before .args .t3) (c .before .loop .i) (c .before .before .args .count) _ (c .before .loop .inv .2) (search needs) (search needs)
