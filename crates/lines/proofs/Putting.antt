@@ -10,7 +10,7 @@ use lib.ListN.{length, getD, set, take}
 use lib.Seq.{take-suc, take-all}
 use borrow.Author.Tests.{lt-ltb, le-ltb}
 use Rattle.lines.specs.Text.{put, puts}
-use Rattle.lines.specs.Spelling.{spelled, listed}
+use Rattle.lines.specs.Spelling.{spelled, listed, columnText, columnsText}
 
 pub put-room : (out : List ℕ) (used byte : ℕ) → used < 65536 → (used + 1, set out used byte) ≡ put out used byte
 unfolding put
@@ -78,3 +78,14 @@ pub listed-end : (l : List ℕ) (i count : ℕ) (s : ℕ × List ℕ) {t : ℕ �
     → t ≡ puts (listed (take i l)) s → length l ≤ i → i ≤ count → t ≡ puts (listed (take count l)) s
 listed-end l i count s f h k =
     f ∙ ap (λ w. puts (listed w) s) (take-all i l h ∙⁻¹ take-all count l (le-trans h k))
+
+-- slices at return, one after the other
+pub column-then : (cells : List ℕ) (l : List (List ℕ)) (s : ℕ × List ℕ) {t u : ℕ × List ℕ}
+    → t ≡ puts (columnText cells) s → u ≡ puts (columnsText l) t → u ≡ puts (columnsText (cells ∷ l)) s
+unfolding columnsText
+column-then cells l s f g = puts-then (columnText cells) (columnsText l) s f g
+
+pub column-last : (cells : List ℕ) (s : ℕ × List ℕ) {t : ℕ × List ℕ}
+    → t ≡ puts (columnText cells) s → t ≡ puts (columnsText (cells ∷ [])) s
+unfolding columnsText
+column-last cells s f = puts-as (columnText cells) (columnText cells ++ []) s f (sym (append-nil (columnText cells)))

@@ -33,6 +33,12 @@ unfoldable pub columnText : List ℕ → List ℕ
 unfolding listed
 columnText cells = 32 ∷ 124 ∷ listed cells
 
+-- slices at return, in order
+unfoldable pub columnsText : List (List ℕ) → List ℕ
+unfolding columnText
+columnsText [] = []
+columnsText (cells ∷ l) = columnText cells ++ columnsText l
+
 -- a part of a slice: `part`, its length and its cells
 unfoldable pub partText : List ℕ → List ℕ
 unfolding listed
@@ -43,3 +49,7 @@ unfoldable pub saidText : Said → List ℕ
 unfolding listed
 saidText (done numbers) = 100 ∷ 111 ∷ 110 ∷ 101 ∷ listed numbers
 saidText (refused number place) = 114 ∷ 101 ∷ 102 ∷ 117 ∷ 115 ∷ 101 ∷ 100 ∷ listed (number ∷ place ∷ [])
+
+-- the answer to a line that is no case, `bad` and the line's end
+abbrev pub badText : List ℕ
+badText = 98 ∷ 97 ∷ 100 ∷ 10 ∷ []

@@ -2,7 +2,8 @@
 ghost use mathlib.Core.Path.{_≡_};
 ghost use Prim.Native.Nat.{_≤_};
 ghost use lib.ListN.{length};
-ghost use Rattle.lines.specs.Text.{put};
+ghost use Rattle.lines.specs.Text.{put, puts};
+ghost use Rattle.lines.specs.Spelling.{badText};
 use crate::input::BLANK;
 use crate::input::Buffer;
 use crate::input::END;
@@ -95,7 +96,7 @@ pub fn next_line(rest: Input, buffer: &mut Buffer) -> Line {
 
 // A line that is no case.
 pub fn bad_case(rest: Input, out: &mut Buffer, used: usize) -> Answered
-    ensures { λ r. ⌜ r .rest ≡ rest ⌝ }
+    ensures { λ r. ⌜ (r .rest ≡ rest) × ((r .used, now (out .exit)) ≡ puts badText (used, now (out .entry))) ⌝ }
 {
     Answered {
         rest,
