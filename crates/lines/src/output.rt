@@ -7,6 +7,7 @@ ghost use Rattle.lines.specs.Told.{told};
 ghost use Rattle.lines.specs.Spelling.{spelled, listed, columnText, partText, saidText};
 use crate::answers::Said;
 use crate::input::Buffer;
+use crate::rooms::Text;
 use libc::STDOUT_FILENO;
 
 // Writes what is not written yet.
@@ -88,20 +89,28 @@ fn widest(byte: u8) -> u64
     byte as u64
 }
 
-// The first `count` bytes of text at return.
-pub fn bytes(out: &mut Buffer, used: usize, text: &[u8], count: usize) -> usize
-    ensures { λ r. ⌜ (r, now (out .exit)) ≡ puts (columnText (take count (now (text .entry)))) (used, now (out .entry)) ⌝ }
+// The first `count` bytes of a slice, as numbers, with a blank before each.
+fn byte_cells(out: &mut Buffer, used: usize, cells: &[u8], count: usize) -> usize
+    ensures { λ r. ⌜ (r, now (out .exit)) ≡ puts (listed (take count (now (cells .entry)))) (used, now (out .entry)) ⌝ }
 {
-    let mut at = word(out, used, b" |");
+    let mut at = used;
     let mut i = 0;
-    while i < text.len() {
+    while i < cells.len() {
         if i == count {
             return at;
         }
-        at = number(out, at, widest(text[i]));
+        at = number(out, at, widest(cells[i]));
         i += 1;
     }
     at
+}
+
+// The first `count` bytes of text at return.
+pub fn bytes(out: &mut Buffer, used: usize, text: &Text, count: usize) -> usize
+    ensures { λ r. ⌜ (r, now (out .exit)) ≡ puts (columnText (take count (now (text .entry)))) (used, now (out .entry)) ⌝ }
+{
+    let at = word(out, used, b" |");
+    byte_cells(out, at, text, count)
 }
 
 // A part of a lent slice.
