@@ -1,6 +1,11 @@
 // The operations on a partition. Its columns `elements`, `element_offset`, `element_to_block`, `begin`, `marked_split`
 // and `end` are called a, b, c, d, e and f here.
+ghost use mathlib.Core.List.{[], _∷_};
+ghost use mathlib.Core.Path.{_≡_};
+ghost use lib.ListN.{take};
 ghost use Rattle.io.specs.Counts.{Counts};
+ghost use Rattle.lines.specs.Text.{puts};
+ghost use Rattle.lines.specs.Spelling.{columnsText};
 use block_partition::BlockPartition;
 use lines::answers::block;
 use lines::answers::flag;
@@ -213,7 +218,9 @@ pub fn show_marked(
     e: &Column,
     out: &mut Buffer,
     used: usize,
-) -> usize {
+) -> usize
+    ensures { λ r. ⌜ (r, now (out .exit)) ≡ puts (columnsText (take (lengths .a) (now (a .entry)) ∷ take (lengths .b) (now (b .entry)) ∷ take (lengths .e) (now (e .entry)) ∷ [])) (used, now (out .entry)) ⌝ }
+{
     let after_a = column(out, used, a, lengths.a);
     let after_b = column(out, after_a, b, lengths.b);
     column(out, after_b, e, lengths.e)
@@ -228,7 +235,9 @@ fn show_swapped(
     f: &Column,
     out: &mut Buffer,
     used: usize,
-) -> usize {
+) -> usize
+    ensures { λ r. ⌜ (r, now (out .exit)) ≡ puts (columnsText (take (lengths .c) (now (c .entry)) ∷ take (lengths .d) (now (d .entry)) ∷ take (lengths .e) (now (e .entry)) ∷ take (lengths .f) (now (f .entry)) ∷ [])) (used, now (out .entry)) ⌝ }
+{
     let after_c = column(out, used, c, lengths.c);
     let after_d = column(out, after_c, d, lengths.d);
     let after_e = column(out, after_d, e, lengths.e);
@@ -246,7 +255,9 @@ pub fn show_all(
     f: &Column,
     out: &mut Buffer,
     used: usize,
-) -> usize {
+) -> usize
+    ensures { λ r. ⌜ (r, now (out .exit)) ≡ puts (columnsText (take (lengths .a) (now (a .entry)) ∷ take (lengths .b) (now (b .entry)) ∷ take (lengths .c) (now (c .entry)) ∷ take (lengths .d) (now (d .entry)) ∷ take (lengths .e) (now (e .entry)) ∷ take (lengths .f) (now (f .entry)) ∷ [])) (used, now (out .entry)) ⌝ }
+{
     let after_a = column(out, used, a, lengths.a);
     let after_b = column(out, after_a, b, lengths.b);
     show_swapped(lengths, c, d, e, f, out, after_b)

@@ -1,8 +1,10 @@
 // From one line to the next.
+ghost use mathlib.Core.Bool.{true};
 ghost use mathlib.Core.Path.{_≡_};
 ghost use Prim.Native.Nat.{_≤_};
 ghost use lib.ListN.{length};
-ghost use Rattle.lines.specs.Text.{put};
+ghost use Rattle.lines.specs.Text.{put, puts};
+ghost use Rattle.lines.specs.Spelling.{badText};
 use crate::input::BLANK;
 use crate::input::Buffer;
 use crate::input::END;
@@ -37,7 +39,9 @@ fn is_silent(byte: u16) -> bool {
 }
 
 // The first place of the next line that has an answer, or the end.
-fn skip_silent(first: Input, buffer: &mut Buffer) -> Input {
+fn skip_silent(first: Input, buffer: &mut Buffer) -> Input
+    ensures { λ r. ⌜ r .good ≡ first .good ⌝ }
+{
     let mut input = first;
     let mut turns = TURNS;
     while 0 < turns && is_silent(input.byte) {
@@ -60,6 +64,7 @@ fn in_word(byte: u16) -> bool {
 // The word that starts here, or as much of it as `into` has room for.
 fn read_word(first: Input, buffer: &mut Buffer, into: &mut [u8]) -> Cells
     ensures { λ r. ⌜ r .count ≤ length (now (into .exit)) ⌝ }
+    ensures { λ r. ⌜ r .input .good ≡ first .good ⌝ }
 {
     let mut input = first;
     let mut count = 0;
@@ -75,7 +80,9 @@ fn read_word(first: Input, buffer: &mut Buffer, into: &mut [u8]) -> Cells
 }
 
 // The next line that has an answer.
-pub fn next_line(rest: Input, buffer: &mut Buffer) -> Line {
+pub fn next_line(rest: Input, buffer: &mut Buffer) -> Line
+    ensures { λ r. ⌜ r .input .good ≡ true ⌝ }
+{
     let start = skip_silent(rest.judged(true), buffer);
     if start.byte == END {
         return Line {
@@ -95,7 +102,7 @@ pub fn next_line(rest: Input, buffer: &mut Buffer) -> Line {
 
 // A line that is no case.
 pub fn bad_case(rest: Input, out: &mut Buffer, used: usize) -> Answered
-    ensures { λ r. ⌜ r .rest ≡ rest ⌝ }
+    ensures { λ r. ⌜ (r .rest ≡ rest) × ((r .used, now (out .exit)) ≡ puts badText (used, now (out .entry))) ⌝ }
 {
     Answered {
         rest,

@@ -1,6 +1,10 @@
 // The decimal numbers of a line, and the slices that they make up.
 ghost use Prim.Native.Nat.{_≤_};
+ghost use mathlib.Core.Bool.{true, false};
+ghost use mathlib.Core.Path.{_≡_};
+ghost use Rattle.columns.specs.Answers.{bit};
 ghost use Rattle.io.specs.Counts.{Counts};
+ghost use Rattle.lines.specs.Places.{Read};
 use crate::input::BLANK;
 use crate::input::Buffer;
 use crate::input::Input;
@@ -62,7 +66,9 @@ fn grown(value: u64, digit: u16) -> u64 {
 }
 
 // The number whose digits start here.
-fn digits(first: Input, buffer: &mut Buffer) -> Number {
+fn digits(first: Input, buffer: &mut Buffer) -> Number
+    ensures { λ r. ⌜ r .input .good ≡ first .good ⌝ }
+{
     let mut input = first;
     let mut value: u64 = 0;
     let mut turns = TURNS;
@@ -77,7 +83,7 @@ fn digits(first: Input, buffer: &mut Buffer) -> Number {
 impl Input {
     // What stands for a number that is not there.
     fn no_number(self) -> Number
-        ensures { λ r. ⌜ r .value ≤ 0 ⌝ }
+        ensures { λ r. ⌜ (r .value ≡ 0) × (r .input .good ≡ false) ⌝ }
     {
         let input = self.judged(false);
         Number { input, value: 0 }
@@ -86,6 +92,7 @@ impl Input {
     // A blank and a number of at most `most`; where they are not there, 0 and a bad line.
     pub fn number(self, buffer: &mut Buffer, most: u64) -> Number
         ensures { λ r. ⌜ r .value ≤ most ⌝ }
+        ensures { λ r. ⌜ Read self (r .input) (r .value) ⌝ }
     {
         if !self.good {
             return self.no_number();
@@ -106,7 +113,9 @@ impl Input {
     }
 
     // A blank and a number of u16's range.
-    pub fn small(self, buffer: &mut Buffer) -> Small {
+    pub fn small(self, buffer: &mut Buffer) -> Small
+        ensures { λ r. ⌜ Read self (r .input) (r .value) ⌝ }
+    {
         let read = self.number(buffer, 65535);
         let input = read.input;
         Small {
@@ -116,7 +125,10 @@ impl Input {
     }
 
     // The same if it is wanted, otherwise nothing and 0.
-    pub fn small_if(self, wanted: bool, buffer: &mut Buffer) -> Small {
+    pub fn small_if(self, wanted: bool, buffer: &mut Buffer) -> Small
+        ensures { λ r. ⌜ (wanted ≡ true → Read self (r .input) (r .value)) ⌝ }
+        ensures { λ r. ⌜ (wanted ≡ false → (r .input ≡ self) × (r .value ≡ 0)) ⌝ }
+    {
         if wanted {
             return self.small(buffer);
         }
@@ -127,7 +139,9 @@ impl Input {
     }
 
     // A blank and a flag, 0 or 1.
-    pub fn flag(self, buffer: &mut Buffer) -> Flag {
+    pub fn flag(self, buffer: &mut Buffer) -> Flag
+        ensures { λ r. ⌜ Read self (r .input) (bit (r .value)) ⌝ }
+    {
         let read = self.number(buffer, 1);
         let input = read.input;
         Flag {

@@ -1,6 +1,10 @@
 // Standard output, byte by byte through a lent buffer, of which the first `used` cells are not written yet.
 ghost use mathlib.Core.Path.{_≡_};
-ghost use Rattle.lines.specs.Text.{put};
+ghost use lib.ListN.{take};
+ghost use Rattle.columns.specs.Answers.{refused as refusedWith};
+ghost use Rattle.lines.specs.Text.{put, puts};
+ghost use Rattle.lines.specs.Told.{told};
+ghost use Rattle.lines.specs.Spelling.{spelled, listed, columnText, partText, saidText};
 use crate::answers::Said;
 use crate::input::Buffer;
 use crate::rooms::Text;
@@ -27,7 +31,9 @@ pub fn byte(out: &mut Buffer, used: usize, byte: u8) -> usize
 }
 
 // The bytes of a word.
-pub fn word(out: &mut Buffer, used: usize, word: &[u8]) -> usize {
+pub fn word(out: &mut Buffer, used: usize, word: &[u8]) -> usize
+    ensures { λ r. ⌜ (r, now (out .exit)) ≡ puts (now (word .entry)) (used, now (out .entry)) ⌝ }
+{
     let mut at = used;
     let mut i = 0;
     while i < word.len() {
@@ -37,46 +43,26 @@ pub fn word(out: &mut Buffer, used: usize, word: &[u8]) -> usize {
     at
 }
 
-// Writes the digits of a number at the end of `digits`, and answers where they start.
-fn spell(value: u64, digits: &mut [u8; 20]) -> usize {
-    let mut rest = value;
-    let mut i = 20;
-    while 0 < i {
-        i -= 1;
-        digits[i] = 48 + (rest % 10) as u8;
-        rest /= 10;
-        if rest == 0 {
-            return i;
-        }
-    }
-    0
-}
-
-// The digits from `start` on.
-fn tail(out: &mut Buffer, used: usize, digits: &[u8; 20], start: usize) -> usize {
-    let mut at = used;
-    let mut i = start;
-    while i < 20 {
-        at = byte(out, at, digits[i]);
-        i += 1;
-    }
-    at
-}
-
 // A blank and a number.
-pub fn number(out: &mut Buffer, used: usize, value: u64) -> usize {
+pub fn number(out: &mut Buffer, used: usize, value: u64) -> usize
+    ensures { λ r. ⌜ (r, now (out .exit)) ≡ puts (spelled value) (used, now (out .entry)) ⌝ }
+{
     let mut digits = [0u8; 20];
-    let start = spell(value, &mut digits);
+    let count = io::decimal(value, &mut digits);
     let at = byte(out, used, b' ');
-    tail(out, at, &digits, start)
+    word(out, at, &digits[..count])
 }
 
-fn wide(cell: u16) -> u64 {
+fn wide(cell: u16) -> u64
+    ensures { λ r. ⌜ r ≡ cell ⌝ }
+{
     cell as u64
 }
 
 // The first `count` cells of a slice, with a blank before each.
-pub fn cells(out: &mut Buffer, used: usize, cells: &[u16], count: usize) -> usize {
+pub fn cells(out: &mut Buffer, used: usize, cells: &[u16], count: usize) -> usize
+    ensures { λ r. ⌜ (r, now (out .exit)) ≡ puts (listed (take count (now (cells .entry)))) (used, now (out .entry)) ⌝ }
+{
     let mut at = used;
     let mut i = 0;
     while i < cells.len() {
@@ -90,49 +76,57 @@ pub fn cells(out: &mut Buffer, used: usize, cells: &[u16], count: usize) -> usiz
 }
 
 // The first `count` cells of a slice at return.
-pub fn column(out: &mut Buffer, used: usize, column: &[u16], count: usize) -> usize {
+pub fn column(out: &mut Buffer, used: usize, column: &[u16], count: usize) -> usize
+    ensures { λ r. ⌜ (r, now (out .exit)) ≡ puts (columnText (take count (now (column .entry)))) (used, now (out .entry)) ⌝ }
+{
     let at = word(out, used, b" |");
     cells(out, at, column, count)
 }
 
-fn widest(byte: u8) -> u64 {
+fn widest(byte: u8) -> u64
+    ensures { λ r. ⌜ r ≡ byte ⌝ }
+{
     byte as u64
 }
 
-// The first `count` bytes of text at return.
-pub fn bytes(out: &mut Buffer, used: usize, text: &Text, count: usize) -> usize {
-    let mut at = word(out, used, b" |");
+// The first `count` bytes of a slice, as numbers, with a blank before each.
+fn byte_cells(out: &mut Buffer, used: usize, cells: &[u8], count: usize) -> usize
+    ensures { λ r. ⌜ (r, now (out .exit)) ≡ puts (listed (take count (now (cells .entry)))) (used, now (out .entry)) ⌝ }
+{
+    let mut at = used;
     let mut i = 0;
-    while i < 70000 {
+    while i < cells.len() {
         if i == count {
             return at;
         }
-        at = number(out, at, widest(text[i]));
+        at = number(out, at, widest(cells[i]));
         i += 1;
     }
     at
 }
 
+// The first `count` bytes of text at return.
+pub fn bytes(out: &mut Buffer, used: usize, text: &Text, count: usize) -> usize
+    ensures { λ r. ⌜ (r, now (out .exit)) ≡ puts (columnText (take count (now (text .entry)))) (used, now (out .entry)) ⌝ }
+{
+    let at = word(out, used, b" |");
+    byte_cells(out, at, text, count)
+}
+
 // A part of a lent slice.
-pub fn part(out: &mut Buffer, used: usize, part: &[u16]) -> usize {
+pub fn part(out: &mut Buffer, used: usize, part: &[u16]) -> usize
+    ensures { λ r. ⌜ (r, now (out .exit)) ≡ puts (partText (now (part .entry))) (used, now (out .entry)) ⌝ }
+{
     let a = word(out, used, b"part");
     let b = number(out, a, part.len() as u64);
     cells(out, b, part, part.len())
 }
 
-// Whether the call was done.
-fn verdict(out: &mut Buffer, used: usize, refused: bool) -> usize {
-    if refused {
-        return word(out, used, b"refused");
-    }
-    word(out, used, b"done")
-}
-
-// What an answer says.
-pub fn said(out: &mut Buffer, used: usize, said: Said) -> usize {
-    let count = said.count;
-    let numbers = said.numbers;
-    let mut at = verdict(out, used, said.refused);
+// The first `count` numbers of an answer.
+fn numbers(out: &mut Buffer, used: usize, numbers: [u64; 6], count: usize) -> usize
+    ensures { λ r. ⌜ (r, now (out .exit)) ≡ puts (listed (take count numbers)) (used, now (out .entry)) ⌝ }
+{
+    let mut at = used;
     let mut i = 0;
     while i < 6 {
         if i == count {
@@ -142,4 +136,25 @@ pub fn said(out: &mut Buffer, used: usize, said: Said) -> usize {
         i += 1;
     }
     at
+}
+
+// What is refused: a number and a place.
+fn refused(out: &mut Buffer, used: usize, refusal: u64, place: u64) -> usize
+    ensures { λ r. ⌜ (r, now (out .exit)) ≡ puts (saidText (refusedWith refusal place)) (used, now (out .entry)) ⌝ }
+{
+    let a = word(out, used, b"refused");
+    let b = number(out, a, refusal);
+    number(out, b, place)
+}
+
+// What an answer says.
+pub fn said(out: &mut Buffer, used: usize, said: Said) -> usize
+    ensures { λ r. ⌜ (r, now (out .exit)) ≡ puts (saidText (told said)) (used, now (out .entry)) ⌝ }
+{
+    let given = said.numbers;
+    if said.refused {
+        return refused(out, used, given[0], given[1]);
+    }
+    let at = word(out, used, b"done");
+    numbers(out, at, given, said.count)
 }
