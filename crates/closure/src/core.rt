@@ -172,7 +172,52 @@ fn close_marks(
     }
 }
 
-// Links the incoming rows in the two work slices, closes the marks of block b, and clears the work slices.
+// The same, where `head` and `link` are work slices in which the incoming rows are linked first. A block with nothing marked, or with
+// nothing unmarked, needs no links.
+fn link_and_close(
+    table: Table,
+    source: &[u16],
+    label: &[u16],
+    target: &[u16],
+    head: &mut [u16],
+    link: &mut [u16],
+    elements: &mut [u16],
+    element_offset: &mut [u16],
+    element_to_block: &[u16],
+    begin: &[u16],
+    marked_split: &mut [u16],
+    end: &[u16],
+    count: usize,
+    b: usize,
+)
+    requires { ⌜ Valid (lts table (now source) (now label) (now target)) × (table .n ≤ length (now head)) × (table .m ≤ length (now link)) ⌝ }
+    requires { ⌜ Sound (parts (now elements) (now «element_offset») (now «element_to_block») (now begin) (now «marked_split») (now end) (table .n) count) × (b < count) ⌝ }
+    ensures { λ _. ⌜ parts (now (elements .exit)) (now («element_offset» .exit)) (now («element_to_block» .exit)) (now (begin .exit)) (now («marked_split» .exit)) (now (end .exit)) (table .n) count ≡ close (lts table (now (source .entry)) (now (label .entry)) (now (target .entry))) (parts (now (elements .entry)) (now («element_offset» .entry)) (now («element_to_block» .entry)) (now (begin .entry)) (now («marked_split» .entry)) (now (end .entry)) (table .n) count) b ⌝ }
+{
+    if going_on(at(begin, b), at(&*marked_split, b), at(end, b)) {
+        let n = table.n as usize;
+        let m = table.m as usize;
+        link_incoming(target, n, m, &mut *head, &mut *link);
+        close_marks(
+            table,
+            source,
+            label,
+            target,
+            &*head,
+            &*link,
+            &mut *elements,
+            &mut *element_offset,
+            element_to_block,
+            begin,
+            &mut *marked_split,
+            end,
+            count,
+            b,
+        );
+    }
+}
+
+// Closes the marks of block b, and clears the two work slices.
 pub fn mark_backward_closure(
     table: Table,
     source: &[u16],
@@ -194,16 +239,13 @@ pub fn mark_backward_closure(
     ensures { λ _. ⌜ parts (now (elements .exit)) (now («element_offset» .exit)) (now («element_to_block» .exit)) (now (begin .exit)) (now («marked_split» .exit)) (now (end .exit)) (table .n) count ≡ close (lts table (now (source .entry)) (now (label .entry)) (now (target .entry))) (parts (now (elements .entry)) (now («element_offset» .entry)) (now («element_to_block» .entry)) (now (begin .entry)) (now («marked_split» .entry)) (now (end .entry)) (table .n) count) b ⌝ }
     ensures { λ _. ⌜ (now (head .exit) ≡ zeros (length (now (head .entry)))) × (now (link .exit) ≡ zeros (length (now (link .entry)))) ⌝ }
 {
-    let n = table.n as usize;
-    let m = table.m as usize;
-    link_incoming(target, n, m, &mut *head, &mut *link);
-    close_marks(
+    link_and_close(
         table,
         source,
         label,
         target,
-        &*head,
-        &*link,
+        &mut *head,
+        &mut *link,
         &mut *elements,
         &mut *element_offset,
         element_to_block,
