@@ -39,22 +39,22 @@ division-refusal-requires : tie.Need-division-refusal-requires
 division-refusal-requires c κs = search needs
 
 same-length : tie.Need-same-length
-same-length c = search needs
+same-length c = refl
 
 same-length-2 : tie.Need-same-length-2
-same-length-2 c = search needs
+same-length-2 c = refl
 
 same-length-3 : tie.Need-same-length-3
-same-length-3 c = search needs
+same-length-3 c = refl
 
 same-length-4 : tie.Need-same-length-4
-same-length-4 c = search needs
+same-length-4 c = refl
 
 same-length-5 : tie.Need-same-length-5
-same-length-5 c = search needs
+same-length-5 c = refl
 
 same-length-6 : tie.Need-same-length-6
-same-length-6 c = search needs
+same-length-6 c = refl
 
 returns : tie.Need-returns
 unfolding partitionMarkedWith divisionRefusal
@@ -71,31 +71,31 @@ partition-marked-with-requires c κs = let a = c .before .before .before .before
     (q .ready, ((q .room .numbers, omega (arith, q .room .first, c .before .before .before .before .before .before .before .before .before .before .before .before .before .before .before .clear-work .kept .0), omega (arith, q .room .second, c .before .before .before .before .before .before .before .before .before .before .before .before .before .before .before .clear-work .kept .1 .0), omega (arith, q .room .third, c .before .before .before .before .before .before .before .before .before .before .before .before .before .before .before .clear-work .kept .1 .1 .0)), (c .before .before .before .before .before .before .before .before .before .before .before .before .before .before .before .clear-work .ensures .0 ∙ ap zeros (sym (c .before .before .before .before .before .before .before .before .before .before .before .before .before .before .before .clear-work .kept .0)), c .before .before .before .before .before .before .before .before .before .before .before .before .before .before .before .clear-work .ensures .1 ∙ ap zeros (sym (c .before .before .before .before .before .before .before .before .before .before .before .before .before .before .before .clear-work .kept .1 .0)), c .before .before .before .before .before .before .before .before .before .before .before .before .before .before .before .clear-work .ensures .2 ∙ ap zeros (sym (c .before .before .before .before .before .before .before .before .before .before .before .before .before .before .before .clear-work .kept .1 .1 .0)))))
 
 same-length-7 : tie.Need-same-length-7
-same-length-7 c = search needs
+same-length-7 c = c .before .before .before .before .before .before .before .before .before .before .before .before .before .before .before .before .before .before .partition-marked-with .kept .0
 
 same-length-8 : tie.Need-same-length-8
-same-length-8 c = search needs
+same-length-8 c = c .before .before .before .before .before .before .before .before .before .before .before .before .before .before .before .before .before .before .partition-marked-with .kept .1 .0
 
 same-length-9 : tie.Need-same-length-9
-same-length-9 c = search needs
+same-length-9 c = c .before .before .before .before .before .before .before .before .before .before .before .before .before .before .before .before .before .before .partition-marked-with .kept .1 .1 .0
 
 same-length-10 : tie.Need-same-length-10
-same-length-10 c = search needs
+same-length-10 c = c .before .before .before .before .before .before .before .before .before .before .before .before .before .before .before .before .before .before .partition-marked-with .kept .1 .1 .1 .0
 
 same-length-11 : tie.Need-same-length-11
-same-length-11 c = search needs
+same-length-11 c = c .before .before .before .before .before .before .before .before .before .before .before .before .before .before .before .before .before .before .partition-marked-with .kept .1 .1 .1 .1 .0
 
 same-length-12 : tie.Need-same-length-12
-same-length-12 c = search needs
+same-length-12 c = c .before .before .before .before .before .before .before .before .before .before .before .before .before .before .before .before .before .before .partition-marked-with .kept .1 .1 .1 .1 .1 .0
 
 same-length-13 : tie.Need-same-length-13
-same-length-13 c = search needs
+same-length-13 c = c .before .before .before .before .before .before .before .before .before .before .before .before .before .before .before .before .before .before .partition-marked-with .kept .1 .1 .1 .1 .1 .1 .1 .0 ∙ c .before .before .before .before .before .before .before .before .before .before .before .before .before .before .before .before .before .before .before .before .before .before .before .before .before .before .before .before .before .before .before .before .before .before .clear-work .kept .0
 
 same-length-14 : tie.Need-same-length-14
-same-length-14 c = search needs
+same-length-14 c = c .before .before .before .before .before .before .before .before .before .before .before .before .before .before .before .before .before .before .partition-marked-with .kept .1 .1 .1 .1 .1 .1 .1 .1 .0 ∙ c .before .before .before .before .before .before .before .before .before .before .before .before .before .before .before .before .before .before .before .before .before .before .before .before .before .before .before .before .before .before .before .before .before .before .clear-work .kept .1 .0
 
 same-length-15 : tie.Need-same-length-15
-same-length-15 c = search needs
+same-length-15 c = c .before .before .before .before .before .before .before .before .before .before .before .before .before .before .before .before .before .before .partition-marked-with .kept .1 .1 .1 .1 .1 .1 .1 .1 .1 .0 ∙ c .before .before .before .before .before .before .before .before .before .before .before .before .before .before .before .before .before .before .before .before .before .before .before .before .before .before .before .before .before .before .before .before .before .before .clear-work .kept .1 .1 .0
 
 returns-2 : tie.Need-returns-2
 unfolding partitionMarkedWith divisionRefusal
