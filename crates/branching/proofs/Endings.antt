@@ -7,32 +7,18 @@ use mathlib.Core.Logic.{_⊎_, inl, inr}
 use mathlib.Core.Bool.{true}
 use mathlib.Core.List.{List}
 use lib.Dec.{eqb}
-use lib.ListN.{length, getD}
+use lib.ListN.{getD}
 use Rattle.columns.proofs.All.{same-or-not}
 use Rattle.columns.proofs.Bools.{and-left, and-right, and-both}
 use Rattle.signatures.specs.Inductive.{inertb}
 use Rattle.table.specs.Lts.{Lts, Valid}
 use Rattle.table.specs.Reach.{Walk, stop, along, edge}
-use Rattle.table.proofs.Stretches.{rising}
 use Rattle.table.proofs.Walks.{via-walk, walk-via, edge-row, row-edge, edge-in, takes-hidden}
 use Rattle.branching.specs.Branching.{inertEdge, inertly}
-use Rattle.branching.specs.Visiting.{Rowed, inertTable, Hunt, Lists}
+use Rattle.branching.specs.Visiting.{inertTable, Hunt, Lists}
 use Rattle.branching.proofs.Hunting.{walked, walks}
 
 module _ (t : Lts) (v : Valid t) (home : List ℕ) where
-  pub rowed : t .n ≤ length home → Rowed (t .n) (t .m) (t .source) (t .label) (t .target) home
-  rowed h = record {
-    sources = v .long .source;
-    labels = v .long .label;
-    targets = v .long .target;
-    homes = h;
-    few = v .few-states;
-    rows = v .few-rows;
-    rising = rising t v;
-    from = λ i l. v .fields i l .source;
-    to = λ i l. v .fields i l .target;
-  }
-
   module _ (s : ℕ) where
     inner : Lts
     inner = inertTable (t .n) (t .m) (t .source) (t .label) (t .target) home (getD home s 0)

@@ -1,26 +1,47 @@
--- The rows pushed state by state, for the states that are reached, are the rows of the definition: as many, and the same pairs.
-use Prim.Native.Nat.{ℕ, _≤_, _<_}
+-- Pairs pushed state by state: how many there are for states that are told apart, and that for the states that are reached they are as many
+-- as the definition's, and the same ones.
+use Prim.Native.Nat.{ℕ, zero, suc, _+_, _≤_, _<_}
 use native.Mathlib.Omega.{arith}
-use borrow.Author.Tests.{eqb-true, eq-eqb, ne-eqb}
-use mathlib.Core.Path.{_≡_, refl, ap, sym, subst, _∙_}
+use borrow.Author.Tests.{eqb-true, eq-eqb}
+use mathlib.Core.Path.{_≡_, refl, ap, ap₂, sym, subst, _∙_}
 use mathlib.Core.Bool.{Bool, true, false, _&&_, cond}
-use mathlib.Core.List.{List, Memᴰ·map, Memᴰ·of-map}
+use mathlib.Core.List.{List, _++_, Memᴰ·map, Memᴰ·of-map}
 use lib.Dec.{eqb}
 use lib.ListN.{length, length-map, getD}
 use Rattle.columns.specs.Columns.{laid}
 use Rattle.columns.specs.Counting.{sum, many, members}
+use Rattle.columns.specs.Rows.{pairsOf}
 use Rattle.columns.specs.Sets.{Mem, Pair}
-use Rattle.columns.proofs.Bools.{and-left, and-right, and-both, and-no-right, and-no-left, contra}
-use Rattle.columns.proofs.Counting.{one-if, one-if-true, one-if-false, many-sum, many-le, sum-pick, eqb-same}
-use Rattle.columns.proofs.Laid.{length-laid, laid-in, laid-out}
+use Rattle.columns.proofs.Bools.{and-left, and-right, and-both, contra, fails}
+use Rattle.columns.proofs.Counting.{one-if, one-if-true, one-if-false, many-sum, many-nothing, many-strict}
+use Rattle.columns.proofs.Laid.{laid-more, laid-up, length-laid, laid-in, laid-out}
 use Rattle.columns.proofs.Members.{length-members, members-in, members-out}
-use Rattle.columns.proofs.Sums.{sum-cong, sum-zero, sum-swap}
+use Rattle.columns.proofs.Sums.{sum-cong, sum-mono, sum-one, sum-swap}
+use Rattle.columns.proofs.TwoColumns.{length-pairs}
 use Rattle.signatures.specs.Pairs.{signature}
 use Rattle.signatures.specs.Strong.{pairAt}
 use Rattle.signatures.proofs.Sigs.{sig-same}
 use Rattle.table.specs.Lts.{Lts, Valid}
 use Rattle.branching.specs.Branching.{inertly, outerb, branchingPushed}
-use Rattle.branching.specs.Visiting.{outerPairs, Lists}
+use Rattle.branching.specs.Visiting.{outerPairs, outerOf, Lists, Visits}
+
+-- what passes at one place only
+once-few : (k : ℕ) (f : ℕ → Bool) → ((i j : ℕ) → i < k → j < k → f i ≡ true → f j ≡ true → i ≡ j) → many k f ≤ 1
+unfolding many
+once-few zero f u = omega arith
+once-few (suc k) f u = go (once-few k f (λ i j a c. u i j (omega (arith, a)) (omega (arith, c)))) (f k) refl
+  where
+    lt-ne : {a b : ℕ} → a < b → a ≡ b → ⊥
+    lt-ne h q = omega arith
+
+    go : many k f ≤ 1 → (t : Bool) → f k ≡ t → many k f + cond t 1 0 ≤ 1
+    go h true q = omega (arith, many-nothing k f (λ j w. fails (λ e. lt-ne w (u j k (omega (arith, w)) (omega arith) e q))))
+    go h false q = omega (arith, h)
+
+pub laid-cong : {A : Type 0} (g h : ℕ → List A) (k : ℕ) → ((j : ℕ) → j < k → g j ≡ h j) → laid g k ≡ laid h k
+unfolding laid
+laid-cong g h zero e = refl
+laid-cong g h (suc k) e = ap₂ (λ x y. x ++ y) (laid-cong g h k (λ j w. e j (omega (arith, w)))) (e k (omega arith))
 
 pub length-outer : (t : Lts) (home : List ℕ) (b x : ℕ) → length (outerPairs t home b x) ≡ many (t .m) (λ i. eqb (getD (t .source) i 0) x && outerb t home b i)
 unfolding outerPairs
@@ -28,50 +49,71 @@ length-outer t home b x =
     length-map (members (t .m) (λ i. eqb (getD (t .source) i 0) x && outerb t home b i)) (pairAt t home)
     ∙ length-members (λ i. eqb (getD (t .source) i 0) x && outerb t home b i) (t .m)
 
-module _ (t : Lts) (v : Valid t) (home : List ℕ) (s : ℕ) (queue : List ℕ) (k : ℕ) (l : Lists t home s queue k) where
-  -- a row is counted for one state of the list, if its source is reached
-  row-once : (x : ℕ) (o : Bool) → x < t .n → sum (λ j. one-if (eqb x (getD queue j 0) && o)) k ≡ one-if (inertly t home s x && o)
-  row-once x false h =
-      sum-cong (λ j. one-if (eqb x (getD queue j 0) && false)) (λ _. 0) k (λ j w. one-if-false _ (and-no-right (eqb x (getD queue j 0)) false refl))
-      ∙ sum-zero k ∙ sym (one-if-false _ (and-no-right (inertly t home s x) false refl))
-  row-once x true h = go (inertly t home s x) refl
-    where
-      go : (r : Bool) → inertly t home s x ≡ r → sum (λ j. one-if (eqb x (getD queue j 0) && true)) k ≡ one-if (r && true)
-      go true e =
-          let f = l .all x h e in
-          sum-cong (λ j. one-if (eqb x (getD queue j 0) && true)) (λ j. cond (eqb (f .0) j) 1 0) k
-          (λ j w. hit (eqb x (getD queue j 0)) (eqb (f .0) j)
-          (eqb-same x (getD queue j 0) (f .0) j (λ q. l .once (f .0) j (f .1) w (f .2 ∙ q)) (λ q. sym (f .2) ∙ ap (λ (i : ℕ). getD queue i 0) q)))
-          ∙ sum-pick (f .0) k (λ _. 1) (f .1) ∙ sym (one-if-true (true && true) refl)
-        where
-          hit : (a b : Bool) → a ≡ b → one-if (a && true) ≡ cond b 1 0
-          hit true b e = one-if-true (true && true) refl ∙ ap (λ (c : Bool). cond c 1 0) e
-          hit false b e = one-if-false (false && true) refl ∙ ap (λ (c : Bool). cond c 1 0) e
-      go false e =
-          sum-cong (λ j. one-if (eqb x (getD queue j 0) && true)) (λ _. 0) k
-          (λ j w. one-if-false _ (and-no-left (eqb x (getD queue j 0)) true
-          (ne-eqb x (getD queue j 0) (λ q. contra (ap (inertly t home s) q ∙ l .reached j w) e))))
-          ∙ sum-zero k ∙ sym (one-if-false (false && true) refl)
-
-  pub visited-count : length (laid (λ j. outerPairs t home (getD home s 0) (getD queue j 0)) k) ≡ length (branchingPushed t home s)
-  unfolding branchingPushed
-  visited-count =
-      let b = getD home s 0 in
+module _ (t : Lts) (home : List ℕ) (b : ℕ) (queue : List ℕ) (k : ℕ) where
+  -- the pairs counted row by row
+  by-rows : length (outerOf t home b queue k) ≡ sum (λ i. many k (λ j. eqb (getD (t .source) i 0) (getD queue j 0) && outerb t home b i)) (t .m)
+  by-rows =
       let own : ℕ → ℕ → ℕ = λ j i. one-if (eqb (getD (t .source) i 0) (getD queue j 0) && outerb t home b i) in
-      let f : ℕ → Bool = λ i. inertly t home s (getD (t .source) i 0) && outerb t home b i in
       length-laid (λ j. outerPairs t home b (getD queue j 0)) k
       ∙ sum-cong (λ j. length (outerPairs t home b (getD queue j 0))) (λ j. sum (own j) (t .m)) k
       (λ j w. length-outer t home b (getD queue j 0) ∙ many-sum (t .m) (λ i. eqb (getD (t .source) i 0) (getD queue j 0) && outerb t home b i))
       ∙ sum-swap own k (t .m)
-      ∙ sum-cong (λ i. sum (λ j. own j i) k) (λ i. one-if (f i)) (t .m)
+      ∙ sum-cong (λ i. sum (λ j. own j i) k) (λ i. many k (λ j. eqb (getD (t .source) i 0) (getD queue j 0) && outerb t home b i)) (t .m)
+      (λ i w. sym (many-sum k (λ j. eqb (getD (t .source) i 0) (getD queue j 0) && outerb t home b i)))
+
+  module _ (once : (i j : ℕ) → i < k → j < k → getD queue i 0 ≡ getD queue j 0 → i ≡ j) where
+    -- a row is counted for one state at most
+    row-few : (x : ℕ) (o : Bool) → many k (λ j. eqb x (getD queue j 0) && o) ≤ 1
+    row-few x o =
+        once-few k (λ j. eqb x (getD queue j 0) && o)
+        (λ i j a c p q.
+        once i j a c
+        (sym (eqb-true x (getD queue i 0) (and-left (eqb x (getD queue i 0)) o p)) ∙ eqb-true x (getD queue j 0) (and-left (eqb x (getD queue j 0)) o q)))
+
+    pub visited-few : length (outerOf t home b queue k) ≤ t .m
+    visited-few =
+        omega (
+          arith,
+          by-rows,
+          sum-mono (λ i. many k (λ j. eqb (getD (t .source) i 0) (getD queue j 0) && outerb t home b i)) (λ _. 1) (t .m)
+              (λ i w. row-few (getD (t .source) i 0) (outerb t home b i)),
+          sum-one (t .m),
+        )
+
+module _ (t : Lts) (v : Valid t) (home : List ℕ) (s : ℕ) (queue : List ℕ) (k : ℕ) (l : Lists t home s queue k) where
+  -- a row is counted for one state of the list, if its source is reached
+  row-once : (x : ℕ) (o : Bool) → x < t .n → many k (λ j. eqb x (getD queue j 0) && o) ≡ one-if (inertly t home s x && o)
+  row-once x o h = go (inertly t home s x && o) refl
+    where
+      go : (r : Bool) → (inertly t home s x && o) ≡ r → many k (λ j. eqb x (getD queue j 0) && o) ≡ one-if r
+      go true e =
+          let f = l .all x h (and-left (inertly t home s x) o e) in
+          omega (
+            arith,
+            row-few t home (getD home s 0) queue k (l .once) x o,
+            many-strict (f .0) k (λ j. eqb x (getD queue j 0) && o) (f .1) (and-both (eq-eqb x (getD queue (f .0) 0) (sym (f .2))) (and-right (inertly t home s x) o e)),
+            one-if-true true refl,
+          )
+      go false e =
+          many-nothing k (λ j. eqb x (getD queue j 0) && o)
+          (λ j w.
+          fails
+          (λ p.
+          contra
+          (and-both (ap (inertly t home s) (eqb-true x (getD queue j 0) (and-left (eqb x (getD queue j 0)) o p)) ∙ l .reached j w)
+          (and-right (eqb x (getD queue j 0)) o p))
+          e))
+          ∙ sym (one-if-false false refl)
+
+  pub visited-count : length (outerOf t home (getD home s 0) queue k) ≡ length (branchingPushed t home s)
+  unfolding branchingPushed
+  visited-count =
+      let b = getD home s 0 in
+      let f : ℕ → Bool = λ i. inertly t home s (getD (t .source) i 0) && outerb t home b i in
+      by-rows t home b queue k
+      ∙ sum-cong (λ i. many k (λ j. eqb (getD (t .source) i 0) (getD queue j 0) && outerb t home b i)) (λ i. one-if (f i)) (t .m)
       (λ i w. row-once (getD (t .source) i 0) (outerb t home b i) (v .fields i w .source))
       ∙ sym (many-sum (t .m) f) ∙ sym (length-members f (t .m)) ∙ sym (length-map (members (t .m) f) (pairAt t home))
-
-  pub visited-few : length (laid (λ j. outerPairs t home (getD home s 0) (getD queue j 0)) k) ≤ t .m
-  unfolding branchingPushed
-  visited-few =
-      let f : ℕ → Bool = λ i. inertly t home s (getD (t .source) i 0) && outerb t home (getD home s 0) i in
-      omega (arith, visited-count, length-map (members (t .m) f) (pairAt t home), length-members f (t .m), many-le (t .m) f)
 
   pub visited-signature : signature (laid (λ j. outerPairs t home (getD home s 0) (getD queue j 0)) k) ≡ signature (branchingPushed t home s)
   unfolding branchingPushed outerPairs
@@ -102,3 +144,27 @@ module _ (t : Lts) (v : Valid t) (home : List ℕ) (s : ℕ) (queue : List ℕ) 
           (Memᴰ·map (pairAt t home)
           (members-in (λ i. eqb (getD (t .source) i 0) (getD queue (r .0) 0) && outerb t home (getD home s 0) i) (t .m) (g .0) (q .0)
           (and-both (eq-eqb _ _ (sym (r .2))) (and-right (inertly t home s x) (outerb t home (getD home s 0) (g .0)) (q .1))))))
+
+-- ---- a search that has pushed the pairs of the states before `head`
+module _ (t : Lts) (home : List ℕ) (b start : ℕ) (marks queue : List ℕ) (head tail : ℕ) (labels blocks : List ℕ) (d : ℕ)
+    (p : Visits t home b start marks queue head tail labels blocks d) where
+  -- there is room for those of the state at `head`
+  pub visits-room : head < tail → d + length (outerPairs t home b (getD queue head 0)) ≤ t .m
+  visits-room h =
+      omega (
+        arith,
+        length-pairs d labels blocks,
+        ap length (p .pushed),
+        laid-up (λ j. outerPairs t home b (getD queue j 0)) head (head + 1) (omega arith),
+        visited-few t home b queue (head + 1) (λ i j a c. p .hunt .once i j (omega (arith, a)) (omega (arith, c))),
+      )
+
+  -- they are pushed, and the queue is longer by then
+  pub visits-more :
+      (qs ls bs : List ℕ) (k : ℕ) → ((j : ℕ) → j < tail → getD qs j 0 ≡ getD queue j 0) → head < tail
+      → pairsOf k ls bs ≡ pairsOf d labels blocks ++ outerPairs t home b (getD queue head 0) → pairsOf k ls bs ≡ outerOf t home b qs (head + 1)
+  visits-more qs ls bs k kept h e =
+      e ∙ ap (λ (l : List Pair). l ++ outerPairs t home b (getD queue head 0)) (p .pushed)
+      ∙ sym (laid-more (λ j. outerPairs t home b (getD queue j 0)) head)
+      ∙ laid-cong (λ j. outerPairs t home b (getD queue j 0)) (λ j. outerPairs t home b (getD qs j 0)) (head + 1)
+      (λ j w. ap (outerPairs t home b) (sym (kept j (omega (arith, w)))))

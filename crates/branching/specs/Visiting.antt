@@ -1,30 +1,19 @@
 -- The states that a state reaches in its block as a search finds them, and what is pushed for each.
-use Prim.Native.Nat.{ℕ, _≤_, _<_}
+use Prim.Native.Nat.{ℕ, _+_, _≤_, _<_}
 use mathlib.Core.Path.{_≡_}
-use mathlib.Core.Bool.{Bool, true, _&&_, cond}
+use mathlib.Core.Bool.{true, _&&_, cond}
 use mathlib.Core.List.{List, map}
 use lib.Dec.{eqb}
-use lib.ListN.{length, getD}
+use lib.ListN.{getD, set}
 use Rattle.columns.specs.Counting.{members}
-use Rattle.columns.specs.Columns.{listed}
+use Rattle.columns.specs.Columns.{laid, listed}
+use Rattle.columns.specs.Rows.{pairsOf}
 use Rattle.columns.specs.Sets.{Pair}
 use Rattle.signatures.specs.Inductive.{inertb}
 use Rattle.signatures.specs.Strong.{pairAt}
-use Rattle.table.specs.Lts.{Lts, Rising}
+use Rattle.table.specs.Lts.{Lts}
 use Rattle.table.specs.Search.{Search}
 use Rattle.branching.specs.Branching.{inertly, outerb}
-
--- m rows of n states in three columns, and the block of each state
-pub record Rowed (n m : ℕ) (source label target home : List ℕ) : Type 0 where
-  pub sources : m ≤ length source
-  pub labels : m ≤ length label
-  pub targets : m ≤ length target
-  pub homes : n ≤ length home
-  pub few : n ≤ 4096
-  pub rows : m ≤ 8192
-  pub rising : Rising source m
-  pub from : (i : ℕ) → i < m → getD source i 0 < n
-  pub to : (i : ℕ) → i < m → getD target i 0 < n
 
 -- the table in which only the hidden rows into block b are hidden
 unfoldable pub inertTable : ℕ → ℕ → List ℕ → List ℕ → List ℕ → List ℕ → ℕ → Lts
@@ -46,10 +35,9 @@ pub record Hunt (t : Lts) (start : ℕ) (marks queue : List ℕ) (head tail : �
   pub once : (i j : ℕ) → i < tail → j < tail → getD queue i 0 ≡ getD queue j 0 → i ≡ j
   pub rest : (k : ℕ) → tail ≤ k → getD queue k 0 ≡ 0
 
--- row i is hidden, leads to block b, and its target is not yet marked
-unfoldable pub freshb : List ℕ → List ℕ → List ℕ → List ℕ → ℕ → ℕ → Bool
-unfolding inertb
-freshb label target home marks b i = inertb label target home b i && eqb (getD marks (getD target i 0) 0) 0
+-- state u is marked and stands behind the first cells of the queue, unless it is marked already: the queue's length, marks and queue
+unfoldable pub appended : ℕ → List ℕ → List ℕ → ℕ → ℕ × (List ℕ × List ℕ)
+appended u marks queue tail = cond (eqb (getD marks u 0) 0) (tail + 1, (set marks u 1, set queue tail u)) (tail, (marks, queue))
 
 -- the first k cells of a column name the states that s reaches in its block, each once
 pub record Lists (t : Lts) (home : List ℕ) (s : ℕ) (queue : List ℕ) (k : ℕ) : Type 0 where
@@ -62,3 +50,12 @@ pub record Lists (t : Lts) (home : List ℕ) (s : ℕ) (queue : List ℕ) (k : �
 unfoldable pub outerPairs : Lts → List ℕ → ℕ → ℕ → List Pair
 unfolding pairAt members outerb
 outerPairs t home b x = map (pairAt t home) (members (t .m) (λ i. eqb (getD (t .source) i 0) x && outerb t home b i))
+
+-- those of the first k states of the queue, state by state
+abbrev pub outerOf : Lts → List ℕ → ℕ → List ℕ → ℕ → List Pair
+outerOf t home b queue k = laid (λ j. outerPairs t home b (getD queue j 0)) k
+
+-- a search in block b, with the d pairs of the first `head` states pushed
+pub record Visits (t : Lts) (home : List ℕ) (b start : ℕ) (marks queue : List ℕ) (head tail : ℕ) (labels blocks : List ℕ) (d : ℕ) : Type 0 where
+  pub hunt : Hunt (inertTable (t .n) (t .m) (t .source) (t .label) (t .target) home b) start marks queue head tail
+  pub pushed : pairsOf d labels blocks ≡ outerOf t home b queue head

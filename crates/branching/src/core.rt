@@ -5,8 +5,8 @@ ghost use mathlib.Core.Logic.{_⊎_};
 ghost use Prim.Native.Nat.{ℕ, _+_, _≤_, _<_};
 ghost use lib.ListN.{length, getD};
 ghost use Rattle.branching.specs.Branching.{branchingPushed};
-ghost use Rattle.branching.specs.Visiting.{Rowed, inertTable, Hunt, freshb, outerPairs};
-ghost use Rattle.columns.specs.Columns.{zeros, laid};
+ghost use Rattle.branching.specs.Visiting.{appended, outerPairs, Visits};
+ghost use Rattle.columns.specs.Columns.{zeros};
 ghost use Rattle.columns.specs.Rows.{pairsOf};
 ghost use Rattle.signatures.specs.Pairs.{signature};
 ghost use Rattle.table.specs.Lts.{lts, Valid};
@@ -15,100 +15,6 @@ use columns::cells::clear;
 use signatures::core::inert;
 use table::Table;
 use table::core::rows_of;
-
-// Whether row i is hidden, leads to block b, and its target is not yet marked.
-fn fresh(
-    label: &[u16],
-    target: &[u16],
-    element_to_block: &[u16],
-    marks: &[u16],
-    b: usize,
-    i: usize,
-) -> bool
-    requires { ⌜ (i < length (now label)) × (i < length (now target)) × (getD (now target) i 0 < length (now «element_to_block»)) × (getD (now target) i 0 < length (now marks)) ⌝ }
-    ensures { λ r. ⌜ r ≡ freshb (now (label .entry)) (now (target .entry)) (now («element_to_block» .entry)) (now (marks .entry)) b i ⌝ }
-{
-    if !inert(label, target, element_to_block, b, i) {
-        return false;
-    }
-    let u = at(target, i);
-    if at(marks, u) == 0 { true } else { false }
-}
-
-// Marks what the state at `head` of the queue leads to by hidden rows into block b, and appends what is new. Returns the queue's new
-// length.
-fn visit(
-    source: &[u16],
-    label: &[u16],
-    target: &[u16],
-    m: usize,
-    element_to_block: &[u16],
-    b: usize,
-    marks: &mut [u16],
-    queue: &mut [u16],
-    head: usize,
-    tail: usize,
-) -> usize
-    requires { ⌜ Rowed (length (now marks)) m (now source) (now label) (now target) (now «element_to_block») × (head < tail) ⌝ }
-    requires { ⌜ Hunt (inertTable (length (now marks)) m (now source) (now label) (now target) (now «element_to_block») b) (getD (now queue) 0 0) (now marks) (now queue) head tail ⌝ }
-    ensures { λ r. ⌜ Hunt (inertTable (length (now (marks .entry))) m (now (source .entry)) (now (label .entry)) (now (target .entry)) (now («element_to_block» .entry)) b) (getD (now (queue .entry)) 0 0) (now (marks .exit)) (now (queue .exit)) (head + 1) r ⌝ }
-{
-    let x = at(&*queue, head);
-    let rows = rows_of(source, m, x);
-    let mut i = rows.first;
-    let end = rows.end;
-    let mut high = tail;
-    while i < end {
-        if fresh(label, target, element_to_block, &*marks, b, i) {
-            let u = at(target, i);
-            marks[u] = 1;
-            queue[high] = u as u16;
-            high += 1;
-            i += 1;
-        } else {
-            i += 1;
-        }
-    }
-    high
-}
-
-// Marks the states that a state reaches by hidden rows that stay in its block, and lists them in the queue. Returns how many.
-fn reach(
-    source: &[u16],
-    label: &[u16],
-    target: &[u16],
-    m: usize,
-    element_to_block: &[u16],
-    state: usize,
-    marks: &mut [u16],
-    queue: &mut [u16],
-) -> usize
-    requires { ⌜ Rowed (length (now marks)) m (now source) (now label) (now target) (now «element_to_block») × (state < length (now marks)) ⌝ }
-    requires { ⌜ (now marks ≡ zeros (length (now marks))) × (length (now marks) ≤ length (now queue)) × (now queue ≡ zeros (length (now queue))) ⌝ }
-    ensures { λ r. ⌜ Hunt (inertTable (length (now (marks .entry))) m (now (source .entry)) (now (label .entry)) (now (target .entry)) (now («element_to_block» .entry)) (getD (now («element_to_block» .entry)) state 0)) state (now (marks .exit)) (now (queue .exit)) r r ⌝ }
-{
-    let b = at(element_to_block, state);
-    marks[state] = 1;
-    queue[0] = state as u16;
-    let mut head = 0;
-    let mut tail = 1;
-    while head < tail {
-        tail = visit(
-            source,
-            label,
-            target,
-            m,
-            element_to_block,
-            b,
-            &mut *marks,
-            &mut *queue,
-            head,
-            tail,
-        );
-        head += 1;
-    }
-    tail
-}
 
 // The pairs of the rows of x that are visible or lead to another block than b, behind the first d pairs. Returns the number of pairs
 // then.
@@ -147,43 +53,119 @@ pub fn push_outer(
     k
 }
 
-// The same for each of the first states of the queue, one after the other.
-fn push_all(
+// How far a search has come: how many states stand in the queue, and how many pairs are pushed.
+struct Reached {
+    tail: usize,
+    pairs: usize,
+}
+
+// Marks state u and puts it behind the first `tail` cells of the queue, unless it is marked already. Returns the queue's new length.
+fn append(marks: &mut [u16], queue: &mut [u16], tail: usize, u: usize) -> usize
+    requires { ⌜ (u < length (now marks)) × (u < 65536) × (tail < 65536) × (getD (now marks) u 0 ≡ 0 → tail < length (now queue)) ⌝ }
+    ensures { λ r. ⌜ (r, (now (marks .exit), now (queue .exit))) ≡ appended u (now (marks .entry)) (now (queue .entry)) tail ⌝ }
+{
+    if at(&*marks, u) != 0 {
+        return tail;
+    }
+    marks[u] = 1;
+    queue[tail] = u as u16;
+    tail + 1
+}
+
+// The rows of the state at `head` of the queue: the target of a hidden row into block b is marked and appended, if it is new; the pair
+// of any other row is pushed behind the first d pairs.
+fn visit(
     table: Table,
     source: &[u16],
     label: &[u16],
     target: &[u16],
     element_to_block: &[u16],
     b: usize,
-    queue: &[u16],
-    tail: usize,
     pushed_labels: &mut [u16],
     pushed_blocks: &mut [u16],
-) -> usize
-    requires { ⌜ Valid (lts table (now source) (now label) (now target)) × (tail ≤ length (now queue)) × (table .n ≤ length (now «element_to_block»)) ⌝ }
-    requires { ⌜ ((j : ℕ) → j < tail → getD (now queue) j 0 < table .n) ⌝ }
-    requires { ⌜ (length (laid (λ j. outerPairs (lts table (now source) (now label) (now target)) (now «element_to_block») b (getD (now queue) j 0)) tail) ≤ length (now «pushed_labels»)) × (length (laid (λ j. outerPairs (lts table (now source) (now label) (now target)) (now «element_to_block») b (getD (now queue) j 0)) tail) ≤ length (now «pushed_blocks»)) × (length (laid (λ j. outerPairs (lts table (now source) (now label) (now target)) (now «element_to_block») b (getD (now queue) j 0)) tail) ≤ 65536) ⌝ }
-    ensures { λ r. ⌜ pairsOf r (now («pushed_labels» .exit)) (now («pushed_blocks» .exit)) ≡ laid (λ j. outerPairs (lts table (now (source .entry)) (now (label .entry)) (now (target .entry))) (now («element_to_block» .entry)) b (getD (now (queue .entry)) j 0)) tail ⌝ }
+    d: usize,
+    marks: &mut [u16],
+    queue: &mut [u16],
+    head: usize,
+    tail: usize,
+) -> Reached
+    requires { ⌜ Valid (lts table (now source) (now label) (now target)) × (table .n ≤ length (now «element_to_block»)) × (head < tail) ⌝ }
+    requires { ⌜ (table .m ≤ length (now «pushed_labels»)) × (table .m ≤ length (now «pushed_blocks»)) ⌝ }
+    requires { ⌜ Visits (lts table (now source) (now label) (now target)) (now «element_to_block») b (getD (now queue) 0 0) (now marks) (now queue) head tail (now «pushed_labels») (now «pushed_blocks») d ⌝ }
+    ensures { λ r. ⌜ Visits (lts table (now (source .entry)) (now (label .entry)) (now (target .entry))) (now («element_to_block» .entry)) b (getD (now (queue .entry)) 0 0) (now (marks .exit)) (now (queue .exit)) (head + 1) (r .tail) (now («pushed_labels» .exit)) (now («pushed_blocks» .exit)) (r .pairs) ⌝ }
 {
-    let mut k = 0;
+    let m = table.m as usize;
+    let x = at(&*queue, head);
+    let rows = rows_of(source, m, x);
+    let mut i = rows.first;
+    let end = rows.end;
+    let mut high = tail;
+    let mut k = d;
+    while i < end {
+        let u = at(target, i);
+        let stays = inert(label, target, element_to_block, b, i);
+        if stays {
+            high = append(&mut *marks, &mut *queue, high, u);
+            i += 1;
+        } else {
+            pushed_labels[k] = label[i];
+            pushed_blocks[k] = element_to_block[u];
+            k += 1;
+            i += 1;
+        }
+    }
+    Reached {
+        tail: high,
+        pairs: k,
+    }
+}
+
+// Marks the states that a state reaches by hidden rows that stay in its block, lists them in the queue, and pushes the pairs of their
+// other rows, state by state.
+fn reach(
+    table: Table,
+    source: &[u16],
+    label: &[u16],
+    target: &[u16],
+    element_to_block: &[u16],
+    state: usize,
+    pushed_labels: &mut [u16],
+    pushed_blocks: &mut [u16],
+    marks: &mut [u16],
+    queue: &mut [u16],
+) -> Reached
+    requires { ⌜ Valid (lts table (now source) (now label) (now target)) × (state < table .n) × (table .n ≤ length (now «element_to_block»)) ⌝ }
+    requires { ⌜ (table .m ≤ length (now «pushed_labels»)) × (table .m ≤ length (now «pushed_blocks»)) ⌝ }
+    requires { ⌜ (length (now marks) ≡ table .n) × (table .n ≤ length (now queue)) × (now marks ≡ zeros (length (now marks))) × (now queue ≡ zeros (length (now queue))) ⌝ }
+    ensures { λ r. ⌜ Visits (lts table (now (source .entry)) (now (label .entry)) (now (target .entry))) (now («element_to_block» .entry)) (getD (now («element_to_block» .entry)) state 0) state (now (marks .exit)) (now (queue .exit)) (r .tail) (r .tail) (now («pushed_labels» .exit)) (now («pushed_blocks» .exit)) (r .pairs) ⌝ }
+{
+    let b = at(element_to_block, state);
+    marks[state] = 1;
+    queue[0] = state as u16;
+    let mut head = 0;
+    let mut tail = 1;
     let mut d = 0;
-    while k < tail {
-        let x = at(queue, k);
-        d = push_outer(
+    while head < tail {
+        let reached = visit(
             table,
             source,
             label,
             target,
             element_to_block,
             b,
-            x,
             &mut *pushed_labels,
             &mut *pushed_blocks,
             d,
+            &mut *marks,
+            &mut *queue,
+            head,
+            tail,
         );
-        k += 1;
+        tail = reached.tail;
+        d = reached.pairs;
+        head += 1;
     }
-    d
+    Reached { tail, pairs: d }
 }
 
 // The marks of the first states of the queue, which are all there are, become zero.
@@ -220,31 +202,20 @@ pub fn push_branching(
     ensures { λ r. ⌜ (r ≡ length (branchingPushed (lts table (now (source .entry)) (now (label .entry)) (now (target .entry))) (now («element_to_block» .entry)) state)) × (signature (pairsOf r (now («pushed_labels» .exit)) (now («pushed_blocks» .exit))) ≡ signature (branchingPushed (lts table (now (source .entry)) (now (label .entry)) (now (target .entry))) (now («element_to_block» .entry)) state)) × (r ≤ table .m) ⌝ }
     ensures { λ _. ⌜ (now (marks .exit) ≡ zeros (length (now (marks .entry)))) × (now (queue .exit) ≡ zeros (length (now (queue .entry)))) ⌝ }
 {
-    let m = table.m as usize;
-    let b = at(element_to_block, state);
-    let tail = reach(
-        source,
-        label,
-        target,
-        m,
-        element_to_block,
-        state,
-        &mut *marks,
-        &mut *queue,
-    );
-    let d = push_all(
+    let reached = reach(
         table,
         source,
         label,
         target,
         element_to_block,
-        b,
-        &*queue,
-        tail,
+        state,
         pushed_labels,
         pushed_blocks,
+        &mut *marks,
+        &mut *queue,
     );
+    let tail = reached.tail;
     unmark(&mut *marks, &*queue, tail);
     clear(&mut queue[..tail]);
-    d
+    reached.pairs
 }
