@@ -1,5 +1,4 @@
 pub mod Visited
-pub mod Hunting
 pub mod Unmarking
 pub mod Endings
 pub mod MoreWorks

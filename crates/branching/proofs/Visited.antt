@@ -1,10 +1,10 @@
 -- Pairs pushed state by state: how many there are for states that are told apart, and that for the states that are reached they are as many
 -- as the definition's, and the same ones.
-use Prim.Native.Nat.{ℕ, zero, suc, _+_, _≤_, _<_}
+use Prim.Native.Nat.{ℕ, _+_, _≤_, _<_}
 use native.Mathlib.Omega.{arith}
 use borrow.Author.Tests.{eqb-true, eq-eqb}
-use mathlib.Core.Path.{_≡_, refl, ap, ap₂, sym, subst, _∙_}
-use mathlib.Core.Bool.{Bool, true, false, _&&_, cond}
+use mathlib.Core.Path.{_≡_, refl, ap, sym, subst, _∙_}
+use mathlib.Core.Bool.{Bool, true, false, _&&_}
 use mathlib.Core.List.{List, _++_, Memᴰ·map, Memᴰ·of-map}
 use lib.Dec.{eqb}
 use lib.ListN.{length, length-map, getD}
@@ -13,8 +13,8 @@ use Rattle.columns.specs.Counting.{sum, many, members}
 use Rattle.columns.specs.Rows.{pairsOf}
 use Rattle.columns.specs.Sets.{Mem, Pair}
 use Rattle.columns.proofs.Bools.{and-left, and-right, and-both, contra, fails}
-use Rattle.columns.proofs.Counting.{one-if, one-if-true, one-if-false, many-sum, many-nothing, many-strict}
-use Rattle.columns.proofs.Laid.{laid-more, laid-up, length-laid, laid-in, laid-out}
+use Rattle.columns.proofs.Counting.{one-if, one-if-true, one-if-false, many-sum, many-nothing, many-once, many-strict}
+use Rattle.columns.proofs.Laid.{laid-more, laid-cong, laid-up, length-laid, laid-in, laid-out}
 use Rattle.columns.proofs.Members.{length-members, members-in, members-out}
 use Rattle.columns.proofs.Sums.{sum-cong, sum-mono, sum-one, sum-swap}
 use Rattle.columns.proofs.TwoColumns.{length-pairs}
@@ -24,24 +24,6 @@ use Rattle.signatures.proofs.Sigs.{sig-same}
 use Rattle.table.specs.Lts.{Lts, Valid}
 use Rattle.branching.specs.Branching.{inertly, outerb, branchingPushed}
 use Rattle.branching.specs.Visiting.{outerPairs, outerOf, Lists, Visits}
-
--- what passes at one place only
-once-few : (k : ℕ) (f : ℕ → Bool) → ((i j : ℕ) → i < k → j < k → f i ≡ true → f j ≡ true → i ≡ j) → many k f ≤ 1
-unfolding many
-once-few zero f u = omega arith
-once-few (suc k) f u = go (once-few k f (λ i j a c. u i j (omega (arith, a)) (omega (arith, c)))) (f k) refl
-  where
-    lt-ne : {a b : ℕ} → a < b → a ≡ b → ⊥
-    lt-ne h q = omega arith
-
-    go : many k f ≤ 1 → (t : Bool) → f k ≡ t → many k f + cond t 1 0 ≤ 1
-    go h true q = omega (arith, many-nothing k f (λ j w. fails (λ e. lt-ne w (u j k (omega (arith, w)) (omega arith) e q))))
-    go h false q = omega (arith, h)
-
-pub laid-cong : {A : Type 0} (g h : ℕ → List A) (k : ℕ) → ((j : ℕ) → j < k → g j ≡ h j) → laid g k ≡ laid h k
-unfolding laid
-laid-cong g h zero e = refl
-laid-cong g h (suc k) e = ap₂ (λ x y. x ++ y) (laid-cong g h k (λ j w. e j (omega (arith, w)))) (e k (omega arith))
 
 pub length-outer : (t : Lts) (home : List ℕ) (b x : ℕ) → length (outerPairs t home b x) ≡ many (t .m) (λ i. eqb (getD (t .source) i 0) x && outerb t home b i)
 unfolding outerPairs
@@ -65,7 +47,7 @@ module _ (t : Lts) (home : List ℕ) (b : ℕ) (queue : List ℕ) (k : ℕ) wher
     -- a row is counted for one state at most
     row-few : (x : ℕ) (o : Bool) → many k (λ j. eqb x (getD queue j 0) && o) ≤ 1
     row-few x o =
-        once-few k (λ j. eqb x (getD queue j 0) && o)
+        many-once k (λ j. eqb x (getD queue j 0) && o)
         (λ i j a c p q.
         once i j a c
         (sym (eqb-true x (getD queue i 0) (and-left (eqb x (getD queue i 0)) o p)) ∙ eqb-true x (getD queue j 0) (and-left (eqb x (getD queue j 0)) o q)))
@@ -156,7 +138,7 @@ module _ (t : Lts) (home : List ℕ) (b start : ℕ) (marks queue : List ℕ) (h
         length-pairs d labels blocks,
         ap length (p .pushed),
         laid-up (λ j. outerPairs t home b (getD queue j 0)) head (head + 1) (omega arith),
-        visited-few t home b queue (head + 1) (λ i j a c. p .hunt .once i j (omega (arith, a)) (omega (arith, c))),
+        visited-few t home b queue (head + 1) (λ i j a c. p .search .once i j (omega (arith, a)) (omega (arith, c))),
       )
 
   -- they are pushed, and the queue is longer by then

@@ -1,9 +1,8 @@
 -- The branching signature: over states reached by hidden steps that stay in the state's block, all visible steps, and hidden steps into
 -- other blocks.
 use Prim.Native.Nat.{ℕ}
-use mathlib.Core.Bool.{Bool, true, not, _&&_}
+use mathlib.Core.Bool.{Bool, not, _&&_}
 use mathlib.Core.List.{List, map}
-use lib.Dec.{eqb}
 use lib.ListN.{getD}
 use Rattle.columns.specs.Answers.{Said, none}
 use Rattle.columns.specs.Counting.{members}
@@ -14,12 +13,12 @@ use Rattle.signatures.specs.Pairs.{Columns, signature}
 use Rattle.signatures.specs.Signing.{Left, roomy, signing, signatureRefusal}
 use Rattle.signatures.specs.Strong.{pairAt}
 use Rattle.table.specs.Lts.{Lts}
-use Rattle.table.specs.Reach.{via, edge}
+use Rattle.table.specs.Reach.{via, someRow}
 
 -- a hidden step from u to v, which is in block b; `home` has the block of each state
 unfoldable pub inertEdge : Lts → List ℕ → ℕ → ℕ → ℕ → Bool
-unfolding edge
-inertEdge t home b u v = edge t true u v && eqb (getD home v 0) b
+unfolding someRow inertb
+inertEdge t home b = someRow (t .m) (t .source) (t .target) (inertb (t .label) (t .target) home b)
 
 -- s reaches u by hidden steps that stay in the block of s
 unfoldable pub inertly : Lts → List ℕ → ℕ → ℕ → Bool

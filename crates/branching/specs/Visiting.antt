@@ -1,43 +1,18 @@
 -- The states that a state reaches in its block as a search finds them, and what is pushed for each.
-use Prim.Native.Nat.{ℕ, _+_, _≤_, _<_}
+use Prim.Native.Nat.{ℕ, _≤_, _<_}
 use mathlib.Core.Path.{_≡_}
-use mathlib.Core.Bool.{true, _&&_, cond}
+use mathlib.Core.Bool.{true, _&&_}
 use mathlib.Core.List.{List, map}
 use lib.Dec.{eqb}
-use lib.ListN.{getD, set}
+use lib.ListN.{getD}
 use Rattle.columns.specs.Counting.{members}
-use Rattle.columns.specs.Columns.{laid, listed}
+use Rattle.columns.specs.Columns.{laid}
 use Rattle.columns.specs.Rows.{pairsOf}
 use Rattle.columns.specs.Sets.{Pair}
-use Rattle.signatures.specs.Inductive.{inertb}
 use Rattle.signatures.specs.Strong.{pairAt}
 use Rattle.table.specs.Lts.{Lts}
 use Rattle.table.specs.Search.{Search}
-use Rattle.branching.specs.Branching.{inertly, outerb}
-
--- the table in which only the hidden rows into block b are hidden
-unfoldable pub inertTable : ℕ → ℕ → List ℕ → List ℕ → List ℕ → List ℕ → ℕ → Lts
-unfolding listed inertb
-inertTable n m source label target home b =
-    record {
-      n = n;
-      labels = 2;
-      m = m;
-      initial = 0;
-      source = source;
-      label = listed m (λ i. cond (inertb label target home b i) 0 1);
-      target = target;
-    }
-
--- a search along these rows, in whose queue no state stands twice, and nothing behind the last
-pub record Hunt (t : Lts) (start : ℕ) (marks queue : List ℕ) (head tail : ℕ) : Type 0 where
-  pub search : Search t true start marks queue head tail
-  pub once : (i j : ℕ) → i < tail → j < tail → getD queue i 0 ≡ getD queue j 0 → i ≡ j
-  pub rest : (k : ℕ) → tail ≤ k → getD queue k 0 ≡ 0
-
--- state u is marked and stands behind the first cells of the queue, unless it is marked already: the queue's length, marks and queue
-unfoldable pub appended : ℕ → List ℕ → List ℕ → ℕ → ℕ × (List ℕ × List ℕ)
-appended u marks queue tail = cond (eqb (getD marks u 0) 0) (tail + 1, (set marks u 1, set queue tail u)) (tail, (marks, queue))
+use Rattle.branching.specs.Branching.{inertEdge, inertly, outerb}
 
 -- the first k cells of a column name the states that s reaches in its block, each once
 pub record Lists (t : Lts) (home : List ℕ) (s : ℕ) (queue : List ℕ) (k : ℕ) : Type 0 where
@@ -55,7 +30,8 @@ outerPairs t home b x = map (pairAt t home) (members (t .m) (λ i. eqb (getD (t 
 abbrev pub outerOf : Lts → List ℕ → ℕ → List ℕ → ℕ → List Pair
 outerOf t home b queue k = laid (λ j. outerPairs t home b (getD queue j 0)) k
 
--- a search in block b, with the d pairs of the first `head` states pushed
+-- a search in block b, with nothing in the queue behind the last state, and the d pairs of the first `head` states pushed
 pub record Visits (t : Lts) (home : List ℕ) (b start : ℕ) (marks queue : List ℕ) (head tail : ℕ) (labels blocks : List ℕ) (d : ℕ) : Type 0 where
-  pub hunt : Hunt (inertTable (t .n) (t .m) (t .source) (t .label) (t .target) home b) start marks queue head tail
+  pub search : Search (inertEdge t home b) (t .n) start marks queue head tail
+  pub rest : (k : ℕ) → tail ≤ k → getD queue k 0 ≡ 0
   pub pushed : pairsOf d labels blocks ≡ outerOf t home b queue head

@@ -5,7 +5,7 @@ ghost use mathlib.Core.Logic.{_⊎_};
 ghost use Prim.Native.Nat.{ℕ, _+_, _≤_, _<_};
 ghost use lib.ListN.{length, getD};
 ghost use Rattle.branching.specs.Branching.{branchingPushed};
-ghost use Rattle.branching.specs.Visiting.{appended, outerPairs, Visits};
+ghost use Rattle.branching.specs.Visiting.{outerPairs, Visits};
 ghost use Rattle.columns.specs.Columns.{zeros};
 ghost use Rattle.columns.specs.Rows.{pairsOf};
 ghost use Rattle.signatures.specs.Pairs.{signature};
@@ -14,6 +14,7 @@ use columns::cells::at;
 use columns::cells::clear;
 use signatures::core::inert;
 use table::Table;
+use table::core::append;
 use table::core::rows_of;
 
 // The pairs of the rows of x that are visible or lead to another block than b, behind the first d pairs. Returns the number of pairs
@@ -57,19 +58,6 @@ pub fn push_outer(
 struct Reached {
     tail: usize,
     pairs: usize,
-}
-
-// Marks state u and puts it behind the first `tail` cells of the queue, unless it is marked already. Returns the queue's new length.
-fn append(marks: &mut [u16], queue: &mut [u16], tail: usize, u: usize) -> usize
-    requires { ⌜ (u < length (now marks)) × (u < 65536) × (tail < 65536) × (getD (now marks) u 0 ≡ 0 → tail < length (now queue)) ⌝ }
-    ensures { λ r. ⌜ (r, (now (marks .exit), now (queue .exit))) ≡ appended u (now (marks .entry)) (now (queue .entry)) tail ⌝ }
-{
-    if at(&*marks, u) != 0 {
-        return tail;
-    }
-    marks[u] = 1;
-    queue[tail] = u as u16;
-    tail + 1
 }
 
 // The rows of the state at `head` of the queue: the target of a hidden row into block b is marked and appended, if it is new; the pair

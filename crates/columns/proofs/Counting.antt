@@ -9,7 +9,7 @@ use mathlib.Core.Path.{_≡_, refl, ap, sym, _∙_}
 use mathlib.Core.Logic.{⊎-elim}
 use lib.Dec.{eqb}
 use Rattle.columns.specs.Counting.{sum, many, first}
-use Rattle.columns.proofs.Bools.{cases, contra}
+use Rattle.columns.proofs.Bools.{cases, contra, fails}
 use Rattle.columns.proofs.All.{top-or-below, same-or-not, lt-or-le, not-below}
 use Rattle.columns.proofs.Sums.{sum-mono, sum-cong, sum-tight, sum-add, sum-zero, sum-one}
 
@@ -114,6 +114,23 @@ many-miss m f h = rw h (omega arith)
 pub many-all : (n : ℕ) (f : ℕ → Bool) → ((k : ℕ) → k < n → f k ≡ true) → many n f ≡ n
 many-all zero f h = many-none f
 many-all (suc n) f h = many-hit n f (h n (omega arith)) ∙ ap suc (many-all n f (λ k l. h k (omega arith)))
+
+-- what passes at one place only
+pub many-once : (n : ℕ) (f : ℕ → Bool) → ((i j : ℕ) → i < n → j < n → f i ≡ true → f j ≡ true → i ≡ j) → many n f ≤ 1
+many-once zero f u = omega (arith, many-none f)
+many-once (suc n) f u = go (many-once n f (λ i j a c. u i j (omega (arith, a)) (omega (arith, c)))) (f n) refl
+  where
+    lt-ne : {a b : ℕ} → a < b → a ≡ b → ⊥
+    lt-ne h q = omega arith
+
+    go : many n f ≤ 1 → (t : Bool) → f n ≡ t → many (suc n) f ≤ 1
+    go h true q =
+        omega (
+          arith,
+          many-hit n f q,
+          many-nothing n f (λ k w. fails (λ e. lt-ne w (u k n (omega (arith, w)) (omega arith) e q))),
+        )
+    go h false q = omega (arith, many-miss n f q)
 
 -- one more number passes
 pub many-one-more :

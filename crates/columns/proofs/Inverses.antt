@@ -1,10 +1,10 @@
 -- Laws of `Inverse`: its test, two cells of a permutation exchanged and its inverse with it, sums over a permutation, and that
 -- what is an inverse one way is an inverse the other way.
-use Prim.Native.Nat.{ℕ, zero, suc, _+_, _≤_, _<_}
+use Prim.Native.Nat.{ℕ, _≤_, _<_}
 use native.Mathlib.Omega.{arith}
-use borrow.Author.Tests.{ltb-true, eqb-true, lt-ltb, eq-eqb, ne-eqb}
-use mathlib.Core.Bool.{Bool, true, false, cond}
-use mathlib.Core.Path.{_≡_, refl, ap, sym, subst, _∙_}
+use borrow.Author.Tests.{ltb-true, eqb-true, lt-ltb, eq-eqb}
+use mathlib.Core.Bool.{Bool, true, cond}
+use mathlib.Core.Path.{_≡_, ap, sym, subst, _∙_}
 use mathlib.Core.Logic.{⊎-elim}
 use mathlib.Core.List.{List}
 use lib.ListN.{length, getD, set, length-set}
@@ -16,7 +16,7 @@ use Rattle.columns.specs.Inverse.{Inverse, inverseAt, inverseb, swappedI
 use Rattle.columns.proofs.Bools.{and-left, and-right, and-both}
 use Rattle.columns.proofs.All.{all-at, all-of, same-or-not}
 use Rattle.columns.proofs.Sums.{sum-cong, sum-swap, sum-tight, sum-one}
-use Rattle.columns.proofs.Counting.{one-if, many-sum, many-nothing, many-some, Found, sum-pick, eqb-same}
+use Rattle.columns.proofs.Counting.{one-if, many-sum, many-once, many-some, Found, sum-pick, eqb-same}
 use Rattle.columns.proofs.Swaps.{two-last, two-first, two-other, swapped-i, swapped-j, swapped-other}
 
 pub inverse-of : (a b : List ℕ) (n : ℕ) → inverseb a b n ≡ true → Inverse a b n
@@ -58,21 +58,11 @@ module _ (o e : List ℕ) (n : ℕ) (io : Inverse o e n) where
   hits : ℕ → ℕ
   hits k = many n (λ s. eqb (getD o s 0) k)
 
-  few : (m : ℕ) → m ≤ n → (k : ℕ) → many m (λ s. eqb (getD o s 0) k) ≤ 1
-  unfolding many
-  few zero h k = omega arith
-  few (suc m) h k = go (few m (omega arith) k) (eqb (getD o m 0) k) refl
-    where
-      go : many m (λ s. eqb (getD o s 0) k) ≤ 1 → (t : Bool) → eqb (getD o m 0) k ≡ t → many m (λ s. eqb (getD o s 0) k) + cond t 1 0 ≤ 1
-      go ih true q =
-          let z : many m (λ s. eqb (getD o s 0) k) ≡ 0
-          = many-nothing m (λ s. eqb (getD o s 0) k)
-          (λ s w. ne-eqb (getD o s 0) k (λ r. lt-ne w (only-once o e n io s m (omega arith) (omega arith) (r ∙ sym (eqb-true (getD o m 0) k q))))) in
-          omega (arith, z)
-        where
-          lt-ne : {a b : ℕ} → a < b → a ≡ b → ⊥
-          lt-ne h q = omega arith
-      go ih false q = omega (arith, ih)
+  few : (k : ℕ) → hits k ≤ 1
+  unfolding hits
+  few k =
+      many-once n (λ s. eqb (getD o s 0) k)
+      (λ i j a c p q. only-once o e n io i j a c (eqb-true (getD o i 0) k p ∙ sym (eqb-true (getD o j 0) k q)))
 
   all-hits : sum hits n ≡ n
   unfolding hits
@@ -84,7 +74,7 @@ module _ (o e : List ℕ) (n : ℕ) (io : Inverse o e n) where
 
   one : (k : ℕ) → k < n → hits k ≡ 1
   unfolding hits
-  one k w = sum-tight hits (λ _. 1) n (λ j _. few n (omega arith) j) (all-hits ∙ sym (sum-one n)) k w
+  one k w = sum-tight hits (λ _. 1) n (λ j _. few j) (all-hits ∙ sym (sum-one n)) k w
 
   pub other-way : Inverse e o n
   unfolding hits

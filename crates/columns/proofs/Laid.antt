@@ -2,7 +2,7 @@
 use Prim.Native.Nat.{ℕ, zero, suc, _+_, _≤_, _<_}
 use native.Mathlib.Numerals.{add-one}
 use native.Mathlib.Omega.{arith}
-use mathlib.Core.Path.{_≡_, refl, ap, _∙_}
+use mathlib.Core.Path.{_≡_, refl, ap, ap₂, _∙_}
 use mathlib.Core.Logic.{⊎-elim}
 use mathlib.Core.List.{List, [], _++_, List·Memᴰ·not-nil, List·Memᴰ·append-cases, Memᴰ·append-left, Memᴰ·append-right}
 use lib.ListN.{length, length-append}
@@ -19,6 +19,11 @@ module _ {A : Type 0} (h : ℕ → List A) where
   pub laid-more : (k : ℕ) → laid h (k + 1) ≡ laid h k ++ h k
   unfolding laid
   laid-more k = rw add-one
+
+  pub laid-cong : (g : ℕ → List A) (k : ℕ) → ((j : ℕ) → j < k → h j ≡ g j) → laid h k ≡ laid g k
+  unfolding laid
+  laid-cong g zero e = refl
+  laid-cong g (suc k) e = ap₂ (λ x y. x ++ y) (laid-cong g k (λ j w. e j (omega (arith, w)))) (e k (omega arith))
 
   pub length-laid : (k : ℕ) → length (laid h k) ≡ sum (λ j. length (h j)) k
   unfolding laid sum

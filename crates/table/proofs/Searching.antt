@@ -1,9 +1,9 @@
 -- Laws of the search: how it starts, what a new state and a finished one add, and what stands at its end.
 use mathlib.Core.Path.{_≡_, refl, sym, ap, _∙_, subst}
-use mathlib.Core.Logic.{_⊎_, inl, inr, ⊎-elim}
-use mathlib.Core.Bool.{Bool, true, false}
+use mathlib.Core.Logic.{_⊎_, inl, inr, _↔_, ⊎-elim}
+use mathlib.Core.Bool.{Bool, true, false, cond}
 use mathlib.Core.List.{List}
-use Prim.Native.Nat.{ℕ, zero, suc, _+_, _≤_, _<_}
+use Prim.Native.Nat.{ℕ, suc, _+_, _≤_, _<_}
 use native.Mathlib.Omega.{arith}
 use borrow.Author.Tests.{eqb-true, eqb-false, eq-eqb, ne-eqb, ltb-true}
 use lib.Dec.{eqb, ltb}
@@ -13,65 +13,69 @@ use Rattle.columns.specs.Answers.{bit, refusal, none, unless}
 use Rattle.columns.specs.Columns.{listed, zeros}
 use Rattle.columns.specs.Counting.{many}
 use Rattle.columns.proofs.All.{top-or-below, same-or-not}
-use Rattle.columns.proofs.Bools.{contra, bool-ext, and-left, and-right, and-both}
-use Rattle.columns.proofs.Counting.{many-one-more, many-hit, many-cong, many-le, many-nothing}
+use Rattle.columns.proofs.Bools.{bool-ext}
+use Rattle.columns.proofs.Counting.{many-one-more, many-cong, many-le, many-nothing}
 use Rattle.columns.proofs.Lists.{length-listed, listed-at, zeros-at}
-use Rattle.table.specs.Lts.{Lts, Valid}
+use Rattle.table.specs.Lts.{Lts, Valid, Rising}
 use Rattle.table.specs.Checks.{roomb}
-use Rattle.table.specs.Reach.{Walk, stop, along, takes, edge, reaches, reachRefusal}
-use Rattle.table.specs.Search.{Search, freshb}
+use Rattle.table.specs.Reach.{Walk, stop, along, someRow, edge, reaches, reachRefusal}
+use Rattle.table.specs.Search.{Search, appended}
 use Rattle.table.specs.Stretch.{firstRow}
 use Rattle.table.proofs.Refusals.{checked-of, room-of}
-use Rattle.table.proofs.Stretches.{rising, stretch, first-row-most}
+use Rattle.table.proofs.Stretches.{stretch, first-row-most}
 use Rattle.table.proofs.Walks.{joined, edge-row, row-edge, reaches-walk}
 
 -- ---- one cell of a list set
 set-here : (l : List ℕ) (i x k : ℕ) → i < length l → k ≡ i → getD (set l i x) k 0 ≡ x
 set-here l i x k h e = ap (λ (j : ℕ). getD (set l i x) j 0) e ∙ getD-set-same l i x 0 h
 
-module _ (t : Lts) (hidden : Bool) where
+module _ (edge : ℕ → ℕ → Bool) (n : ℕ) where
   -- ---- the start
-  module _ (s : ℕ) (queue : List ℕ) (h : s < t .n) (room : t .n ≤ length queue) where
+  module _ (s : ℕ) (queue : List ℕ) (h : s < n) (room : n ≤ length queue) where
     marks₀ : List ℕ
-    marks₀ = set (zeros (t .n)) s 1
+    marks₀ = set (zeros n) s 1
 
     mark-here : (u : ℕ) → u ≡ s → getD marks₀ u 0 ≡ 1
     unfolding marks₀
-    mark-here u e = set-here (zeros (t .n)) s 1 u (omega (arith, h, length-replicate {A = ℕ} (t .n) 0)) e
+    mark-here u e = set-here (zeros n) s 1 u (omega (arith, h, length-replicate {A = ℕ} n 0)) e
 
     mark-else : (u : ℕ) → (u ≡ s → ⊥) → getD marks₀ u 0 ≡ 0
     unfolding marks₀
-    mark-else u n = getD-set-other (zeros (t .n)) s u 1 0 n ∙ zeros-at (t .n) u
+    mark-else u o = getD-set-other (zeros n) s u 1 0 o ∙ zeros-at n u
 
     mark-only : (u : ℕ) → getD marks₀ u 0 ≡ 1 → u ≡ s
-    mark-only u e = ⊎-elim (λ (q : u ≡ s). q) (λ (n : u ≡ s → ⊥). absurd (omega (arith, e, mark-else u n))) (same-or-not u s)
+    mark-only u e = ⊎-elim (λ (q : u ≡ s). q) (λ (o : u ≡ s → ⊥). absurd (omega (arith, e, mark-else u o))) (same-or-not u s)
 
     queue-first : (k : ℕ) → k < 1 → getD (set queue 0 s) k 0 ≡ s
     queue-first k w = set-here queue 0 s k (omega arith) (omega arith)
 
-    pub search-start : Search t hidden s (set (zeros (t .n)) s 1) (set queue 0 s) 0 1
+    pub search-start : Search edge n s (set (zeros n) s 1) (set queue 0 s) 0 1
     unfolding marks₀
     search-start = record {
-      size = simp length-set (length-replicate {A = ℕ} (t .n) 0);
+      size = simp length-set (length-replicate {A = ℕ} n 0);
       room = simp length-set room;
       some = omega arith;
       low = omega arith;
       first = queue-first 0 (omega arith);
-      flags = λ u. ⊎-elim (λ (q : u ≡ s). omega (arith, mark-here u q)) (λ (n : u ≡ s → ⊥). omega (arith, mark-else u n)) (same-or-not u s);
+      flags = λ u. ⊎-elim (λ (q : u ≡ s). omega (arith, mark-here u q)) (λ (o : u ≡ s → ⊥). omega (arith, mark-else u o)) (same-or-not u s);
       counted =
           sym
-          (many-one-more (t .n) s (λ _. false) (λ u. eqb (getD marks₀ u 0) 1) h refl (eq-eqb _ _ (mark-here s refl)) (λ k n. ne-eqb _ _ (λ e. n (mark-only k e)))
-          ∙ ap suc (many-nothing (t .n) (λ _. false) (λ k w. refl)));
+          (many-one-more n s (λ _. false) (λ u. eqb (getD marks₀ u 0) 1) h refl (eq-eqb _ _ (mark-here s refl)) (λ k o. ne-eqb _ _ (λ e. o (mark-only k e)))
+          ∙ ap suc (many-nothing n (λ _. false) (λ k w. refl)));
       state = λ k w. omega (arith, queue-first k w, h);
+      once = λ i j a c e. omega (arith, a, c);
       marked = λ k w. mark-here (getD (set queue 0 s) k 0) (queue-first k w);
       queued = λ u e. (0, omega arith, queue-first 0 (omega arith) ∙ sym (mark-only u e));
-      sound = λ u e. subst (λ (x : ℕ). Walk (edge t hidden) s x) (sym (mark-only u e)) stop;
+      sound = λ u e. subst (λ (x : ℕ). Walk edge s x) (sym (mark-only u e)) stop;
       closed = λ k w. absurd (omega (arith, w));
     }
 
-  module _ (start : ℕ) (marks queue : List ℕ) (head tail : ℕ) (s : Search t hidden start marks queue head tail) where
+  module _ (start : ℕ) (marks queue : List ℕ) (head tail : ℕ) (s : Search edge n start marks queue head tail) where
+    pub search-few : tail ≤ n
+    search-few = omega (arith, s .counted, many-le n (λ u. eqb (getD marks u 0) 1))
+
     -- ---- a new state
-    module _ (u : ℕ) (h : u < t .n) (z : getD marks u 0 ≡ 0) (w : Walk (edge t hidden) start u) where
+    module _ (u : ℕ) (h : u < n) (z : getD marks u 0 ≡ 0) (w : Walk edge start u) where
       marks′ : List ℕ
       marks′ = set marks u 1
 
@@ -81,19 +85,19 @@ module _ (t : Lts) (hidden : Bool) where
 
       new-else : (k : ℕ) → (k ≡ u → ⊥) → getD marks′ k 0 ≡ getD marks k 0
       unfolding marks′
-      new-else k n = getD-set-other marks u k 1 0 n
+      new-else k o = getD-set-other marks u k 1 0 o
 
       grows : (k : ℕ) → getD marks k 0 ≡ 1 → getD marks′ k 0 ≡ 1
-      grows k e = ⊎-elim (λ (q : k ≡ u). new-here k q) (λ (n : k ≡ u → ⊥). new-else k n ∙ e) (same-or-not k u)
+      grows k e = ⊎-elim (λ (q : k ≡ u). new-here k q) (λ (o : k ≡ u → ⊥). new-else k o ∙ e) (same-or-not k u)
 
-      counts : many (t .n) (λ k. eqb (getD marks′ k 0) 1) ≡ suc tail
+      counts : many n (λ k. eqb (getD marks′ k 0) 1) ≡ suc tail
       counts =
-          many-one-more (t .n) u (λ k. eqb (getD marks k 0) 1) (λ k. eqb (getD marks′ k 0) 1) h (ne-eqb (getD marks u 0) 1 (λ e. omega (arith, e, z)))
-          (eq-eqb _ _ (new-here u refl)) (λ k n. ap (λ (x : ℕ). eqb x 1) (new-else k n))
+          many-one-more n u (λ k. eqb (getD marks k 0) 1) (λ k. eqb (getD marks′ k 0) 1) h (ne-eqb (getD marks u 0) 1 (λ e. omega (arith, e, z)))
+          (eq-eqb _ _ (new-here u refl)) (λ k o. ap (λ (x : ℕ). eqb x 1) (new-else k o))
           ∙ ap suc (sym (s .counted))
 
-      pub search-room : tail < t .n
-      search-room = omega (arith, counts, many-le (t .n) (λ k. eqb (getD marks′ k 0) 1))
+      pub search-room : tail < n
+      search-room = omega (arith, counts, many-le n (λ k. eqb (getD marks′ k 0) 1))
 
       fits : tail < length queue
       fits = omega (arith, search-room, s .room)
@@ -101,7 +105,11 @@ module _ (t : Lts) (hidden : Bool) where
       old-queue : (k : ℕ) → k < tail → getD (set queue tail u) k 0 ≡ getD queue k 0
       old-queue k l = getD-set-other queue tail k u 0 (λ e. omega (arith, l, e))
 
-      pub search-add : Search t hidden start (set marks u 1) (set queue tail u) head (tail + 1)
+      -- a state that is not marked stands nowhere in the queue
+      unseen : (k : ℕ) → k < tail → getD queue k 0 ≡ u → ⊥
+      unseen k l e = omega (arith, s .marked k l, ap (λ (x : ℕ). getD marks x 0) e, z)
+
+      pub search-add : Search edge n start (set marks u 1) (set queue tail u) head (tail + 1)
       unfolding marks′
       search-add = record {
         size = simp length-set (s .size);
@@ -109,29 +117,38 @@ module _ (t : Lts) (hidden : Bool) where
         some = omega arith;
         low = omega (arith, s .low);
         first = old-queue 0 (s .some) ∙ s .first;
-        flags = λ k. ⊎-elim (λ (q : k ≡ u). omega (arith, new-here k q)) (λ (n : k ≡ u → ⊥). omega (arith, new-else k n, s .flags k)) (same-or-not k u);
+        flags = λ k. ⊎-elim (λ (q : k ≡ u). omega (arith, new-here k q)) (λ (o : k ≡ u → ⊥). omega (arith, new-else k o, s .flags k)) (same-or-not k u);
         counted = omega (arith, counts);
         state = λ k l.
             ⊎-elim (λ (q : k ≡ tail). omega (arith, set-here queue tail u k fits q, h)) (λ (m : k < tail). omega (arith, old-queue k m, s .state k m))
             (top-or-below (omega (arith, l)));
+        once = λ i j a c e.
+            ⊎-elim
+            (λ (p : i ≡ tail).
+            ⊎-elim (λ (q : j ≡ tail). p ∙ sym q)
+            (λ (q : j < tail). absurd (unseen j q (sym (old-queue j q) ∙ sym e ∙ set-here queue tail u i fits p))) (top-or-below (omega (arith, c))))
+            (λ (p : i < tail).
+            ⊎-elim (λ (q : j ≡ tail). absurd (unseen i p (sym (old-queue i p) ∙ e ∙ set-here queue tail u j fits q)))
+            (λ (q : j < tail). s .once i j p q (sym (old-queue i p) ∙ e ∙ old-queue j q)) (top-or-below (omega (arith, c))))
+            (top-or-below (omega (arith, a)));
         marked = λ k l.
             ⊎-elim (λ (q : k ≡ tail). new-here (getD (set queue tail u) k 0) (set-here queue tail u k fits q))
             (λ (m : k < tail). ap (λ (x : ℕ). getD marks′ x 0) (old-queue k m) ∙ grows (getD queue k 0) (s .marked k m)) (top-or-below (omega (arith, l)));
         queued = λ k e. have k (same-or-not k u) e;
         sound = λ k e.
-            ⊎-elim (λ (q : k ≡ u). subst (λ (x : ℕ). Walk (edge t hidden) start x) (sym q) w)
-            (λ (n : k ≡ u → ⊥). s .sound k (sym (new-else k n) ∙ e)) (same-or-not k u);
+            ⊎-elim (λ (q : k ≡ u). subst (λ (x : ℕ). Walk edge start x) (sym q) w)
+            (λ (o : k ≡ u → ⊥). s .sound k (sym (new-else k o) ∙ e)) (same-or-not k u);
         closed = λ k l x e.
-            grows x (s .closed k l x (subst (λ (y : ℕ). edge t hidden y x ≡ true) (old-queue k (omega (arith, l, s .low))) e));
+            grows x (s .closed k l x (subst (λ (y : ℕ). edge y x ≡ true) (old-queue k (omega (arith, l, s .low))) e));
       }
         where
           have : (k : ℕ) → (k ≡ u) ⊎ (k ≡ u → ⊥) → getD marks′ k 0 ≡ 1 → (j : ℕ) × (j < tail + 1) × (getD (set queue tail u) j 0 ≡ k)
           have k (inl q) e = (tail, omega arith, set-here queue tail u tail fits refl ∙ sym q)
-          have k (inr n) e = let r = s .queued k (sym (new-else k n) ∙ e) in (r .0, omega (arith, r .1), old-queue (r .0) (r .1) ∙ r .2)
+          have k (inr o) e = let r = s .queued k (sym (new-else k o) ∙ e) in (r .0, omega (arith, r .1), old-queue (r .0) (r .1) ∙ r .2)
 
     -- ---- a finished state
-    pub search-next : head < tail → ((u : ℕ) → edge t hidden (getD queue head 0) u ≡ true → getD marks u 0 ≡ 1)
-        → Search t hidden start marks queue (head + 1) tail
+    pub search-next : head < tail → ((u : ℕ) → edge (getD queue head 0) u ≡ true → getD marks u 0 ≡ 1)
+        → Search edge n start marks queue (head + 1) tail
     search-next h f = record {
       size = s .size;
       room = s .room;
@@ -141,128 +158,156 @@ module _ (t : Lts) (hidden : Bool) where
       flags = s .flags;
       counted = s .counted;
       state = s .state;
+      once = s .once;
       marked = s .marked;
       queued = s .queued;
       sound = s .sound;
       closed = λ k l u e.
-          ⊎-elim (λ (q : k ≡ head). f u (subst (λ (j : ℕ). edge t hidden (getD queue j 0) u ≡ true) q e)) (λ (m : k < head). s .closed k m u e)
+          ⊎-elim (λ (q : k ≡ head). f u (subst (λ (j : ℕ). edge (getD queue j 0) u ≡ true) q e)) (λ (m : k < head). s .closed k m u e)
           (top-or-below (omega (arith, l)));
     }
 
-    -- ---- the end
-    module _ (v : Valid t) (e : tail ≤ head) where
-      follow : {x u : ℕ} → Walk (edge t hidden) x u → getD marks x 0 ≡ 1 → getD marks u 0 ≡ 1
+    -- ---- the end: a state is found exactly if there is a walk to it
+    module _ (e : tail ≤ head) where
+      follow : {x u : ℕ} → Walk edge x u → getD marks x 0 ≡ 1 → getD marks u 0 ≡ 1
       follow stop m = m
       follow (along {s = x} {u = y} {v = u} g w) m =
           let r = s .queued x m in
-          follow w (s .closed (r .0) (omega (arith, e, r .1)) y (subst (λ (z : ℕ). edge t hidden z y ≡ true) (sym (r .2)) g))
+          follow w (s .closed (r .0) (omega (arith, e, r .1)) y (subst (λ (z : ℕ). edge z y ≡ true) (sym (r .2)) g))
 
-      begun : getD marks start 0 ≡ 1
-      begun = ap (λ (x : ℕ). getD marks x 0) (sym (s .first)) ∙ s .marked 0 (s .some)
+      pub search-found : (u : ℕ) → (getD marks u 0 ≡ 1) ↔ Walk edge start u
+      search-found u = (s .sound u, λ w. follow w (ap (λ (x : ℕ). getD marks x 0) (sym (s .first)) ∙ s .marked 0 (s .some)))
 
-      marked-is : (u : ℕ) → eqb (getD marks u 0) 1 ≡ reaches t hidden start u
-      marked-is u =
-          bool-ext _ _ (λ m. reaches-walk t hidden v start u .1 (s .sound u (eqb-true _ _ m)))
-          (λ r. eq-eqb _ _ (follow (reaches-walk t hidden v start u .0 r) begun))
+-- ---- the states that a state reaches
+module _ (t : Lts) (hidden : Bool) (v : Valid t) (start : ℕ) (marks queue : List ℕ) (head tail : ℕ)
+    (s : Search (edge t hidden) (t .n) start marks queue head tail) (e : tail ≤ head) where
+  marked-is : (u : ℕ) → eqb (getD marks u 0) 1 ≡ reaches t hidden start u
+  marked-is u =
+      let f = search-found (edge t hidden) (t .n) start marks queue head tail s e u in
+      bool-ext _ _ (λ m. reaches-walk t hidden v start u .1 (f .0 (eqb-true _ _ m))) (λ r. eq-eqb _ _ (f .1 (reaches-walk t hidden v start u .0 r)))
 
-      mark-bit : (x : ℕ) (b : Bool) → x ≤ 1 → eqb x 1 ≡ b → x ≡ bit b
-      mark-bit x true h q = eqb-true x 1 q
-      mark-bit x false h q = not-one h (eqb-false x 1 q)
-        where
-          not-one : {x : ℕ} → x ≤ 1 → (x ≡ 1 → ⊥) → x ≡ 0
-          not-one h n = omega (arith, h, n)
+  mark-bit : (x : ℕ) (b : Bool) → x ≤ 1 → eqb x 1 ≡ b → x ≡ bit b
+  mark-bit x true h q = eqb-true x 1 q
+  mark-bit x false h q = not-one h (eqb-false x 1 q)
+    where
+      not-one : {x : ℕ} → x ≤ 1 → (x ≡ 1 → ⊥) → x ≡ 0
+      not-one h n = omega (arith, h, n)
 
-      pub search-marks : marks ≡ listed (t .n) (λ u. bit (reaches t hidden start u))
-      search-marks =
-          ext-getD 0 marks (listed (t .n) (λ u. bit (reaches t hidden start u))) (s .size ∙ sym (length-listed (t .n) (λ u. bit (reaches t hidden start u))))
-          (λ u l. mark-bit (getD marks u 0) (reaches t hidden start u) (s .flags u) (marked-is u)
-          ∙ sym (listed-at (t .n) (λ u. bit (reaches t hidden start u)) u (omega (arith, l, s .size))))
+  pub search-marks : marks ≡ listed (t .n) (λ u. bit (reaches t hidden start u))
+  search-marks =
+      ext-getD 0 marks (listed (t .n) (λ u. bit (reaches t hidden start u))) (s .size ∙ sym (length-listed (t .n) (λ u. bit (reaches t hidden start u))))
+      (λ u l. mark-bit (getD marks u 0) (reaches t hidden start u) (s .flags u) (marked-is u)
+      ∙ sym (listed-at (t .n) (λ u. bit (reaches t hidden start u)) u (omega (arith, l, s .size))))
 
-      pub search-count : tail ≡ many (t .n) (reaches t hidden start)
-      search-count = s .counted ∙ many-cong (t .n) (λ u. eqb (getD marks u 0) 1) (reaches t hidden start) (λ u l. marked-is u)
+  pub search-count : tail ≡ many (t .n) (reaches t hidden start)
+  search-count = s .counted ∙ many-cong (t .n) (λ u. eqb (getD marks u 0) 1) (reaches t hidden start) (λ u l. marked-is u)
 
-  -- ---- the rows of one state, from the first to the last
-  pub record Visit (start x : ℕ) (marks queue : List ℕ) (head tail i : ℕ) : Type 0 where
-    pub search : Search t hidden start marks queue head tail
-    pub ahead : head < tail
-    pub here : getD queue head 0 ≡ x
-    pub passed : (j : ℕ) → j < i → getD (t .source) j 0 ≡ x → takes hidden (getD (t .label) j 0) ≡ true → getD marks (getD (t .target) j 0) 0 ≡ 1
+-- ---- the rows of one state, from the first to the last, where a row that passes w is an edge
+module _ (n m : ℕ) (source target : List ℕ) (w : ℕ → Bool) where
+  -- the rows of x before i are seen; the queue is what it was, but for the cells that are appended
+  pub record Visit (start x : ℕ) (queue₀ : List ℕ) (tail₀ : ℕ) (marks queue : List ℕ) (head tail i : ℕ) : Type 0 where
+    pub search : Search (someRow m source target w) n start marks queue head tail
+    pub ahead : head < tail₀
+    pub more : tail₀ ≤ tail
+    pub long : length queue ≡ length queue₀
+    pub kept : (j : ℕ) → j < tail₀ → getD queue j 0 ≡ getD queue₀ j 0
+    pub behind : (j : ℕ) → tail ≤ j → getD queue j 0 ≡ getD queue₀ j 0
+    pub here : getD queue₀ head 0 ≡ x
+    pub passed : (j : ℕ) → j < i → getD source j 0 ≡ x → w j ≡ true → getD marks (getD target j 0) 0 ≡ 1
 
-  module _ (v : Valid t) (start x : ℕ) (marks queue : List ℕ) (head tail : ℕ) where
+  module _ (up : Rising source m) (to : (i : ℕ) → i < m → getD target i 0 < n) (start x : ℕ) (queue₀ : List ℕ) (tail₀ head : ℕ) where
     pub visit-start :
-        Search t hidden start marks queue head tail → head < tail → getD queue head 0 ≡ x → Visit start x marks queue head tail (firstRow (t .source) (t .m) x)
-    visit-start s h e = record {
+        (marks : List ℕ) (i : ℕ) → i ≡ firstRow source m x → Search (someRow m source target w) n start marks queue₀ head tail₀ → head < tail₀
+        → getD queue₀ head 0 ≡ x → Visit start x queue₀ tail₀ marks queue₀ head tail₀ i
+    visit-start marks i e s h q = record {
       search = s;
       ahead = h;
-      here = e;
-      passed = λ j l q.
-          absurd
-          (omega (arith, l, stretch (t .source) (t .m) (rising t v) x j (omega (arith, l, first-row-most (t .source) (t .m) x)) .0 q .0));
+      more = omega arith;
+      long = refl;
+      kept = λ j l. refl;
+      behind = λ j l. refl;
+      here = q;
+      passed = λ j l p. absurd (omega (arith, l, e, stretch source m up x j (omega (arith, l, e, first-row-most source m x)) .0 p .0));
     }
 
-    module _ (i : ℕ) (c : Visit start x marks queue head tail i) where
-      pub visit-skip : freshb hidden (t .label) (t .target) marks i ≡ false → Visit start x marks queue head tail (i + 1)
-      unfolding freshb
-      visit-skip f = record {
+    module _ (marks queue : List ℕ) (tail i : ℕ) (c : Visit start x queue₀ tail₀ marks queue head tail i) where
+      -- a row that leads to no new state
+      pub visit-skip : (w i ≡ true → getD marks (getD target i 0) 0 ≡ 1) → Visit start x queue₀ tail₀ marks queue head tail (i + 1)
+      visit-skip old = record {
         search = c .search;
         ahead = c .ahead;
+        more = c .more;
+        long = c .long;
+        kept = c .kept;
+        behind = c .behind;
         here = c .here;
-        passed = λ j l q k.
-            ⊎-elim (λ (e : j ≡ i). subst (λ (y : ℕ). getD marks (getD (t .target) y 0) 0 ≡ 1) (sym e) (old (subst (λ (y : ℕ). takes hidden (getD (t .label) y 0) ≡ true) e k)))
-            (λ (m : j < i). c .passed j m q k) (top-or-below (omega (arith, l)));
+        passed = λ j l p k.
+            ⊎-elim (λ (e : j ≡ i). subst (λ (y : ℕ). getD marks (getD target y 0) 0 ≡ 1) (sym e) (old (subst (λ (y : ℕ). w y ≡ true) e k)))
+            (λ (o : j < i). c .passed j o p k) (top-or-below (omega (arith, l)));
       }
-        where
-          one-of : {y : ℕ} → y ≤ 1 → (y ≡ 0 → ⊥) → y ≡ 1
-          one-of h n = omega (arith, h, n)
 
-          old : takes hidden (getD (t .label) i 0) ≡ true → getD marks (getD (t .target) i 0) 0 ≡ 1
-          old k = one-of (c .search .flags (getD (t .target) i 0)) (λ z. contra (and-both k (eq-eqb (getD marks (getD (t .target) i 0) 0) 0 z)) f)
-
-      module _ (l : i < t .m) (q : getD (t .source) i 0 ≡ x) (f : freshb hidden (t .label) (t .target) marks i ≡ true) where
-        u : ℕ
-        u = getD (t .target) i 0
-
-        taken : takes hidden (getD (t .label) i 0) ≡ true
-        unfolding freshb
-        taken = and-left (takes hidden (getD (t .label) i 0)) (eqb (getD marks (getD (t .target) i 0) 0) 0) f
-
-        pub visit-new : getD marks (getD (t .target) i 0) 0 ≡ 0
-        unfolding freshb
-        visit-new = eqb-true _ _ (and-right (takes hidden (getD (t .label) i 0)) (eqb (getD marks (getD (t .target) i 0) 0) 0) f)
-
-        walk-to : Walk (edge t hidden) start (getD (t .target) i 0)
+      module _ (l : i < m) (q : getD source i 0 ≡ x) (f : w i ≡ true) where
+        walk-to : Walk (someRow m source target w) start (getD target i 0)
         walk-to =
-            joined (edge t hidden) (subst (λ (y : ℕ). Walk (edge t hidden) start y) (c .here) (c .search .sound (getD queue head 0) (c .search .marked head (c .ahead))))
-            (along (row-edge t hidden x (getD (t .target) i 0) i l q refl taken) stop)
+            joined (someRow m source target w)
+            (subst (λ (y : ℕ). Walk (someRow m source target w) start y) (c .kept head (c .ahead) ∙ c .here)
+            (c .search .sound (getD queue head 0) (c .search .marked head (omega (arith, c .ahead, c .more)))))
+            (along (row-edge m source target w x (getD target i 0) i l q refl f) stop)
 
-        pub visit-room : tail < t .n
-        visit-room = search-room start marks queue head tail (c .search) (getD (t .target) i 0) (v .fields i l .target) visit-new walk-to
+        module _ (new : getD marks (getD target i 0) 0 ≡ 0) where
+          pub visit-room : tail < n
+          visit-room = search-room (someRow m source target w) n start marks queue head tail (c .search) (getD target i 0) (to i l) new walk-to
 
-        pub visit-take : Visit start x (set marks (getD (t .target) i 0) 1) (set queue tail (getD (t .target) i 0)) head (tail + 1) (i + 1)
-        visit-take = record {
-          search = search-add start marks queue head tail (c .search) (getD (t .target) i 0) (v .fields i l .target) visit-new walk-to;
-          ahead = omega (arith, c .ahead);
-          here = getD-set-other queue tail head (getD (t .target) i 0) 0 (λ e. omega (arith, e, c .ahead)) ∙ c .here;
-          passed = λ j m p k.
-              ⊎-elim
-              (λ (e : j ≡ i).
-              set-here marks (getD (t .target) i 0) 1 (getD (t .target) j 0) (omega (arith, v .fields i l .target, c .search .size))
-              (ap (λ (y : ℕ). getD (t .target) y 0) e))
-              (λ (o : j < i). grow (getD (t .target) j 0) (c .passed j o p k)) (top-or-below (omega (arith, m)));
-        }
+          visit-take : Visit start x queue₀ tail₀ (set marks (getD target i 0) 1) (set queue tail (getD target i 0)) head (tail + 1) (i + 1)
+          visit-take = record {
+            search = search-add (someRow m source target w) n start marks queue head tail (c .search) (getD target i 0) (to i l) new walk-to;
+            ahead = c .ahead;
+            more = omega (arith, c .more);
+            long = length-set queue tail (getD target i 0) ∙ c .long;
+            kept = λ j o. getD-set-other queue tail j (getD target i 0) 0 (λ e. omega (arith, o, e, c .more)) ∙ c .kept j o;
+            behind = λ j o. getD-set-other queue tail j (getD target i 0) 0 (λ e. omega (arith, o, e)) ∙ c .behind j (omega (arith, o));
+            here = c .here;
+            passed = λ j o p k.
+                ⊎-elim (λ (e : j ≡ i). mark (getD target j 0) (ap (λ (y : ℕ). getD target y 0) e))
+                (λ (g : j < i). grow (getD target j 0) (c .passed j g p k)) (top-or-below (omega (arith, o)));
+          }
+            where
+              mark : (y : ℕ) → y ≡ getD target i 0 → getD (set marks (getD target i 0) 1) y 0 ≡ 1
+              mark y e = set-here marks (getD target i 0) 1 y (omega (arith, to i l, c .search .size)) e
+
+              grow : (y : ℕ) → getD marks y 0 ≡ 1 → getD (set marks (getD target i 0) 1) y 0 ≡ 1
+              grow y e =
+                  ⊎-elim (λ (o : y ≡ getD target i 0). mark y o)
+                  (λ (o : y ≡ getD target i 0 → ⊥). getD-set-other marks (getD target i 0) y 1 0 o ∙ e) (same-or-not y (getD target i 0))
+
+        -- a row that passes: its target is appended, if it is new
+        pub visit-append :
+            (r : ℕ) (ms qs : List ℕ) → (r, (ms, qs)) ≡ appended (getD target i 0) marks queue tail → Visit start x queue₀ tail₀ ms qs head r (i + 1)
+        unfolding appended
+        visit-append r ms qs e = go (eqb (getD marks (getD target i 0) 0) 0) refl e
           where
-            grow : (y : ℕ) → getD marks y 0 ≡ 1 → getD (set marks (getD (t .target) i 0) 1) y 0 ≡ 1
-            grow y e =
-                ⊎-elim (λ (o : y ≡ getD (t .target) i 0). set-here marks (getD (t .target) i 0) 1 y (omega (arith, v .fields i l .target, c .search .size)) o)
-                (λ (n : y ≡ getD (t .target) i 0 → ⊥). getD-set-other marks (getD (t .target) i 0) y 1 0 n ∙ e) (same-or-not y (getD (t .target) i 0))
+            one-of : {y : ℕ} → y ≤ 1 → (y ≡ 0 → ⊥) → y ≡ 1
+            one-of h z = omega (arith, h, z)
 
-      pub visit-end : i ≡ firstRow (t .source) (t .m) (x + 1) → Search t hidden start marks queue (head + 1) tail
+            go : (z : Bool) → eqb (getD marks (getD target i 0) 0) 0 ≡ z
+                → _≡_ {A = ℕ × (List ℕ × List ℕ)} (r, (ms, qs))
+                (cond z (tail + 1, (set marks (getD target i 0) 1, set queue tail (getD target i 0))) (tail, (marks, queue)))
+                → Visit start x queue₀ tail₀ ms qs head r (i + 1)
+            go true z p =
+                subst (λ (y : ℕ × (List ℕ × List ℕ)). Visit start x queue₀ tail₀ (y .1 .0) (y .1 .1) head (y .0) (i + 1)) (sym p)
+                (visit-take (eqb-true _ _ z))
+            go false z p =
+                subst (λ (y : ℕ × (List ℕ × List ℕ)). Visit start x queue₀ tail₀ (y .1 .0) (y .1 .1) head (y .0) (i + 1)) (sym p)
+                (visit-skip (λ _. one-of (c .search .flags (getD target i 0)) (eqb-false _ _ z)))
+
+      pub visit-end : i ≡ firstRow source m (x + 1) → Search (someRow m source target w) n start marks queue (head + 1) tail
       visit-end e =
-          search-next start marks queue head tail (c .search) (c .ahead)
+          search-next (someRow m source target w) n start marks queue head tail (c .search) (omega (arith, c .ahead, c .more))
           (λ y g.
-          let r = edge-row t hidden (getD queue head 0) y g in
-          let a = stretch (t .source) (t .m) (rising t v) x (r .row) (r .below) .0 (r .source ∙ c .here) in
-          ap (λ (z : ℕ). getD marks z 0) (sym (r .target)) ∙ c .passed (r .row) (omega (arith, e, a .1)) (r .source ∙ c .here) (r .taken))
+          let r = edge-row m source target w (getD queue head 0) y g in
+          let o = r .from ∙ c .kept head (c .ahead) ∙ c .here in
+          let a = stretch source m up x (r .row) (r .below) .0 o in
+          ap (λ (z : ℕ). getD marks z 0) (sym (r .to)) ∙ c .passed (r .row) (omega (arith, e, a .1)) o (r .passes))
 
 -- ---- the call
 pub record Ready (t : Lts) (s result work : ℕ) : Type 0 where

@@ -2,6 +2,7 @@
 use mathlib.Core.Path.{_≡_, refl, sym, subst}
 use mathlib.Core.Logic.{_⊎_, inl, inr, _↔_}
 use mathlib.Core.Bool.{Bool, true, false, _&&_}
+use mathlib.Core.List.{List}
 use Prim.Native.Nat.{ℕ, zero, suc, _<_}
 use native.Mathlib.Nat.{not-suc-le-zero}
 use native.Mathlib.Omega.{arith}
@@ -13,7 +14,7 @@ use Rattle.columns.proofs.All.{top-or-below}
 use Rattle.columns.proofs.Bools.{and-left, and-right, and-both, or-split, or-left, or-right}
 use Rattle.columns.proofs.Counting.{first-law, first-min}
 use Rattle.table.specs.Lts.{Lts, Step, Valid}
-use Rattle.table.specs.Reach.{Walk, stop, along, via, takes, leads, edge, reaches}
+use Rattle.table.specs.Reach.{Walk, stop, along, via, takes, someRow, edge, reaches}
 use Rattle.table.proofs.Rows.{row-step, step-row}
 
 module _ (edge : ℕ → ℕ → Bool) where
@@ -98,58 +99,65 @@ module _ (edge : ℕ → ℕ → Bool) where
   walk-via n within (stop {s}) = via-self n s
   walk-via n within (along {s} {u} {v} h w) = via-trans n s u v (within s u h) (via-edge n s u h) (walk-via n within w)
 
--- ---- an edge is a row that is taken
-pub record Edge (t : Lts) (hidden : Bool) (s u : ℕ) : Type 0 where
-  pub row : ℕ
-  pub below : row < t .m
-  pub source : getD (t .source) row 0 ≡ s
-  pub target : getD (t .target) row 0 ≡ u
-  pub taken : takes hidden (getD (t .label) row 0) ≡ true
+-- ---- an edge is a row that passes
+module _ (m : ℕ) (source target : List ℕ) (w : ℕ → Bool) where
+  pub record Edge (s u : ℕ) : Type 0 where
+    pub row : ℕ
+    pub below : row < m
+    pub from : getD source row 0 ≡ s
+    pub to : getD target row 0 ≡ u
+    pub passes : w row ≡ true
 
-module _ (t : Lts) (hidden : Bool) where
-  pub edge-row : (s u : ℕ) → edge t hidden s u ≡ true → Edge t hidden s u
-  unfolding edge leads
+  -- row i leads from s to u
+  leads : ℕ → ℕ → ℕ → Bool
+  leads s u i = eqb (getD source i 0) s && (eqb (getD target i 0) u && w i)
+
+  pub edge-row : (s u : ℕ) → someRow m source target w s u ≡ true → Edge s u
+  unfolding someRow leads
   edge-row s u e =
-      let i = first (t .m) (leads t hidden s u) in
-      let h : i < t .m = ltb-true i (t .m) e in
-      let l = first-law (t .m) (leads t hidden s u) .hit h in
-      let a = eqb (getD (t .source) i 0) s in
-      let b = eqb (getD (t .target) i 0) u in
-      let c = takes hidden (getD (t .label) i 0) in
-      let r = and-right a (b && c) l in
+      let i = first m (leads s u) in
+      let h : i < m = ltb-true i m e in
+      let l = first-law m (leads s u) .hit h in
+      let a = eqb (getD source i 0) s in
+      let b = eqb (getD target i 0) u in
+      let r = and-right a (b && w i) l in
       record {
         row = i;
         below = h;
-        source = eqb-true _ _ (and-left a (b && c) l);
-        target = eqb-true _ _ (and-left b c r);
-        taken = and-right b c r;
+        from = eqb-true _ _ (and-left a (b && w i) l);
+        to = eqb-true _ _ (and-left b (w i) r);
+        passes = and-right b (w i) r;
       }
 
-  pub row-edge : (s u i : ℕ) → i < t .m → getD (t .source) i 0 ≡ s → getD (t .target) i 0 ≡ u → takes hidden (getD (t .label) i 0) ≡ true
-      → edge t hidden s u ≡ true
-  unfolding edge leads
+  pub row-edge : (s u i : ℕ) → i < m → getD source i 0 ≡ s → getD target i 0 ≡ u → w i ≡ true → someRow m source target w s u ≡ true
+  unfolding someRow leads
   row-edge s u i h es eu k =
-      lt-ltb (first (t .m) (leads t hidden s u)) (t .m)
-      (omega (arith, h, first-min (t .m) (leads t hidden s u) i (and-both (eq-eqb (getD (t .source) i 0) s es) (and-both (eq-eqb (getD (t .target) i 0) u eu) k))))
+      lt-ltb (first m (leads s u)) m
+      (omega (arith, h, first-min m (leads s u) i (and-both (eq-eqb (getD source i 0) s es) (and-both (eq-eqb (getD target i 0) u eu) k))))
 
+module _ (t : Lts) (hidden : Bool) where
   -- the same by steps: some label that is taken
   pub edge-step : (s u : ℕ) → (edge t hidden s u ≡ true) ↔ ((a : ℕ) × (takes hidden a ≡ true) × Step t s a u)
+  unfolding edge
   edge-step s u = (
     λ e.
-        let r = edge-row s u e in (
+        let r = edge-row (t .m) (t .source) (t .target) (λ i. takes hidden (getD (t .label) i 0)) s u e in (
           getD (t .label) (r .row) 0,
-          r .taken,
-          subst (λ (x : ℕ). Step t x (getD (t .label) (r .row) 0) u) (r .source)
-              (subst (λ (y : ℕ). Step t (getD (t .source) (r .row) 0) (getD (t .label) (r .row) 0) y) (r .target) (row-step t (r .row) (r .below))),
+          r .passes,
+          subst (λ (x : ℕ). Step t x (getD (t .label) (r .row) 0) u) (r .from)
+              (subst (λ (y : ℕ). Step t (getD (t .source) (r .row) 0) (getD (t .label) (r .row) 0) y) (r .to) (row-step t (r .row) (r .below))),
         ),
     λ p.
         let r = step-row t s (p .0) u (p .2) in
-        row-edge s u (r .row) (r .below) (sym (r .source)) (sym (r .target)) (subst (λ (a : ℕ). takes hidden a ≡ true) (r .label) (p .1)),
+        row-edge (t .m) (t .source) (t .target) (λ i. takes hidden (getD (t .label) i 0)) s u (r .row) (r .below) (sym (r .source)) (sym (r .target)) (subst (λ (a : ℕ). takes hidden a ≡ true) (r .label) (p .1)),
   )
 
   module _ (v : Valid t) where
     pub edge-in : (s u : ℕ) → edge t hidden s u ≡ true → u < t .n
-    edge-in s u e = let r = edge-row s u e in omega (arith, r .target, v .fields (r .row) (r .below) .target)
+    unfolding edge
+    edge-in s u e =
+        let r = edge-row (t .m) (t .source) (t .target) (λ i. takes hidden (getD (t .label) i 0)) s u e in
+        omega (arith, r .to, v .fields (r .row) (r .below) .target)
 
     -- a state is reached exactly if there is a walk
     pub reaches-walk : (s u : ℕ) → (reaches t hidden s u ≡ true) ↔ Walk (edge t hidden) s u

@@ -27,16 +27,15 @@ module _ (edge : ℕ → ℕ → Bool) where
 unfoldable pub takes : Bool → ℕ → Bool
 takes hidden a = not hidden || eqb a 0
 
--- row i is taken and leads from s to u
-unfoldable pub leads : Lts → Bool → ℕ → ℕ → ℕ → Bool
-unfolding takes
-leads t hidden s u i =
-    eqb (getD (t .source) i 0) s && (eqb (getD (t .target) i 0) u && takes hidden (getD (t .label) i 0))
+-- one of the first m rows passes the test w and leads from s to u
+unfoldable pub someRow : ℕ → List ℕ → List ℕ → (ℕ → Bool) → ℕ → ℕ → Bool
+unfolding first
+someRow m source target w s u = ltb (first m (λ i. eqb (getD source i 0) s && (eqb (getD target i 0) u && w i))) m
 
--- some row does
+-- a row that is taken leads from s to u
 unfoldable pub edge : Lts → Bool → ℕ → ℕ → Bool
-unfolding first leads
-edge t hidden s u = ltb (first (t .m) (leads t hidden s u)) (t .m)
+unfolding someRow takes
+edge t hidden = someRow (t .m) (t .source) (t .target) (λ i. takes hidden (getD (t .label) i 0))
 
 unfoldable pub reaches : Lts → Bool → ℕ → ℕ → Bool
 unfolding via edge

@@ -6,8 +6,8 @@ ghost use Rattle.columns.specs.Answers.{bit};
 ghost use Rattle.columns.specs.Columns.{listed, sortBy, wiped};
 ghost use Rattle.columns.specs.Counting.{many};
 ghost use Rattle.table.specs.Lts.{lts, Valid, Rising};
-ghost use Rattle.table.specs.Reach.{takes, reaches};
-ghost use Rattle.table.specs.Search.{Search, freshb};
+ghost use Rattle.table.specs.Reach.{takes, edge, reaches};
+ghost use Rattle.table.specs.Search.{Search, appended};
 ghost use Rattle.table.specs.Stretch.{firstRow, nextIncoming};
 use crate::Table;
 use columns::cells::at;
@@ -93,16 +93,18 @@ pub fn taken(label: &[u16], hidden: bool, i: usize) -> bool
     if at(label, i) == 0 { true } else { false }
 }
 
-// Whether row i is taken and its target is not yet marked.
-fn fresh(label: &[u16], target: &[u16], marks: &[u16], hidden: bool, i: usize) -> bool
-    requires { ⌜ (i < length (now label)) × (i < length (now target)) × (getD (now target) i 0 < length (now marks)) ⌝ }
-    ensures { λ r. ⌜ r ≡ freshb hidden (now (label .entry)) (now (target .entry)) (now (marks .entry)) i ⌝ }
+// Marks state u and puts it behind the first `tail` cells of the queue, unless it is marked already. Returns the queue's new
+// length.
+pub fn append(marks: &mut [u16], queue: &mut [u16], tail: usize, u: usize) -> usize
+    requires { ⌜ (u < length (now marks)) × (u < 65536) × (tail < 65536) × (getD (now marks) u 0 ≡ 0 → tail < length (now queue)) ⌝ }
+    ensures { λ r. ⌜ (r, (now (marks .exit), now (queue .exit))) ≡ appended u (now (marks .entry)) (now (queue .entry)) tail ⌝ }
 {
-    if !taken(label, hidden, i) {
-        return false;
+    if at(&*marks, u) != 0 {
+        return tail;
     }
-    let u = at(target, i);
-    if at(marks, u) == 0 { true } else { false }
+    marks[u] = 1;
+    queue[tail] = u as u16;
+    tail + 1
 }
 
 // Marks what the state at `head` of the queue leads to, and appends what is new. Returns the queue's new length.
@@ -118,8 +120,8 @@ fn visit(
     tail: usize,
 ) -> usize
     requires { ⌜ Valid (lts table (now source) (now label) (now target)) × (head < tail) ⌝ }
-    requires { ⌜ Search (lts table (now source) (now label) (now target)) hidden (getD (now queue) 0 0) (now marks) (now queue) head tail ⌝ }
-    ensures { λ r. ⌜ Search (lts table (now (source .entry)) (now (label .entry)) (now (target .entry))) hidden (getD (now (queue .entry)) 0 0) (now (marks .exit)) (now (queue .exit)) (head + 1) r ⌝ }
+    requires { ⌜ Search (edge (lts table (now source) (now label) (now target)) hidden) (table .n) (getD (now queue) 0 0) (now marks) (now queue) head tail ⌝ }
+    ensures { λ r. ⌜ Search (edge (lts table (now (source .entry)) (now (label .entry)) (now (target .entry))) hidden) (table .n) (getD (now (queue .entry)) 0 0) (now (marks .exit)) (now (queue .exit)) (head + 1) r ⌝ }
 {
     let m = table.m as usize;
     let s = at(&*queue, head);
@@ -128,11 +130,9 @@ fn visit(
     let end = rows.end;
     let mut high = tail;
     while i < end {
-        if fresh(label, target, &*marks, hidden, i) {
+        if taken(label, hidden, i) {
             let u = at(target, i);
-            marks[u] = 1;
-            queue[high] = u as u16;
-            high += 1;
+            high = append(&mut *marks, &mut *queue, high, u);
             i += 1;
         } else {
             i += 1;

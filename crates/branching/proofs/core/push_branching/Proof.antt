@@ -11,9 +11,9 @@ use Rattle.columns.proofs.Lists.{front-zeros}
 use Rattle.columns.proofs.TwoColumns.{length-pairs}
 use Rattle.signatures.specs.Pairs.{signature}
 use Rattle.table.specs.Lts.{Lts, lts, Valid}
+use Rattle.table.proofs.Searching.{search-few}
 use Rattle.branching.specs.Visiting.{Lists, outerOf, Visits}
-use Rattle.branching.proofs.Endings.{hunt-lists, hunt-marks}
-use Rattle.branching.proofs.Hunting.{hunt-size, hunt-room, hunt-few}
+use Rattle.branching.proofs.Endings.{search-lists, search-marks}
 use Rattle.branching.proofs.Visited.{visited-count, visited-few, visited-signature}
 use Rattle.branching.proofs.core.push_branching.Statement.{statement}
 use Rattle.branching.proofs.core.push_branching.Tie as tie
@@ -46,10 +46,10 @@ module _ (q : tie.After-reach) where
   visits = q .reach .ensures
 
   lists : Lists (L (q .before .before .before .before .before .before .before .before .before .before .before .before .before)) home state queue tail
-  lists = hunt-lists (L (q .before .before .before .before .before .before .before .before .before .before .before .before .before)) (valid (q .before .before .before .before .before .before .before .before .before .before .before .before .before)) home state marks queue tail (visits .hunt)
+  lists = search-lists (L (q .before .before .before .before .before .before .before .before .before .before .before .before .before)) (valid (q .before .before .before .before .before .before .before .before .before .before .before .before .before)) home state marks queue tail (visits .search)
 
   few : tail ≤ length queue
-  few = omega (arith, hunt-few _ _ _ _ _ _ _ _ _ _ _ _ (visits .hunt), hunt-room _ _ _ _ _ _ _ _ _ _ _ _ (visits .hunt))
+  few = omega (arith, search-few _ _ _ _ _ _ _ (visits .search), visits .search .room)
 
   -- how many pairs are pushed
   count : q .reach .result .pairs ≡ length (outerOf (L (q .before .before .before .before .before .before .before .before .before .before .before .before .before)) home (getD home state 0) queue tail)
@@ -62,8 +62,8 @@ reach-requires c κs = c .before .before .before .before .before .before .before
 unmark-requires : tie.Need-unmark-requires
 unmark-requires c κs =
     let q = c .before .before .before .before .before .before .before .before .before .before in (
-      (few q, λ j w. omega (arith, lists q .state j w, hunt-size _ _ _ _ _ _ _ _ _ _ _ _ (visits q .hunt))),
-      hunt-marks (L (c .before .before .before .before .before .before .before .before .before .before .before .before .before .before .before .before .before .before .before .before .before .before .before)) (valid (c .before .before .before .before .before .before .before .before .before .before .before .before .before .before .before .before .before .before .before .before .before .before .before)) (home q) (state q) (marks q) (queue q) (tail q) (visits q .hunt),
+      (few q, λ j w. omega (arith, lists q .state j w, visits q .search .size)),
+      search-marks (L (c .before .before .before .before .before .before .before .before .before .before .before .before .before .before .before .before .before .before .before .before .before .before .before)) (valid (c .before .before .before .before .before .before .before .before .before .before .before .before .before .before .before .before .before .before .before .before .before .before .before)) (home q) (state q) (marks q) (queue q) (tail q) (visits q .search),
     )
 
 slice-relend-prefix-clear : tie.Need-slice-relend-prefix-clear
@@ -98,7 +98,7 @@ returns c =
       ),
       (
         c .before .before .before .before .before .before .unmark .ensures ∙ ap zeros (q .reach .kept .1 .1 .1 .1 .1 .1 .1 .1 .0),
-        front-zeros (tail q) (queue q) (c .before .before .clear .last .0) (few q) (c .before .before .clear .ensures) (visits q .hunt .rest)
+        front-zeros (tail q) (queue q) (c .before .before .clear .last .0) (few q) (c .before .before .clear .ensures) (visits q .rest)
             ∙ ap zeros (q .reach .kept .1 .1 .1 .1 .1 .1 .1 .1 .1 .0),
       ),
     )

@@ -4,13 +4,16 @@ use Prim.Native.Nat.{ℕ, _-_, _+_, _≤_}
 use mathlib.Core.Path.{_≡_, refl, sym, ap, subst, _∙_}
 use mathlib.Core.List.{List}
 use lib.ListN.{length, getD, set, length-set}
+use lib.Seq.{getD-set-other}
 use Rattle.columns.specs.Columns.{zeros}
 use Rattle.columns.proofs.Laid.{laid-none}
 use Rattle.columns.proofs.Lists.{zeros-at}
 use Rattle.columns.proofs.TwoColumns.{pairs-none}
 use Rattle.table.specs.Lts.{Lts, lts, Valid}
-use Rattle.branching.specs.Visiting.{inertTable, Hunt, outerPairs, Visits}
-use Rattle.branching.proofs.Hunting.{hunt-start, hunt-size, hunt-few}
+use Rattle.table.specs.Search.{Search}
+use Rattle.table.proofs.Searching.{search-start, search-few}
+use Rattle.branching.specs.Branching.{inertEdge}
+use Rattle.branching.specs.Visiting.{outerPairs, Visits}
 use Rattle.branching.proofs.core.reach.Statement.{statement}
 use Rattle.branching.proofs.core.reach.Tie as tie
 
@@ -56,14 +59,16 @@ loop-holds c =
     let g = a .args in
     let z = a .pre .1 .1 in (
       record {
-        hunt =
+        search =
             subst
             (λ (l : List ℕ).
-            Hunt (inertTable (g .table .n) (g .table .m) (g .source .now) (g .label .now) (g .target .now) (g .element-to-block .now) (c .at .result)) (g .state)
-            (set l (g .state) 1) (set (g .queue .now) 0 (g .state)) 0 1)
+            Search (inertEdge (L a) (g .element-to-block .now) (c .at .result)) (g .table .n) (g .state) (set l (g .state) 1)
+            (set (g .queue .now) 0 (g .state)) 0 1)
             (sym (z .2 ∙ ap zeros (z .0)))
-            (hunt-start (g .table .n) (g .table .m) (g .source .now) (g .label .now) (g .target .now) (g .element-to-block .now) (c .at .result) (g .state)
-            (g .queue .now) (a .pre .0 .1) (z .1) (λ k. ap (λ (l : List ℕ). getD l k 0) (z .3) ∙ zeros-at (length (g .queue .now)) k));
+            (search-start (inertEdge (L a) (g .element-to-block .now) (c .at .result)) (g .table .n) (g .state) (g .queue .now) (a .pre .0 .1) (z .1));
+        rest = λ k w.
+            getD-set-other (g .queue .now) 0 k (g .state) 0 (λ e. omega (arith, w, e)) ∙ ap (λ (l : List ℕ). getD l k 0) (z .3)
+            ∙ zeros-at (length (g .queue .now)) k;
         pushed =
             pairs-none _ _
             ∙ sym (laid-none (λ j. outerPairs (L a) (g .element-to-block .now) (c .at .result) (getD (set (g .queue .now) 0 (g .state)) j 0)));
@@ -73,13 +78,8 @@ loop-holds c =
       refl,
     )
 
--- there are as many marks as states, and no more states in the queue
-module _ (q : tie.At-loop Inv-loop μ-loop) where
-  size : length (q .loop .marks) ≡ q .before .before .before .before .before .before .before .before .before .before .args .table .n
-  size = hunt-size _ _ _ _ _ _ _ _ _ _ _ _ (q .loop .inv .0 .hunt)
-
-  few : q .loop .tail ≤ q .before .before .before .before .before .before .before .before .before .before .args .table .n
-  few = hunt-few _ _ _ _ _ _ _ _ _ _ _ _ (q .loop .inv .0 .hunt)
+few : (q : tie.At-loop Inv-loop μ-loop) → q .loop .tail ≤ q .before .before .before .before .before .before .before .before .before .before .args .table .n
+few q = search-few _ _ _ _ _ _ _ (q .loop .inv .0 .search)
 
 visit-requires : tie.Need-visit-requires Inv-loop μ-loop
 visit-requires c κs =
@@ -91,7 +91,7 @@ visit-requires c κs =
         subst
             (λ (s : ℕ).
             Visits (L a) (a .args .element-to-block .now) (c .before .before .before .before .before .before .at .result) s (l .marks) (l .queue) (l .head) (l .tail) (l .pushed-labels) (l .pushed-blocks) (l .d))
-            (sym (l .inv .0 .hunt .search .first)) (l .inv .0),
+            (sym (l .inv .0 .search .first)) (l .inv .0),
       ),
     )
 
@@ -113,7 +113,7 @@ loop-again c =
       subst
           (λ (s : ℕ).
           Visits (L a) (a .args .element-to-block .now) (c .before .before .before .before .before .before .before .before .before .before .before .before .before .before .before .at .result) s ms qs (l .head + 1) (q .result .tail) ls bs (q .result .pairs))
-          (l .inv .0 .hunt .search .first) (q .ensures),
+          (l .inv .0 .search .first) (q .ensures),
       q .kept .1 .1 .1 .1 .1 .1 .0 ∙ l .inv .1,
       q .kept .1 .1 .1 .1 .1 .1 .1 .0 ∙ l .inv .2,
       q .kept .1 .1 .1 .1 .1 .1 .1 .1 .1 .1 .0 ∙ l .inv .3,
@@ -126,7 +126,7 @@ same-length-2 : tie.Need-same-length-2 Inv-loop μ-loop
 same-length-2 c = c .before .loop .inv .2
 
 same-length-3 : tie.Need-same-length-3 Inv-loop μ-loop
-same-length-3 c = size (c .before) ∙ sym (c .before .before .before .before .before .before .before .before .before .before .before .pre .1 .1 .0)
+same-length-3 c = c .before .loop .inv .0 .search .size ∙ sym (c .before .before .before .before .before .before .before .before .before .before .before .pre .1 .1 .0)
 
 same-length-4 : tie.Need-same-length-4 Inv-loop μ-loop
 same-length-4 c = c .before .loop .inv .3 ∙ length-set (c .before .before .before .before .before .before .before .before .before .before .before .args .queue .now) 0 (c .before .before .before .before .before .before .before .before .before .before .before .args .state)
@@ -135,7 +135,7 @@ returns : tie.Need-returns Inv-loop μ-loop
 returns c =
     let a = c .before .before .before .before .before .before .before .before .before .before .before in
     let l = c .before .loop in
-    let e : l .head ≡ l .tail = omega (arith, c .loop-test, l .inv .0 .hunt .search .low) in
+    let e : l .head ≡ l .tail = omega (arith, c .loop-test, l .inv .0 .search .low) in
     subst
     (λ (b : ℕ).
     Visits (L a) (a .args .element-to-block .now) b (a .args .state) (l .marks) (l .queue) (l .tail) (l .tail) (l .pushed-labels) (l .pushed-blocks) (l .d))

@@ -19,17 +19,18 @@ use Rattle.signatures.specs.Strong.{pairAt}
 use Rattle.signatures.proofs.Pushing.{Pushing, push-start, push-more, push-pass, push-done}
 use Rattle.signatures.proofs.RowsOf.{RowsFrom, rows-from}
 use Rattle.table.specs.Lts.{Lts, lts, Valid}
+use Rattle.table.specs.Search.{Search, appended}
+use Rattle.table.proofs.Searching.{Visit, visit-start, visit-skip, visit-append, visit-room, visit-end, search-few}
 use Rattle.table.proofs.Stretches.{rising}
-use Rattle.branching.specs.Branching.{outerb}
-use Rattle.branching.specs.Visiting.{inertTable, Hunt, appended, outerPairs, Visits}
-use Rattle.branching.proofs.Hunting.{Turning, turn-start, turn-skip, turn-append, turn-room, turn-end, hunt-size, hunt-room, hunt-few}
+use Rattle.branching.specs.Branching.{inertEdge, outerb}
+use Rattle.branching.specs.Visiting.{outerPairs, Visits}
 use Rattle.branching.proofs.Visited.{length-outer, visits-room, visits-more}
 use Rattle.branching.proofs.core.visit.Statement.{statement}
 use Rattle.branching.proofs.core.visit.Tie as tie
 
 abbrev Inv-loop : tie.InvT-loop
 Inv-loop source label target element-to-block b pushed-labels₀ pushed-blocks₀ d marks₀ queue₀ head tail m x i₀ end high₀ k₀ pushed-labels pushed-blocks marks queue i high k =
-    Turning (length marks₀) m source label target element-to-block b (getD queue₀ 0 0) x queue₀ tail marks queue head high i
+    Visit (length marks₀) m source target (inertb label target element-to-block b) (getD queue₀ 0 0) x queue₀ tail marks queue head high i
     × Pushing (pairsOf d pushed-labels₀ pushed-blocks₀) (λ j. (getD label j 0, getD element-to-block (getD target j 0) 0))
     (λ j. eqb (getD source j 0) x && not (inertb label target element-to-block b j)) i₀ end pushed-labels₀ pushed-blocks₀ i k pushed-labels
     pushed-blocks
@@ -53,13 +54,16 @@ visits : (a : Start)
     (a .args .pushed-labels .now) (a .args .pushed-blocks .now) (a .args .d)
 visits a = a .pre .1 .1
 
-abbrev Hunted : Start → ℕ → List ℕ → List ℕ → ℕ → ℕ → Type 0
-Hunted a n marks queue head tail =
-    Hunt (inertTable n (a .args .table .m) (a .args .source .now) (a .args .label .now) (a .args .target .now) (a .args .element-to-block .now) (a .args .b))
-    (getD (a .args .queue .now) 0 0) marks queue head tail
+abbrev Found : Start → ℕ → List ℕ → List ℕ → ℕ → ℕ → Type 0
+Found a n marks queue head tail =
+    Search (inertEdge (L a) (a .args .element-to-block .now) (a .args .b)) n (getD (a .args .queue .now) 0 0) marks queue head tail
 
 size : (a : Start) → length (a .args .marks .now) ≡ a .args .table .n
-size a = hunt-size _ _ _ _ _ _ _ _ _ _ _ _ (visits a .hunt)
+size a = visits a .search .size
+
+-- the test of its rows
+abbrev W : Start → ℕ → Bool
+W a = inertb (a .args .label .now) (a .args .target .now) (a .args .element-to-block .now) (a .args .b)
 
 to : (a : Start) (i : ℕ) → i < a .args .table .m → getD (a .args .target .now) i 0 < length (a .args .marks .now)
 to a i l = omega (arith, valid a .fields i l .target, size a)
@@ -70,7 +74,7 @@ cast-m c = search needs
 at-requires : tie.Need-at-requires Inv-loop μ-loop
 at-requires c κs =
     let a = c .before .before .before .before .before .before .before .before .before .before in
-    omega (arith, a .pre .0 .2, hunt-few _ _ _ _ _ _ _ _ _ _ _ _ (visits a .hunt), hunt-room _ _ _ _ _ _ _ _ _ _ _ _ (visits a .hunt))
+    omega (arith, a .pre .0 .2, search-few _ _ _ _ _ _ _ (visits a .search), visits a .search .room)
 
 rows-of-requires : tie.Need-rows-of-requires Inv-loop μ-loop
 rows-of-requires c κs = (valid (c .before .before .before .before .before .before .before .before .before .before .before) .long .source, rising (L (c .before .before .before .before .before .before .before .before .before .before .before)) (valid (c .before .before .before .before .before .before .before .before .before .before .before)), omega (arith, c .at .ensures .1))
@@ -80,12 +84,12 @@ from : (q : tie.After-rows-of Inv-loop μ-loop) → RowsFrom (L (q .before .befo
 from q = rows-from (L (q .before .before .before .before .before .before .before .before .before .before .before .before)) (valid (q .before .before .before .before .before .before .before .before .before .before .before .before)) (q .before .at .result) _ _ (q .rows-of .ensures .0) (q .rows-of .ensures .1)
 
 loop-holds : tie.Need-loop-holds Inv-loop μ-loop
+unfolding inertEdge
 loop-holds c =
     let a = c .before .before .before .before .before .before .before .before .before .before .before .before in (
-      turn-start (length (a .args .marks .now)) (a .args .table .m) (a .args .source .now) (a .args .label .now) (a .args .target .now)
-          (a .args .element-to-block .now) (a .args .b) (rising (L a) (valid a)) (to a) (getD (a .args .queue .now) 0 0) (c .before .at .result) (a .args .queue .now)
+      visit-start (length (a .args .marks .now)) (a .args .table .m) (a .args .source .now) (a .args .target .now) (W a) (rising (L a) (valid a)) (to a) (getD (a .args .queue .now) 0 0) (c .before .at .result) (a .args .queue .now)
           (a .args .tail) (a .args .head) (a .args .marks .now) (c .rows-of .result .first) (c .rows-of .ensures .0)
-          (subst (λ (n : ℕ). Hunted a n (a .args .marks .now) (a .args .queue .now) (a .args .head) (a .args .tail)) (sym (size a)) (visits a .hunt)) (a .pre .0 .2)
+          (subst (λ (n : ℕ). Found a n (a .args .marks .now) (a .args .queue .now) (a .args .head) (a .args .tail)) (sym (size a)) (visits a .search)) (a .pre .0 .2)
           (sym (c .before .at .ensures .0)),
       push-start _ _ _ _ _ _ _ (a .args .d) refl (from c .up) (λ k l. and-no-left _ _ (from c .before k l)),
     )
@@ -99,7 +103,7 @@ module _ (q : tie.In-loop Inv-loop μ-loop) where
   own = from (q .before .before) .own (q .before .loop .i) (q .before .loop .inv .1 .low) (omega (arith, q .loop-test))
 
   wide : length (q .before .loop .marks) ≡ length (q .before .before .before .before .before .before .before .before .before .before .before .before .before .before .args .marks .now)
-  wide = hunt-size _ _ _ _ _ _ _ _ _ _ _ _ (q .before .loop .inv .0 .hunt)
+  wide = q .before .loop .inv .0 .search .size
 
 at-requires-2 : tie.Need-at-requires-2 Inv-loop μ-loop
 at-requires-2 c κs = omega (arith, below c, valid (c .before .before .before .before .before .before .before .before .before .before .before .before .before .before) .long .target)
@@ -120,19 +124,18 @@ append-requires : tie.Need-append-requires Inv-loop μ-loop
 append-requires c κs =
     let a = c .before .before .before .before .before .before .before .before .before .before .before .before .before .before .before .before .before .before .before in
     let l = below (c .before .before .before .before .before) in
-    let h = c .before .before .before .before .before .before .loop .inv .0 .hunt in (
+    let h = c .before .before .before .before .before .before .loop .inv .0 .search in (
       omega (arith, c .before .before .before .before .at2 .ensures .0, to a (c .before .before .before .before .before .before .loop .i) l, wide (c .before .before .before .before .before)),
       c .before .before .before .before .at2 .ensures .1,
-      omega (arith, hunt-few _ _ _ _ _ _ _ _ _ _ _ _ h, size a, valid a .few-states),
+      omega (arith, search-few _ _ _ _ _ _ _ h, size a, valid a .few-states),
       λ z.
           omega (
             arith,
-            turn-room (length (a .args .marks .now)) (a .args .table .m) (a .args .source .now) (a .args .label .now) (a .args .target .now)
-                (a .args .element-to-block .now) (a .args .b) (rising (L a) (valid a)) (to a) (getD (a .args .queue .now) 0 0) (c .before .before .before .before .before .before .before .before .at .result) (a .args .queue .now)
+            visit-room (length (a .args .marks .now)) (a .args .table .m) (a .args .source .now) (a .args .target .now) (W a) (rising (L a) (valid a)) (to a) (getD (a .args .queue .now) 0 0) (c .before .before .before .before .before .before .before .before .at .result) (a .args .queue .now)
                 (a .args .tail) (a .args .head) (c .before .before .before .before .before .before .loop .marks) (c .before .before .before .before .before .before .loop .queue) (c .before .before .before .before .before .before .loop .high) (c .before .before .before .before .before .before .loop .i) (c .before .before .before .before .before .before .loop .inv .0) l (eqb-true _ _ (own (c .before .before .before .before .before)))
                 (sym (tested (c .before .before .before)) ∙ c .before .before .if1 .taken)
                 (sym (ap (λ (y : ℕ). getD (c .before .before .before .before .before .before .loop .marks) y 0) (c .before .before .before .before .at2 .ensures .0)) ∙ z),
-            hunt-room _ _ _ _ _ _ _ _ _ _ _ _ h,
+            h .room,
           ),
     )
 
@@ -147,8 +150,7 @@ loop-again c =
     let a = c .before .before .before .before .before .before .before .before .before .before .before .before .before .before .before .before .before .before .before .before .before .before .before .before in
     let l = c .before .before .before .before .before .before .before .before .before .before .before .loop in
     let p = c .before .before .before .before .append in (
-      turn-append (length (a .args .marks .now)) (a .args .table .m) (a .args .source .now) (a .args .label .now) (a .args .target .now)
-          (a .args .element-to-block .now) (a .args .b) (rising (L a) (valid a)) (to a) (getD (a .args .queue .now) 0 0) (c .before .before .before .before .before .before .before .before .before .before .before .before .before .at .result) (a .args .queue .now)
+      visit-append (length (a .args .marks .now)) (a .args .table .m) (a .args .source .now) (a .args .target .now) (W a) (rising (L a) (valid a)) (to a) (getD (a .args .queue .now) 0 0) (c .before .before .before .before .before .before .before .before .before .before .before .before .before .at .result) (a .args .queue .now)
           (a .args .tail) (a .args .head) (l .marks) (l .queue) (l .high) (l .i) (l .inv .0) (below (c .before .before .before .before .before .before .before .before .before .before)) (eqb-true _ _ (own (c .before .before .before .before .before .before .before .before .before .before)))
           (sym (tested (c .before .before .before .before .before .before .before .before)) ∙ c .before .before .before .before .before .before .before .if1 .taken) (p .result) (p .last .0) (p .last .1 .0)
           (p .ensures ∙ ap (λ (y : ℕ). appended y (l .marks) (l .queue) (l .high)) (c .before .before .before .before .before .before .before .before .before .at2 .ensures .0)),
@@ -220,8 +222,7 @@ loop-again-2 : tie.Need-loop-again-2 Inv-loop μ-loop
 loop-again-2 c =
     let a = c .before .before .before .before .before .before .before .before .before .before .before .before .before .before .before .before .before .before .before in
     let l = c .before .before .before .before .before .before .loop in (
-      turn-skip (length (a .args .marks .now)) (a .args .table .m) (a .args .source .now) (a .args .label .now) (a .args .target .now)
-          (a .args .element-to-block .now) (a .args .b) (rising (L a) (valid a)) (to a) (getD (a .args .queue .now) 0 0) (c .before .before .before .before .before .before .before .before .at .result) (a .args .queue .now)
+      visit-skip (length (a .args .marks .now)) (a .args .table .m) (a .args .source .now) (a .args .target .now) (W a) (rising (L a) (valid a)) (to a) (getD (a .args .queue .now) 0 0) (c .before .before .before .before .before .before .before .before .at .result) (a .args .queue .now)
           (a .args .tail) (a .args .head) (l .marks) (l .queue) (l .high) (l .i) (l .inv .0)
           (λ e. absurd (contra e (sym (tested (c .before .before .before)) ∙ c .before .before .if1 .left))),
       push-more _ _ _ _ _ _ _ _ _ _ _ (l .inv .1) (omega (arith, c .before .before .before .before .before .loop-test)) (getD (a .args .label .now) (l .i) 0)
@@ -237,24 +238,24 @@ same-length-2 : tie.Need-same-length-2 Inv-loop μ-loop
 same-length-2 c = c .before .loop .inv .1 .right
 
 same-length-3 : tie.Need-same-length-3 Inv-loop μ-loop
-same-length-3 c = hunt-size _ _ _ _ _ _ _ _ _ _ _ _ (c .before .loop .inv .0 .hunt)
+same-length-3 c = c .before .loop .inv .0 .search .size
 
 same-length-4 : tie.Need-same-length-4 Inv-loop μ-loop
 same-length-4 c = c .before .loop .inv .0 .long
 
 returns : tie.Need-returns Inv-loop μ-loop
-unfolding outerPairs outerb pairAt
+unfolding inertEdge outerPairs outerb pairAt
 returns c =
     let a = c .before .before .before .before .before .before .before .before .before .before .before .before .before .before in
     let l = c .before .loop in
     let f = from (c .before .before) in
     let e : l .i ≡ c .before .before .rows-of .result .end = omega (arith, c .loop-test, l .inv .1 .high) in
     record {
-      hunt =
-          subst (λ (n : ℕ). Hunted a n (l .marks) (l .queue) (a .args .head + 1) (l .high)) (size a)
-          (turn-end (length (a .args .marks .now)) (a .args .table .m) (a .args .source .now) (a .args .label .now) (a .args .target .now)
-          (a .args .element-to-block .now) (a .args .b) (rising (L a) (valid a)) (to a) (getD (a .args .queue .now) 0 0) (c .before .before .before .at .result) (a .args .queue .now)
+      search =
+          subst (λ (n : ℕ). Found a n (l .marks) (l .queue) (a .args .head + 1) (l .high)) (size a)
+          (visit-end (length (a .args .marks .now)) (a .args .table .m) (a .args .source .now) (a .args .target .now) (W a) (rising (L a) (valid a)) (to a) (getD (a .args .queue .now) 0 0) (c .before .before .before .at .result) (a .args .queue .now)
           (a .args .tail) (a .args .head) (l .marks) (l .queue) (l .high) (l .i) (l .inv .0) (e ∙ c .before .before .rows-of .ensures .1));
+      rest = λ k w. l .inv .0 .behind k w ∙ visits a .rest k (omega (arith, w, l .inv .0 .more));
       pushed =
           visits-more _ _ _ _ _ _ _ _ _ _ _ (visits a) (l .queue) (l .pushed-labels) (l .pushed-blocks) (l .k) (l .inv .0 .kept) (a .pre .0 .2)
           (subst

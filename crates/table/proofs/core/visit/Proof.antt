@@ -1,155 +1,171 @@
--- `core.visit` meets its contract.
-use mathlib.Core.Path.{_≡_, refl, sym, ap, subst, _∙_}
+-- `core.visit` meets its contract. The loop's invariant: the targets of the rows seen that are taken are marked.
+use borrow.Author.Needs.{needs}
 use native.Mathlib.Omega.{arith}
 use Prim.Native.Nat.{ℕ, _≤_, _<_, _-_, _+_}
-use lib.ListN.{length, getD, set, length-set}
-use mathlib.Core.List.{List}
+use mathlib.Core.Path.{_≡_, sym, ap, subst, _∙_}
 use mathlib.Core.Bool.{Bool}
-use Rattle.table.specs.declared.Table.{Table}
-use Rattle.table.specs.Lts.{lts, Valid}
-use Rattle.table.specs.Search.{Search}
-use Rattle.table.specs.Stretch.{firstRow}
-use Rattle.table.proofs.Searching.{Visit, visit-start, visit-skip, visit-take, visit-room, visit-end}
+use mathlib.Core.List.{List}
+use lib.ListN.{length, getD}
+use Rattle.columns.proofs.Bools.{contra}
+use Rattle.table.specs.Lts.{Lts, lts, Valid}
+use Rattle.table.specs.Reach.{takes, edge}
+use Rattle.table.specs.Search.{Search, appended}
+use Rattle.table.proofs.Searching.{Visit, visit-start, visit-skip, visit-append, visit-room, visit-end, search-few}
 use Rattle.table.proofs.Stretches.{rising, stretch, first-row-up, first-row-most}
-use lib.Dec.{eqb}
-use Rattle.columns.proofs.Counting.{many-le}
 use Rattle.table.proofs.core.visit.Statement.{statement}
 use Rattle.table.proofs.core.visit.Tie as tie
 
--- the loop's invariant, for every table of m rows in these columns whose search stood so at the start
-abbrev Visiting :
-    List ℕ → List ℕ → List ℕ → Bool → List ℕ → List ℕ → ℕ → ℕ → ℕ → ℕ → List ℕ → List ℕ → ℕ → ℕ → Type 0
-Visiting source label target hidden marks₀ queue₀ head tail m s marks queue i high =
-    (x : Table) → x .m ≡ m → Valid (lts x source label target)
-    → Search (lts x source label target) hidden (getD queue₀ 0 0) marks₀ queue₀ head tail
-    → Visit (lts x source label target) hidden (getD queue₀ 0 0) s marks queue head high i
-
 abbrev Inv-loop : tie.InvT-loop
 Inv-loop source label target hidden marks₀ queue₀ head tail m s i₀ end high₀ marks queue i high =
-    ((i₀ ≤ i) × (i ≤ end)) × ((length queue ≡ length queue₀) × Visiting source label target hidden marks₀ queue₀ head tail m s marks queue i high)
+    ((i₀ ≤ i) × (i ≤ end))
+    × Visit (length marks₀) m source target (λ j. takes hidden (getD label j 0)) (getD queue₀ 0 0) s queue₀ tail marks queue head high i
 
 abbrev μ-loop : tie.MeasureT-loop
 μ-loop source label target hidden marks₀ queue₀ head tail m s i₀ end high₀ marks queue i high = end - i
 
+abbrev Start : Type 0
+Start = tie.Start Inv-loop μ-loop
+
+-- the table that is lent, the test of its rows, and the search as it stands in it
+abbrev L : Start → Lts
+L a = lts (a .args .table) (a .args .source .now) (a .args .label .now) (a .args .target .now)
+
+abbrev W : Start → ℕ → Bool
+W a j = takes (a .args .hidden) (getD (a .args .label .now) j 0)
+
+valid : (a : Start) → Valid (L a)
+valid a = a .pre .0 .0
+
+abbrev Found : Start → ℕ → List ℕ → List ℕ → ℕ → ℕ → Type 0
+Found a n marks queue head tail = Search (edge (L a) (a .args .hidden)) n (getD (a .args .queue .now) 0 0) marks queue head tail
+
+search₀ : (a : Start) → Found a (a .args .table .n) (a .args .marks .now) (a .args .queue .now) (a .args .head) (a .args .tail)
+search₀ a = a .pre .1
+
+to : (a : Start) (i : ℕ) → i < a .args .table .m → getD (a .args .target .now) i 0 < length (a .args .marks .now)
+to a i l = omega (arith, valid a .fields i l .target, search₀ a .size)
+
 cast-m : tie.Need-cast-m Inv-loop μ-loop
-cast-m c = omega arith
+cast-m c = search needs
 
 at-requires : tie.Need-at-requires Inv-loop μ-loop
-at-requires c κs = let a = c .before .before .before .before .before .before .before in
-    omega (arith, a .pre .0 .1, a .pre .1 .state (a .args .head) (a .pre .0 .1), a .pre .1 .counted, many-le (a .args .table .n) (λ u. eqb (getD (a .args .marks .now) u 0) 1), a .pre .1 .room)
+at-requires c κs = omega (arith, c .before .before .before .before .before .before .before .pre .0 .1, search-few _ _ _ _ _ _ _ (search₀ (c .before .before .before .before .before .before .before)), search₀ (c .before .before .before .before .before .before .before) .room)
 
 rows-of-requires : tie.Need-rows-of-requires Inv-loop μ-loop
-rows-of-requires c κs = let a = c .before .before .before .before .before .before .before .before in
-    (a .pre .0 .0 .long .source, rising (lts (a .args .table) (a .args .source .now) (a .args .label .now) (a .args .target .now)) (a .pre .0 .0), c .at .ensures .1)
+rows-of-requires c κs = (valid (c .before .before .before .before .before .before .before .before) .long .source, rising (L (c .before .before .before .before .before .before .before .before)) (valid (c .before .before .before .before .before .before .before .before)), c .at .ensures .1)
 
 loop-holds : tie.Need-loop-holds Inv-loop μ-loop
-loop-holds c = let a = c .before .before .before .before .before .before .before .before .before in (
-  (omega arith, omega (arith, c .rows-of .ensures .0, c .rows-of .ensures .1, first-row-up (a .args .source .now) (a .args .table .m) (rising (lts (a .args .table) (a .args .source .now) (a .args .label .now) (a .args .target .now)) (a .pre .0 .0)) (c .before .at .result))),
-  (
-    refl,
-    λ x e v s.
-        subst (λ (k : ℕ). Visit (lts x (a .args .source .now) (a .args .label .now) (a .args .target .now)) (a .args .hidden) (getD (a .args .queue .now) 0 0) (c .before .at .result) (a .args .marks .now) (a .args .queue .now) (a .args .head) (a .args .tail) k)
-        (ap (λ (k : ℕ). firstRow (a .args .source .now) k (c .before .at .result)) e ∙ sym (c .rows-of .ensures .0))
-        (visit-start (lts x (a .args .source .now) (a .args .label .now) (a .args .target .now)) (a .args .hidden) v (getD (a .args .queue .now) 0 0) (c .before .at .result) (a .args .marks .now) (a .args .queue .now) (a .args .head) (a .args .tail) s (a .pre .0 .1) (sym (c .before .at .ensures .0))),
-  ),
-)
+unfolding edge
+loop-holds c =
+    let a = c .before .before .before .before .before .before .before .before .before in (
+      (
+        omega arith,
+        omega (
+          arith,
+          c .rows-of .ensures .0,
+          c .rows-of .ensures .1,
+          first-row-up (a .args .source .now) (a .args .table .m) (rising (L a) (valid a)) (c .before .at .result),
+        ),
+      ),
+      visit-start (length (a .args .marks .now)) (a .args .table .m) (a .args .source .now) (a .args .target .now) (W a) (rising (L a) (valid a)) (to a)
+          (getD (a .args .queue .now) 0 0) (c .before .at .result) (a .args .queue .now) (a .args .tail) (a .args .head) (a .args .marks .now)
+          (c .rows-of .result .first) (c .rows-of .ensures .0)
+          (subst (λ (n : ℕ). Found a n (a .args .marks .now) (a .args .queue .now) (a .args .head) (a .args .tail)) (sym (search₀ a .size)) (search₀ a))
+          (a .pre .0 .1) (sym (c .before .at .ensures .0)),
+    )
 
-fresh-requires : tie.Need-fresh-requires Inv-loop μ-loop
-fresh-requires c κs = let a = c .before .before .before .before .before .before .before .before .before .before .before .before in
-    let w = c .before .before .loop .inv .1 .1 (a .args .table) refl (a .pre .0 .0) (a .pre .1) in
-    let im : c .before .before .loop .i < a .args .table .m = omega (arith, c .before .before .loop .inv .0, first-row-most (a .args .source .now) (a .args .table .m) (c .before .before .before .before .at .result + 1), c .before .before .before .rows-of .ensures .1) in
-    let f = a .pre .0 .0 .fields (c .before .before .loop .i) im in
-    (omega (arith, im, a .pre .0 .0 .long .label), omega (arith, im, a .pre .0 .0 .long .target), omega (arith, f .target, w .search .size))
+-- a row of the state
+module _ (q : tie.In-loop Inv-loop μ-loop) where
+  below : q .before .loop .i < q .before .before .before .before .before .before .before .before .before .before .before .args .table .m
+  below =
+      omega (
+        arith,
+        q .before .loop .inv .0,
+        q .loop-test,
+        first-row-most (q .before .before .before .before .before .before .before .before .before .before .before .args .source .now) (q .before .before .before .before .before .before .before .before .before .before .before .args .table .m) (q .before .before .before .at .result + 1),
+        q .before .before .rows-of .ensures .1,
+      )
+
+  own : getD (q .before .before .before .before .before .before .before .before .before .before .before .args .source .now) (q .before .loop .i) 0 ≡ q .before .before .before .at .result
+  own =
+      stretch (q .before .before .before .before .before .before .before .before .before .before .before .args .source .now) (q .before .before .before .before .before .before .before .before .before .before .before .args .table .m) (rising (L (q .before .before .before .before .before .before .before .before .before .before .before)) (valid (q .before .before .before .before .before .before .before .before .before .before .before))) (q .before .before .before .at .result) (q .before .loop .i) below .1
+      (omega (arith, q .before .loop .inv .0, q .before .before .rows-of .ensures .0), omega (arith, q .loop-test, q .before .before .rows-of .ensures .1))
+
+taken-requires : tie.Need-taken-requires Inv-loop μ-loop
+taken-requires c κs = omega (arith, below c, valid (c .before .before .before .before .before .before .before .before .before .before .before) .long .label)
 
 at-requires-2 : tie.Need-at-requires-2 Inv-loop μ-loop
-at-requires-2 c κs = let a = c .before .before .before .before .before .before .before .before .before .before .before .before .before .before in
-    let im : c .before .before .before .before .loop .i < a .args .table .m = omega (arith, c .before .before .before .before .loop .inv .0, first-row-most (a .args .source .now) (a .args .table .m) (c .before .before .before .before .before .before .at .result + 1), c .before .before .before .before .before .rows-of .ensures .1) in
-    let f = a .pre .0 .0 .fields (c .before .before .before .before .loop .i) im in
-    omega (arith, im, a .pre .0 .0 .long .target)
+at-requires-2 c κs = omega (arith, below (c .before .before), valid (c .before .before .before .before .before .before .before .before .before .before .before .before .before) .long .target)
 
-mul-marks : tie.Need-mul-marks Inv-loop μ-loop
-mul-marks c = omega (arith, c .at2 .ensures .1)
-
-slice-write-marks : tie.Need-slice-write-marks Inv-loop μ-loop
-slice-write-marks c = let a = c .before .before .before .before .before .before .before .before .before .before .before .before .before .before .before in
-    let w = c .before .before .before .before .before .loop .inv .1 .1 (a .args .table) refl (a .pre .0 .0) (a .pre .1) in
-    let im : c .before .before .before .before .before .loop .i < a .args .table .m = omega (arith, c .before .before .before .before .before .loop .inv .0, first-row-most (a .args .source .now) (a .args .table .m) (c .before .before .before .before .before .before .before .at .result + 1), c .before .before .before .before .before .before .rows-of .ensures .1) in
-    let f = a .pre .0 .0 .fields (c .before .before .before .before .before .loop .i) im in
-    omega (arith, c .at2 .ensures .0, f .target, w .search .size)
-
-cast-queue : tie.Need-cast-queue Inv-loop μ-loop
-cast-queue c = omega (arith, c .at2 .ensures .1)
-
-mul-queue : tie.Need-mul-queue Inv-loop μ-loop
-mul-queue c = let a = c .before .before .before .before .before .before .before .before .before .before .before .before .before .before .before in
-    let w = c .before .before .before .before .before .loop .inv .1 .1 (a .args .table) refl (a .pre .0 .0) (a .pre .1) in
-    let im : c .before .before .before .before .before .loop .i < a .args .table .m = omega (arith, c .before .before .before .before .before .loop .inv .0, first-row-most (a .args .source .now) (a .args .table .m) (c .before .before .before .before .before .before .before .at .result + 1), c .before .before .before .before .before .before .rows-of .ensures .1) in
-    let f = a .pre .0 .0 .fields (c .before .before .before .before .before .loop .i) im in
-    let q = stretch (a .args .source .now) (a .args .table .m) (rising (lts (a .args .table) (a .args .source .now) (a .args .label .now) (a .args .target .now)) (a .pre .0 .0)) (c .before .before .before .before .before .before .before .at .result) (c .before .before .before .before .before .loop .i) im .1 (omega (arith, c .before .before .before .before .before .loop .inv .0, c .before .before .before .before .before .before .rows-of .ensures .0), omega (arith, c .before .before .before .before .before .loop .inv .0, c .before .before .before .before .before .before .rows-of .ensures .1)) in
-    let r = visit-room (lts (a .args .table) (a .args .source .now) (a .args .label .now) (a .args .target .now)) (a .args .hidden) (a .pre .0 .0) (getD (a .args .queue .now) 0 0) (c .before .before .before .before .before .before .before .at .result) (c .before .before .before .before .before .loop .marks) (c .before .before .before .before .before .loop .queue) (a .args .head) (c .before .before .before .before .before .loop .high) (c .before .before .before .before .before .loop .i) w im q (sym (c .before .before .fresh .ensures) ∙ c .before .if1 .taken) in
-    omega (arith, r, a .pre .0 .0 .few-states)
-
-slice-write-queue : tie.Need-slice-write-queue Inv-loop μ-loop
-slice-write-queue c = let a = c .before .before .before .before .before .before .before .before .before .before .before .before .before .before .before in
-    let w = c .before .before .before .before .before .loop .inv .1 .1 (a .args .table) refl (a .pre .0 .0) (a .pre .1) in
-    let im : c .before .before .before .before .before .loop .i < a .args .table .m = omega (arith, c .before .before .before .before .before .loop .inv .0, first-row-most (a .args .source .now) (a .args .table .m) (c .before .before .before .before .before .before .before .at .result + 1), c .before .before .before .before .before .before .rows-of .ensures .1) in
-    let f = a .pre .0 .0 .fields (c .before .before .before .before .before .loop .i) im in
-    let q = stretch (a .args .source .now) (a .args .table .m) (rising (lts (a .args .table) (a .args .source .now) (a .args .label .now) (a .args .target .now)) (a .pre .0 .0)) (c .before .before .before .before .before .before .before .at .result) (c .before .before .before .before .before .loop .i) im .1 (omega (arith, c .before .before .before .before .before .loop .inv .0, c .before .before .before .before .before .before .rows-of .ensures .0), omega (arith, c .before .before .before .before .before .loop .inv .0, c .before .before .before .before .before .before .rows-of .ensures .1)) in
-    let r = visit-room (lts (a .args .table) (a .args .source .now) (a .args .label .now) (a .args .target .now)) (a .args .hidden) (a .pre .0 .0) (getD (a .args .queue .now) 0 0) (c .before .before .before .before .before .before .before .at .result) (c .before .before .before .before .before .loop .marks) (c .before .before .before .before .before .loop .queue) (a .args .head) (c .before .before .before .before .before .loop .high) (c .before .before .before .before .before .loop .i) w im q (sym (c .before .before .fresh .ensures) ∙ c .before .if1 .taken) in
-    omega (arith, r, w .search .room)
-
-add-high : tie.Need-add-high Inv-loop μ-loop
-add-high c = let a = c .before .before .before .before .before .before .before .before .before .before .before .before .before .before .before in
-    let w = c .before .before .before .before .before .loop .inv .1 .1 (a .args .table) refl (a .pre .0 .0) (a .pre .1) in
-    let im : c .before .before .before .before .before .loop .i < a .args .table .m = omega (arith, c .before .before .before .before .before .loop .inv .0, first-row-most (a .args .source .now) (a .args .table .m) (c .before .before .before .before .before .before .before .at .result + 1), c .before .before .before .before .before .before .rows-of .ensures .1) in
-    let f = a .pre .0 .0 .fields (c .before .before .before .before .before .loop .i) im in
-    let q = stretch (a .args .source .now) (a .args .table .m) (rising (lts (a .args .table) (a .args .source .now) (a .args .label .now) (a .args .target .now)) (a .pre .0 .0)) (c .before .before .before .before .before .before .before .at .result) (c .before .before .before .before .before .loop .i) im .1 (omega (arith, c .before .before .before .before .before .loop .inv .0, c .before .before .before .before .before .before .rows-of .ensures .0), omega (arith, c .before .before .before .before .before .loop .inv .0, c .before .before .before .before .before .before .rows-of .ensures .1)) in
-    let r = visit-room (lts (a .args .table) (a .args .source .now) (a .args .label .now) (a .args .target .now)) (a .args .hidden) (a .pre .0 .0) (getD (a .args .queue .now) 0 0) (c .before .before .before .before .before .before .before .at .result) (c .before .before .before .before .before .loop .marks) (c .before .before .before .before .before .loop .queue) (a .args .head) (c .before .before .before .before .before .loop .high) (c .before .before .before .before .before .loop .i) w im q (sym (c .before .before .fresh .ensures) ∙ c .before .if1 .taken) in
-    omega (arith, r, a .pre .0 .0 .few-states)
+append-requires : tie.Need-append-requires Inv-loop μ-loop
+append-requires c κs =
+    let a = c .before .before .before .before .before .before .before .before .before .before .before .before .before .before .before .before in
+    let l = c .before .before .before .before .before .before .loop in
+    let s = l .inv .1 .search in (
+      omega (arith, c .before .before .at2 .ensures .0, to a (l .i) (below (c .before .before .before .before .before)), s .size),
+      c .before .before .at2 .ensures .1,
+      omega (arith, search-few _ _ _ _ _ _ _ s, search₀ a .size, valid a .few-states),
+      λ z.
+          omega (
+            arith,
+            visit-room (length (a .args .marks .now)) (a .args .table .m) (a .args .source .now) (a .args .target .now) (W a) (rising (L a) (valid a)) (to a)
+                (getD (a .args .queue .now) 0 0) (c .before .before .before .before .before .before .before .before .at .result) (a .args .queue .now) (a .args .tail) (a .args .head) (l .marks) (l .queue) (l .high) (l .i)
+                (l .inv .1) (below (c .before .before .before .before .before)) (own (c .before .before .before .before .before)) (sym (c .before .before .before .before .taken .ensures) ∙ c .before .before .before .if1 .taken)
+                (sym (ap (λ (y : ℕ). getD (l .marks) y 0) (c .before .before .at2 .ensures .0)) ∙ z),
+            s .room,
+          ),
+    )
 
 add-i : tie.Need-add-i Inv-loop μ-loop
-add-i c = omega arith
+add-i c = omega (arith, below (c .before .before .before .before .before .before .before .before .before .before), valid (c .before .before .before .before .before .before .before .before .before .before .before .before .before .before .before .before .before .before .before .before .before) .few-rows)
 
 loop-less : tie.Need-loop-less Inv-loop μ-loop
-loop-less c = omega arith
+loop-less c = omega (arith, c .before .before .before .before .before .before .before .before .before .before .loop-test)
 
 loop-again : tie.Need-loop-again Inv-loop μ-loop
-loop-again c = let a = c .before .before .before .before .before .before .before .before .before .before .before .before .before .before .before in
-    let im : c .before .before .before .before .before .loop .i < a .args .table .m = omega (arith, c .before .before .before .before .before .loop .inv .0, first-row-most (a .args .source .now) (a .args .table .m) (c .before .before .before .before .before .before .before .at .result + 1), c .before .before .before .before .before .before .rows-of .ensures .1) in
-    let f = a .pre .0 .0 .fields (c .before .before .before .before .before .loop .i) im in
-    let q = stretch (a .args .source .now) (a .args .table .m) (rising (lts (a .args .table) (a .args .source .now) (a .args .label .now) (a .args .target .now)) (a .pre .0 .0)) (c .before .before .before .before .before .before .before .at .result) (c .before .before .before .before .before .loop .i) im .1 (omega (arith, c .before .before .before .before .before .loop .inv .0, c .before .before .before .before .before .before .rows-of .ensures .0), omega (arith, c .before .before .before .before .before .loop .inv .0, c .before .before .before .before .before .before .rows-of .ensures .1)) in (
-      (omega arith, omega arith),
-      (
-        simp length-set (c .before .before .before .before .before .loop .inv .1 .0),
-        λ x e v s.
-            subst (λ (y : ℕ). Visit (lts x (a .args .source .now) (a .args .label .now) (a .args .target .now)) (a .args .hidden) (getD (a .args .queue .now) 0 0) (c .before .before .before .before .before .before .before .at .result) (set (c .before .before .before .before .before .loop .marks) y 1) (set (c .before .before .before .before .before .loop .queue) (c .before .before .before .before .before .loop .high) y) (a .args .head) (c .before .before .before .before .before .loop .high + 1) (c .before .before .before .before .before .loop .i + 1)) (sym (c .at2 .ensures .0))
-            (visit-take (lts x (a .args .source .now) (a .args .label .now) (a .args .target .now)) (a .args .hidden) v (getD (a .args .queue .now) 0 0) (c .before .before .before .before .before .before .before .at .result) (c .before .before .before .before .before .loop .marks) (c .before .before .before .before .before .loop .queue) (a .args .head) (c .before .before .before .before .before .loop .high) (c .before .before .before .before .before .loop .i) (c .before .before .before .before .before .loop .inv .1 .1 x e v s) (omega (arith, e, im)) q (sym (c .before .before .fresh .ensures) ∙ c .before .if1 .taken)),
-      ),
+loop-again c =
+    let a = c .before .before .before .before .before .before .before .before .before .before .before .before .before .before .before .before .before .before .before .before .before in
+    let l = c .before .before .before .before .before .before .before .before .before .before .before .loop in
+    let p = c .before .before .before .before .append in (
+      (omega (arith, l .inv .0), omega (arith, c .before .before .before .before .before .before .before .before .before .before .loop-test)),
+      visit-append (length (a .args .marks .now)) (a .args .table .m) (a .args .source .now) (a .args .target .now) (W a) (rising (L a) (valid a)) (to a)
+          (getD (a .args .queue .now) 0 0) (c .before .before .before .before .before .before .before .before .before .before .before .before .before .at .result) (a .args .queue .now) (a .args .tail) (a .args .head) (l .marks) (l .queue) (l .high) (l .i)
+          (l .inv .1) (below (c .before .before .before .before .before .before .before .before .before .before)) (own (c .before .before .before .before .before .before .before .before .before .before)) (sym (c .before .before .before .before .before .before .before .before .before .taken .ensures) ∙ c .before .before .before .before .before .before .before .before .if1 .taken) (p .result) (p .last .0) (p .last .1 .0)
+          (p .ensures ∙ ap (λ (y : ℕ). appended y (l .marks) (l .queue) (l .high)) (c .before .before .before .before .before .before .before .at2 .ensures .0)),
     )
 
 add-i-2 : tie.Need-add-i-2 Inv-loop μ-loop
-add-i-2 c = omega arith
+add-i-2 c = omega (arith, below (c .before .before), valid (c .before .before .before .before .before .before .before .before .before .before .before .before .before) .few-rows)
 
 loop-less-2 : tie.Need-loop-less-2 Inv-loop μ-loop
-loop-less-2 c = omega arith
+loop-less-2 c = omega (arith, c .before .before .loop-test)
 
 loop-again-2 : tie.Need-loop-again-2 Inv-loop μ-loop
-loop-again-2 c = let a = c .before .before .before .before .before .before .before .before .before .before .before .before .before .before in
-    ((omega arith, omega arith), (c .before .before .before .before .loop .inv .1 .0, λ x e v s. visit-skip (lts x (a .args .source .now) (a .args .label .now) (a .args .target .now)) (a .args .hidden) v (getD (a .args .queue .now) 0 0) (c .before .before .before .before .before .before .at .result) (c .before .before .before .before .loop .marks) (c .before .before .before .before .loop .queue) (a .args .head) (c .before .before .before .before .loop .high) (c .before .before .before .before .loop .i) (c .before .before .before .before .loop .inv .1 .1 x e v s) (sym (c .before .fresh .ensures) ∙ c .if1 .left)))
+loop-again-2 c =
+    let a = c .before .before .before .before .before .before .before .before .before .before .before .before .before in
+    let l = c .before .before .before .loop in (
+      (omega (arith, l .inv .0), omega (arith, c .before .before .loop-test)),
+      visit-skip (length (a .args .marks .now)) (a .args .table .m) (a .args .source .now) (a .args .target .now) (W a) (rising (L a) (valid a)) (to a)
+          (getD (a .args .queue .now) 0 0) (c .before .before .before .before .before .at .result) (a .args .queue .now) (a .args .tail) (a .args .head) (l .marks) (l .queue) (l .high) (l .i)
+          (l .inv .1) (λ e. absurd (contra e (sym (c .before .taken .ensures) ∙ c .if1 .left))),
+    )
 
 same-length : tie.Need-same-length Inv-loop μ-loop
-same-length c = let a = c .before .before .before .before .before .before .before .before .before .before .before in
-    let w = c .before .loop .inv .1 .1 (a .args .table) refl (a .pre .0 .0) (a .pre .1) in
-    w .search .size ∙ sym (a .pre .1 .size)
+same-length c = c .before .loop .inv .1 .search .size
 
 same-length-2 : tie.Need-same-length-2 Inv-loop μ-loop
-same-length-2 c = c .before .loop .inv .1 .0
+same-length-2 c = c .before .loop .inv .1 .long
 
 returns : tie.Need-returns Inv-loop μ-loop
-returns c = let a = c .before .before .before .before .before .before .before .before .before .before .before in
-    let w = c .before .loop .inv .1 .1 (a .args .table) refl (a .pre .0 .0) (a .pre .1) in
-    let e : c .before .loop .i ≡ c .before .before .rows-of .result .end = omega arith in
-    visit-end (lts (a .args .table) (a .args .source .now) (a .args .label .now) (a .args .target .now)) (a .args .hidden) (a .pre .0 .0) (getD (a .args .queue .now) 0 0) (c .before .before .before .at .result) (c .before .loop .marks) (c .before .loop .queue) (a .args .head) (c .before .loop .high) (c .before .loop .i) w (e ∙ c .before .before .rows-of .ensures .1)
+unfolding edge
+returns c =
+    let a = c .before .before .before .before .before .before .before .before .before .before .before in
+    let l = c .before .loop in
+    let e : l .i ≡ c .before .before .rows-of .result .end = omega (arith, c .loop-test, l .inv .0) in
+    subst (λ (n : ℕ). Found a n (l .marks) (l .queue) (a .args .head + 1) (l .high)) (search₀ a .size)
+    (visit-end (length (a .args .marks .now)) (a .args .table .m) (a .args .source .now) (a .args .target .now) (W a) (rising (L a) (valid a)) (to a)
+    (getD (a .args .queue .now) 0 0) (c .before .before .before .at .result) (a .args .queue .now) (a .args .tail) (a .args .head) (l .marks) (l .queue) (l .high) (l .i)
+    (l .inv .1) (e ∙ c .before .before .rows-of .ensures .1))
 
 pub visit-spec : {M : Type 1} → statement M
 visit-spec =
@@ -161,14 +177,9 @@ visit-spec =
     at-requires
     rows-of-requires
     loop-holds
-    fresh-requires
+    taken-requires
     at-requires-2
-    mul-marks
-    slice-write-marks
-    cast-queue
-    mul-queue
-    slice-write-queue
-    add-high
+    append-requires
     add-i
     loop-less
     loop-again

@@ -5,9 +5,9 @@ use mathlib.Core.Path.{_≡_, sym, _∙_}
 use mathlib.Core.Bool.{true, false}
 use lib.Dec.{eqb}
 use lib.ListN.{getD}
-use Rattle.branching.specs.Visiting.{appended}
-use Rattle.branching.proofs.core.append.Statement.{statement}
-use Rattle.branching.proofs.core.append.Tie as tie
+use Rattle.table.specs.Search.{appended}
+use Rattle.table.proofs.core.append.Statement.{statement}
+use Rattle.table.proofs.core.append.Tie as tie
 
 at-requires : tie.Need-at-requires
 at-requires c κs = search needs
