@@ -1,5 +1,5 @@
 """Lines that are no case."""
-from operations import BYTES, FLAGS, WIDE, Case, written
+from operations import BYTES, FLAGS, RECORDS, WIDE, Case, written
 
 WRONG_WORDS = ('65536', '131071', '4294967296', '18446744073709551616', 'x', '-1', '1x', '|')
 
@@ -8,6 +8,8 @@ def too_large(slice):
     """A number that is no cell of the slice."""
     if slice in BYTES:
         return '256'
+    if slice in RECORDS:
+        return ('0', '0', '65536')
     return '4294967296' if slice in WIDE else '65536'
 
 
@@ -28,7 +30,8 @@ def lines(operation, example):
         if name in FLAGS:
             yield written(operation, {**example, name: 2})
         if isinstance(value, list):
-            yield written(operation, {**example, name: [0] * (operation.room(name) + 1)})
+            cell = (0, 0, 0) if name in RECORDS else 0
+            yield written(operation, {**example, name: [cell] * (operation.room(name) + 1)})
             yield written(operation, {**example, name: [*value[:-1], too_large(name)]})
 
 

@@ -1,6 +1,7 @@
 """Faulty cases: a sound case with one fault, or with several at once. A fault changes the values of a case."""
 from itertools import chain, combinations, product
 
+from operations import RECORDS
 from partitions import DAMAGES, LARGEST, copied
 
 
@@ -61,4 +62,5 @@ def every_length(operation, v, names):
     for changes in product((0, -1, None, 1), repeat=len(names)):
         needed = {name: operation.lengths()[name](v) for name in names}
         lengths = {name: 0 if change is None else needed[name] + change for name, change in zip(names, changes)}
-        yield {**v, **{name: (v[name] + [1])[:length] for name, length in lengths.items()}}
+        more = {name: [(1, 1, 1)] if name in RECORDS else [1] for name in names}
+        yield {**v, **{name: (v[name] + more[name])[:length] for name, length in lengths.items()}}

@@ -10,7 +10,7 @@ class Operation(NamedTuple):
     name: str
     parameters: tuple
     tests: tuple  # 01's refusals in 01's order
-    changed: tuple = ()  # the parameters that are `&mut` slices
+    changed: tuple = ()  # the parameters that are `&mut` slices; a block's three numbers are one of them
     needs: dict = {}  # for a slice that has a length in 01, the cells needed
     rooms: dict = {}  # the same for a slice whose shortness is 16
     has_rust: bool = True
@@ -37,6 +37,8 @@ class Operation(NamedTuple):
         """The longest slice that `replay` takes here."""
         if slice == 'text':
             return TEXT_ROOM
+        if slice in RECORDS:
+            return RECORDS_ROOM
         if slice in GIVEN[1:] or slice in RESULT and 'starts' in self.parameters:
             return LISTS_ROOM
         if slice in COLUMNS or slice == 'starts' or slice not in PAIRS and 'm' not in self.parameters:
@@ -46,6 +48,7 @@ class Operation(NamedTuple):
 
 # The longest slices that `replay` takes.
 COLUMN_ROOM = 5000
+RECORDS_ROOM = 4096
 ROWS_ROOM = 8400
 WORK_ROOM = 12600
 LISTS_ROOM = 70000
@@ -54,6 +57,8 @@ TEXT_ROOM = 70000
 BYTES = ('text', 'choice')
 WIDE = ('starts',)
 FLAGS = ('hidden', 'reversed')
+# The slices of block records, each (begin, marked_split, end).
+RECORDS = ('blocks',)
 
 PARTITION = ('n', 'count') + COLUMNS
 TABLE = ('n', 'labels', 'm', 'initial') + ROWS
@@ -65,6 +70,8 @@ PAIRS = SELF + OTHER
 PUSHING = ('pushed_labels', 'pushed_blocks', 'order', 'spare')
 MERGING = ('own_labels', 'own_blocks', 'high', 'low', 'end_high', 'end_low', 'tree')
 BLOCK = ('begin', 'marked_split', 'end')
+# The columns that have a cell for each state, without those of the blocks.
+STATES = COLUMNS[:3]
 EACH_STATE = dict.fromkeys(COLUMNS, a_state)
 # The slices that have a length in 01 and stand beside a partition's columns.
 BESIDES = ('numbers', 'choice') + WORK
@@ -87,6 +94,14 @@ def on_partition(name, arguments=(), changed=(), tests=(), **more):
     needs = {**EACH_STATE, **besides}
     chain = (refusals.states, refusals.short(needs), refusals.partition, *ranges(arguments), *tests)
     return Operation(name, PARTITION + arguments, chain, changed, needs, **more)
+
+
+def on_records(name, arguments, changed):
+    """An operation on a partition whose block table is a list of records: the refusals are those of `on_partition`."""
+    slices = STATES + RECORDS
+    needs = dict.fromkeys(slices, a_state)
+    chain = (refusals.states, refusals.short(needs), refusals.of_records(refusals.partition), *ranges(arguments))
+    return Operation(name, ('n', 'count') + slices + arguments, chain, changed, needs)
 
 
 def on_table(name, arguments, needs, changed, tests=(), last=(), **more):
@@ -127,6 +142,8 @@ ALL = (
     on_partition('partition_marked_with', ('block', 'numbers') + WORK, COLUMNS + WORK,
                  (refusals.nothing_marked, refusals.not_dense)),
     on_partition('split_marked', ('block', 'choice'), COLUMNS),
+    Operation('Block::unmark_all', BLOCK, (refusals.block,), (BLOCK,)),
+    on_records('swap_blocks_host', ('left', 'right'), ('element_to_block', 'blocks')),
     on_table('incoming', ('incoming', 'spare'), {'incoming': a_row, 'spare': worked}, ('incoming', 'spare'),
              has_rust=False, computed=plain.incoming),
     on_table('reachable', ('hidden', 'state', 'reached', 'queue'), {'reached': a_state, 'queue': worked},
@@ -171,7 +188,8 @@ class Case:
 
 
 def cells(slice):
-    return ''.join(f' {cell}' for cell in slice)
+    """The cells of a slice, the fields of a record one after the other."""
+    return ''.join(cells(cell) if isinstance(cell, tuple) else f' {cell}' for cell in slice)
 
 
 def written(operation, values):
@@ -186,9 +204,14 @@ def written(operation, values):
     return ' '.join(words)
 
 
+def lent(values, slice):
+    """What is lent as `&mut`: a slice, or a block's three numbers."""
+    return values[slice] if isinstance(slice, str) else [values[number] for number in slice]
+
+
 def answer_line(operation, values, words, slices):
     """The words, and the `&mut` slices at return: those given here, and the others as they came in."""
-    return words + ''.join(f' |{cells(slices.get(slice, values[slice]))}' for slice in operation.changed)
+    return words + ''.join(f' |{cells(slices.get(slice, lent(values, slice)))}' for slice in operation.changed)
 
 
 def cleared(operation, values):

@@ -113,6 +113,13 @@ def partition(v):
     return None if is_consistent(v) else (14, 0)
 
 
+def of_records(test):
+    """A test of a partition, where its blocks are a list of records."""
+    def columns(v):
+        return {field: [record[place] for record in v['blocks']] for place, field in enumerate(COLUMNS[3:])}
+    return lambda v: test({**v, **columns(v)})
+
+
 def below(argument, bound):
     """8: an argument out of range; its place is its value."""
     return lambda v: None if v[argument] < v[bound] else (8, v[argument])

@@ -6,7 +6,9 @@ from itertools import product
 
 import cases_bad
 import cases_block
+import cases_host
 import cases_partition
+import sample_host
 import sample_signature
 import sample_split
 import sample_table
@@ -166,6 +168,7 @@ def of_no_case():
         yield from (case for case in cases if len(case.line) < 300)
     yield next(case for case in cases if len(case.line) > 5000)
     yield Case(operation, None, 'no_such_operation 1')
+    yield from sample_host.of_no_case()
     yield from sample_split.of_no_case()
     yield from sample_table.of_no_case()
     yield from sample_signature.of_no_case()
@@ -184,6 +187,9 @@ def entries():
             yield from sample_split.of_divide()
         elif operation.name == 'split_marked':
             yield from sample_split.of_split()
+        elif operation.name in cases_host.OPERATIONS:
+            yield from sample_host.of_columns(of_partition(cases_host.COLUMN_FORM, DAMAGED))
+            yield from sample_host.of_list()
         elif operation.name in sample_table.OPERATIONS:
             yield from sample_table.of(operation.name)
         elif operation.name in sample_signature.OPERATIONS + signatures.OPERATIONS:

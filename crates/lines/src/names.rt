@@ -90,6 +90,11 @@ pub const OUTGOING: usize = 1401;
 
 pub const NEXT_INCOMING: usize = 1402;
 
+// The host forms: on one block record, and on a list of them.
+pub const UNMARKINGS: usize = 1500;
+
+pub const SWAPPINGS: usize = 1600;
+
 // The operation with this name. The names of a family stand in the order of their numbers, each with a blank after it.
 pub fn operation(name: &[u8]) -> usize {
     let block = place(
@@ -122,6 +127,17 @@ fn larger(name: &[u8]) -> usize {
     }
     if place(name, b"split_marked ") != 0 {
         return SPLITS;
+    }
+    on_records(name)
+}
+
+// The operation with this name among the host forms.
+fn on_records(name: &[u8]) -> usize {
+    if place(name, b"Block::unmark_all ") != 0 {
+        return UNMARKINGS;
+    }
+    if place(name, b"swap_blocks_host ") != 0 {
+        return SWAPPINGS;
     }
     on_table(name)
 }

@@ -3,6 +3,9 @@
 // A column with a cell for each state or block.
 pub type Column = [u16; 5000];
 
+// A field of the records of a list of blocks, as many as a partition may have.
+pub type Records = [u16; 4096];
+
 // A column with a cell for each row of a table.
 pub type Rows = [u16; 8400];
 

@@ -5,6 +5,8 @@ mod split_cases;
 use cases::block_cases;
 use cases::display_cases;
 use cases::partition_cases;
+use host_cases::swapping_cases;
+use host_cases::unmarking_cases;
 use lines::input;
 use lines::input::Buffer;
 use lines::input::Input;
@@ -26,6 +28,8 @@ fn replay(line: Line, buffer: &mut Buffer, out: &mut Buffer, used: usize) -> Ans
         names::TEXTS => display_cases::replay(line, buffer, out, used),
         names::DIVISIONS => division_cases::replay(line, buffer, out, used),
         names::SPLITS => split_cases::replay(line, buffer, out, used),
+        names::UNMARKINGS => unmarking_cases::replay(line, buffer, out, used),
+        names::SWAPPINGS => swapping_cases::replay(line, buffer, out, used),
         names::TABLES => table_cases::replay(line, buffer, out, used),
         names::TRANSITIONS => transition_cases::replay(line, buffer, out, used),
         names::CLOSURES => closure_cases::replay(line, buffer, out, used),

@@ -28,10 +28,16 @@ fn construct(line: &mut Line, constructor: fn(usize, usize) -> Block) -> Result<
     Ok(done(&numbers(&rust(|| constructor(begin, end))?), &[]))
 }
 
-fn read<R: Into<usize>>(line: &mut Line, reader: fn(&Block) -> R) -> Result<String, Stop> {
+/// A block alone, accepted.
+pub fn alone(line: &mut Line) -> Result<Block, Stop> {
     let block = Block { begin: line.number()?, marked_split: line.number()?, end: line.number()? };
     line.end()?;
     accept::block(block.begin, block.marked_split, block.end, MOST_STATES)?;
+    Ok(block)
+}
+
+fn read<R: Into<usize>>(line: &mut Line, reader: fn(&Block) -> R) -> Result<String, Stop> {
+    let block = alone(line)?;
     Ok(done(&[rust(|| reader(&block))?.into()], &[]))
 }
 

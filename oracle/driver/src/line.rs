@@ -16,6 +16,8 @@ pub enum Stop {
 /// Cells of the longest column that may be lent, with a cell for each state or block, and for each row.
 const COLUMN_ROOM: usize = 5_000;
 const ROWS_ROOM: usize = 8_400;
+/// Records of the longest list of blocks that may be lent.
+const RECORDS_ROOM: usize = 4_096;
 /// Cells of the longest work slice of an operation on a table.
 const WORK_ROOM: usize = 12_600;
 /// Cells of the longest column of given lists, and of a result that takes them in.
@@ -61,6 +63,12 @@ impl<'a> Line<'a> {
     /// A slice of numbers: its length and its cells.
     pub fn column(&mut self) -> Result<Vec<usize>, Stop> {
         self.slice(COLUMN_ROOM, u16::MAX.into())
+    }
+
+    /// A list of block records: its length and the three fields of each.
+    pub fn records(&mut self) -> Result<Vec<[usize; 3]>, Stop> {
+        let length = self.up_to(RECORDS_ROOM)?;
+        (0..length).map(|_| Ok([self.number()?, self.number()?, self.number()?])).collect()
     }
 
     /// A slice with a number for each row of a table.

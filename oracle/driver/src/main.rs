@@ -6,6 +6,7 @@
 mod accept;
 mod answer;
 mod block;
+mod host;
 mod lent;
 mod line;
 mod partition;
@@ -21,8 +22,14 @@ use line::{Line, Stop};
 use run::Operation;
 
 /// The operations, a table for each file that holds some.
-const TABLES: &[&[(&str, Operation)]] =
-    &[block::OPERATIONS, partition::OPERATIONS, split::OPERATIONS, steps::OPERATIONS, signature::OPERATIONS];
+const TABLES: &[&[(&str, Operation)]] = &[
+    block::OPERATIONS,
+    partition::OPERATIONS,
+    host::OPERATIONS,
+    split::OPERATIONS,
+    steps::OPERATIONS,
+    signature::OPERATIONS,
+];
 
 fn case(text: &str) -> Result<String, Stop> {
     let mut line = Line::new(text);

@@ -122,15 +122,20 @@ fn mark_element(line: &mut Line) -> Result<String, Stop> {
     Ok(done(&[], &[&columns.elements, &columns.element_offset, &columns.marked_split]))
 }
 
-fn swap_blocks(line: &mut Line) -> Result<String, Stop> {
-    let (lent, left, right) = (Lent::read(line)?, line.number()?, line.number()?);
-    line.end()?;
+/// Swaps two blocks of a partition, accepted: the columns at return.
+pub fn swapped(lent: Lent, left: usize, right: usize) -> Result<Columns, Stop> {
     lent.accept()?;
     lent.accept_block(left)?;
     lent.accept_block(right)?;
     let (mut partition, mut columns) = (lent.partition(), lent.columns);
     rust(|| partition.swap_blocks(BlockIndex::new(left), BlockIndex::new(right)))?;
     columns.take_back(&partition);
-    let Columns { element_to_block, begin, marked_split, end, .. } = &columns;
+    Ok(columns)
+}
+
+fn swap_blocks(line: &mut Line) -> Result<String, Stop> {
+    let (lent, left, right) = (Lent::read(line)?, line.number()?, line.number()?);
+    line.end()?;
+    let Columns { element_to_block, begin, marked_split, end, .. } = &swapped(lent, left, right)?;
     Ok(done(&[], &[element_to_block, begin, marked_split, end]))
 }
