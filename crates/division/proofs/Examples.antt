@@ -11,7 +11,7 @@ use Rattle.partition.specs.Partition.{Partition, parts, withinb, blockAt, block
 use Rattle.partition.specs.Checks.{checked}
 use Rattle.partition.specs.SwapBlocks.{swap}
 use Rattle.division.specs.Marked.{chosen, markedIn, numbered, below, absent, missing, denseb, lenAt}
-use Rattle.division.specs.Divide.{before, start, place, unmarkedIn, home, divided, largest, largestOf, unmarked, partitionMarked}
+use Rattle.division.specs.Divide.{numberedBefore, start, place, unmarkedIn, home, divided, largest, largestOf, unmarked, partitionMarked}
 use Rattle.division.specs.Division.{Work, work, roomb, unfit, refusalFor, divisionRefusal, partitionMarkedWith}
 
 abbrev pub four : ℕ → ℕ → ℕ → ℕ → List ℕ
@@ -33,5 +33,5 @@ pub examples :
     ≡ ((done (0 ∷ 1 ∷ 2 ∷ []), (parts (four 0 3 1 2) (four 0 2 3 1) (four 1 0 0 1) (four 2 0 9 9) (four 4 2 9 9) (four 4 2 9 9) 4 2, five 0))
     ∷ (done (0 ∷ 1 ∷ 3 ∷ []), (parts (four 2 3 1 0) (four 3 2 0 1) (four 2 1 0 0) (four 0 2 3 9) (four 2 3 4 9) (four 2 3 4 9) 4 3, five 0))
     ∷ [])
-unfolding partitionMarkedWith divisionRefusal refusalFor roomb unfit leaving checked consistentb longb sixLong inverseb inverseAt all blocksb blockAt withinb liesb lieAt insideb lengths stores many first swap chosen markedIn numbered below absent missing denseb lenAt before start place unmarkedIn home divided largest largestOf unmarked partitionMarked
+unfolding partitionMarkedWith divisionRefusal refusalFor roomb unfit leaving checked consistentb longb sixLong inverseb inverseAt all blocksb blockAt withinb liesb lieAt insideb lengths stores many first swap chosen markedIn numbered below absent missing denseb lenAt numberedBefore start place unmarkedIn home divided largest largestOf unmarked partitionMarked
 examples = refl

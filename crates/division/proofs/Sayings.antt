@@ -7,9 +7,9 @@ use Rattle.columns.proofs.Saying.{same-refusal, apart}
 use Rattle.division.specs.declared.DivisionAnswer.{DivisionAnswer}
 use Rattle.division.specs.declared.DivisionOutcome.{DivisionOutcome}
 use Rattle.division.specs.declared.DivisionOutcome.the-variants as D
-use Rattle.division.specs.Division.{saidOutcome, saidDivision}
+use Rattle.division.specs.Division.{saidDivisionOutcome, saidDivision}
 
-same-outcome : (a b : DivisionOutcome) → saidOutcome a ≡ saidOutcome b → a ≡ b
+same-outcome : (a b : DivisionOutcome) → saidDivisionOutcome a ≡ saidDivisionOutcome b → a ≡ b
 same-outcome (D.Done i f c) (D.Done j g k) e =
     let p : i ≡ j = cc in
     let q : f ≡ g = cc in

@@ -16,12 +16,12 @@ use Rattle.division.specs.declared.DivisionOutcome.{DivisionOutcome}
 use Rattle.division.specs.declared.DivisionOutcome.the-variants as D
 
 -- the old index, the first of the run of new ones, and the block count, which is its end
-abbrev pub saidOutcome : DivisionOutcome → Said
-saidOutcome (D.Done index first count) = done (index ∷ first ∷ count ∷ [])
-saidOutcome (D.Refused r) = refused (r .number) (r .place)
+abbrev pub saidDivisionOutcome : DivisionOutcome → Said
+saidDivisionOutcome (D.Done index first count) = done (index ∷ first ∷ count ∷ [])
+saidDivisionOutcome (D.Refused r) = refused (r .number) (r .place)
 
 abbrev pub saidDivision : DivisionAnswer → Said
-saidDivision a = saidOutcome (a .outcome)
+saidDivision a = saidDivisionOutcome (a .outcome)
 
 -- the block count after an answer
 abbrev pub countIn : DivisionOutcome → ℕ → ℕ

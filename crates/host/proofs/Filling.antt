@@ -13,32 +13,32 @@ use lib.Seq.{getD-set-same, getD-set-other}
 use Rattle.columns.proofs.All.{top-or-below}
 use Rattle.partition.specs.declared.block.Block.{Block}
 use Rattle.host.specs.Records.{noBlock}
-use Rattle.host.specs.Tables.{limit, blank, laid, filled}
+use Rattle.host.specs.Tables.{limit, blank, recorded, filled}
 
-pub length-laid : (f : ℕ → Block) (m : ℕ) (t : List Block) → length (laid f m t) ≡ length t
-unfolding laid
+pub length-laid : (f : ℕ → Block) (m : ℕ) (t : List Block) → length (recorded f m t) ≡ length t
+unfolding recorded
 length-laid f zero t = refl
-length-laid f (suc m) t = length-set (laid f m t) m (f m) ∙ length-laid f m t
+length-laid f (suc m) t = length-set (recorded f m t) m (f m) ∙ length-laid f m t
 
-pub laid-none : (f : ℕ → Block) (t : List Block) → t ≡ laid f 0 t
-unfolding laid
+pub laid-none : (f : ℕ → Block) (t : List Block) → t ≡ recorded f 0 t
+unfolding recorded
 laid-none f t = refl
 
-pub laid-more : (f : ℕ → Block) (m : ℕ) (t : List Block) → set (laid f m t) m (f m) ≡ laid f (m + 1) t
-unfolding laid
+pub laid-more : (f : ℕ → Block) (m : ℕ) (t : List Block) → set (recorded f m t) m (f m) ≡ recorded f (m + 1) t
+unfolding recorded
 laid-more f m t = rw add-one
 
 -- the first m records of the table are f's
-pub laid-at : (f : ℕ → Block) (t : List Block) (m k : ℕ) → m ≤ length t → k < m → getD (laid f m t) k noBlock ≡ f k
-unfolding laid
+pub laid-at : (f : ℕ → Block) (t : List Block) (m k : ℕ) → m ≤ length t → k < m → getD (recorded f m t) k noBlock ≡ f k
+unfolding recorded
 laid-at f t zero k h w = absurd (omega arith)
 laid-at f t (suc m) k h w =
     ⊎-elim
     (λ (e : k ≡ m).
-    ap (λ (x : ℕ). getD (set (laid f m t) m (f m)) x noBlock) e
-    ∙ getD-set-same (laid f m t) m (f m) noBlock (omega (arith, length-laid f m t))
+    ap (λ (x : ℕ). getD (set (recorded f m t) m (f m)) x noBlock) e
+    ∙ getD-set-same (recorded f m t) m (f m) noBlock (omega (arith, length-laid f m t))
     ∙ ap f (sym e))
-    (λ (l : k < m). getD-set-other (laid f m t) m k (f m) noBlock (λ q. omega arith) ∙ laid-at f t m k (omega arith) l)
+    (λ (l : k < m). getD-set-other (recorded f m t) m k (f m) noBlock (λ q. omega arith) ∙ laid-at f t m k (omega arith) l)
     (top-or-below w)
 
 limit-both : (len n : ℕ) → n ≤ len → n ≤ 4096 → n ≤ limit len

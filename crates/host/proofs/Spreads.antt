@@ -14,7 +14,7 @@ use Rattle.partition.specs.Partition.{Partition, parts}
 use Rattle.partition.specs.SwapBlocks.{swapBlocks}
 use Rattle.host.specs.Records.{begins, splits, ends, lent, noBlock, swapRecords}
 use Rattle.host.specs.Spread.{Spread}
-use Rattle.host.specs.Tables.{laid, blank, beginAt, splitAt, endAt}
+use Rattle.host.specs.Tables.{recorded, blank, beginAt, splitAt, endAt}
 use Rattle.host.proofs.Fields.{field-at, begins-at, splits-at, ends-at}
 use Rattle.host.proofs.Filling.{length-laid, laid-at, length-blank}
 use Rattle.host.proofs.Forms.{forms-agree, records-kept}
@@ -52,7 +52,7 @@ spread s a b x m z x' m' z' ws rest n e w ex em ez =
 -- on the records whose fields are three columns, the column form on these
 module _ (e o b bg sp en : List ℕ) (n count l r : ℕ) (small : length bg ≤ 4096) (es : length sp ≡ length bg) (ee : length en ≡ length bg) where
   abbrev t : List Block
-  t = laid (entry bg sp en) (length bg) blank
+  t = recorded (entry bg sp en) (length bg) blank
 
   abbrev xs : List Block
   xs = take (length bg) t

@@ -21,13 +21,13 @@ unfoldable pub blank : List Block
 blank = replicate 4096 noBlock
 
 -- t with f 0, .., f (m - 1) in front
-unfoldable pub laid : (ℕ → Block) → ℕ → List Block → List Block
-laid f zero t = t
-laid f (suc m) t = set (laid f m t) m (f m)
+unfoldable pub recorded : (ℕ → Block) → ℕ → List Block → List Block
+recorded f zero t = t
+recorded f (suc m) t = set (recorded f m t) m (f m)
 
 -- t with the first m of bs in front
 abbrev pub filled : List Block → ℕ → List Block → List Block
-filled bs m t = laid (λ k. getD bs k noBlock) m t
+filled bs m t = recorded (λ k. getD bs k noBlock) m t
 
 -- the fields of a table's records
 abbrev pub beginAt : List Block → ℕ → ℕ

@@ -6,7 +6,7 @@ ghost use lib.ListN.{length};
 ghost use Rattle.columns.specs.Columns.{written};
 ghost use Rattle.partition.specs.Block.{entry};
 ghost use Rattle.host.specs.Records.{exchanged};
-ghost use Rattle.host.specs.Tables.{limit, filled, laid, blank, beginAt, splitAt, endAt};
+ghost use Rattle.host.specs.Tables.{limit, filled, recorded, blank, beginAt, splitAt, endAt};
 use partition::block::Block;
 
 // As many records as a table has room for.
@@ -68,7 +68,7 @@ pub fn apart(
 // A table with the records in front whose fields are the cells of three columns.
 pub fn joined(begin: &[u16], marked_split: &[u16], end: &[u16]) -> [Block; 4096]
     requires { ⌜ (length (now begin) ≤ 4096) × (length (now «marked_split») ≡ length (now begin)) × (length (now end) ≡ length (now begin)) ⌝ }
-    ensures { λ r. ⌜ r ≡ laid (entry (now (begin .entry)) (now («marked_split» .entry)) (now (end .entry))) (length (now (begin .entry))) blank ⌝ }
+    ensures { λ r. ⌜ r ≡ recorded (entry (now (begin .entry)) (now («marked_split» .entry)) (now (end .entry))) (length (now (begin .entry))) blank ⌝ }
 {
     let mut t = empty_table();
     let mut i = 0;

@@ -4,7 +4,7 @@ ghost use mathlib.Core.Path.{_≡_};
 ghost use Prim.Native.Nat.{_≤_};
 ghost use Rattle.io.specs.Counts.{Counts};
 ghost use Rattle.lines.specs.Text.{puts};
-ghost use Rattle.lines.specs.Spelling.{listed, columnText};
+ghost use Rattle.lines.specs.Spelling.{spelledAll, columnText};
 ghost use Rattle.host_cases.specs.Fields.{fields};
 use lines::input::Buffer;
 use lines::input::Input;
@@ -61,7 +61,7 @@ pub fn read_records(
 
 // The fields of a record, with a blank before each.
 fn record(begin: u16, marked_split: u16, end: u16, out: &mut Buffer, used: usize) -> usize
-    ensures { λ r. ⌜ (r, now (out .exit)) ≡ puts (listed (begin ∷ «marked_split» ∷ end ∷ [])) (used, now (out .entry)) ⌝ }
+    ensures { λ r. ⌜ (r, now (out .exit)) ≡ puts (spelledAll (begin ∷ «marked_split» ∷ end ∷ [])) (used, now (out .entry)) ⌝ }
 {
     let fields = [begin, marked_split, end];
     cells(out, used, &fields, 3)
@@ -77,7 +77,7 @@ fn records(
     used: usize,
 ) -> usize
     requires { ⌜ count ≤ 4096 ⌝ }
-    ensures { λ r. ⌜ (r, now (out .exit)) ≡ puts (listed (fields (now (d .entry)) (now (e .entry)) (now (f .entry)) count)) (used, now (out .entry)) ⌝ }
+    ensures { λ r. ⌜ (r, now (out .exit)) ≡ puts (spelledAll (fields (now (d .entry)) (now (e .entry)) (now (f .entry)) count)) (used, now (out .entry)) ⌝ }
 {
     let mut at = used;
     let mut i = 0;

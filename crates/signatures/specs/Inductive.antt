@@ -12,7 +12,7 @@ use Rattle.partition.specs.Readers.{unmarkedb}
 use Rattle.table.specs.Lts.{Lts}
 use Rattle.signatures.specs.Pairs.{Columns, signature}
 use Rattle.signatures.specs.Signing.{Left, roomy, signing, signatureRefusal}
-use Rattle.signatures.specs.Strong.{rowsOf, pairAt}
+use Rattle.signatures.specs.Strong.{ownRows, pairAt}
 
 -- row i is hidden and leads to block b; `home` has the block of each state
 unfoldable pub inertb : List ℕ → List ℕ → List ℕ → ℕ → ℕ → Bool
@@ -30,8 +30,8 @@ keyedAt t home marked keys b i =
     cond (inertb (t .label) (t .target) home b i && marked u) (t .labels, getD keys u 0) (pairAt t home i)
 
 unfoldable pub inductivePushed : Lts → List ℕ → (ℕ → Bool) → List ℕ → ℕ → List Pair
-unfolding rowsOf keyedAt
-inductivePushed t home marked keys s = map (keyedAt t home marked keys (getD home s 0)) (rowsOf t s)
+unfolding ownRows keyedAt
+inductivePushed t home marked keys s = map (keyedAt t home marked keys (getD home s 0)) (ownRows t s)
 
 unfoldable pub inductiveSignature : Lts → List ℕ → (ℕ → Bool) → List ℕ → ℕ → List Pair
 unfolding signature inductivePushed

@@ -12,17 +12,17 @@ use Rattle.signatures.specs.Pairs.{Columns, signature}
 use Rattle.signatures.specs.Signing.{Left, roomy, signing, signatureRefusal}
 
 -- the rows of state s, in their order
-unfoldable pub rowsOf : Lts → ℕ → List ℕ
+unfoldable pub ownRows : Lts → ℕ → List ℕ
 unfolding members
-rowsOf t s = members (t .m) (λ i. eqb (getD (t .source) i 0) s)
+ownRows t s = members (t .m) (λ i. eqb (getD (t .source) i 0) s)
 
 -- row i as a pair: its label, and the block of its target. `home` has the block of each state
 unfoldable pub pairAt : Lts → List ℕ → ℕ → Pair
 pairAt t home i = (getD (t .label) i 0, getD home (getD (t .target) i 0) 0)
 
 unfoldable pub strongPushed : Lts → List ℕ → ℕ → List Pair
-unfolding rowsOf pairAt
-strongPushed t home s = map (pairAt t home) (rowsOf t s)
+unfolding ownRows pairAt
+strongPushed t home s = map (pairAt t home) (ownRows t s)
 
 unfoldable pub strongSignature : Lts → List ℕ → ℕ → List Pair
 unfolding signature strongPushed

@@ -25,7 +25,7 @@ use Rattle.inherited.specs.Merged.{Heads, heads}
 use Rattle.inherited.specs.Rest.{restOf, leftOf, leftIn, mergeOf}
 use Rattle.signatures.specs.Inductive.{inertb}
 use Rattle.signatures.specs.Pairs.{signature}
-use Rattle.signatures.specs.Strong.{rowsOf, pairAt}
+use Rattle.signatures.specs.Strong.{ownRows, pairAt}
 use Rattle.signatures.proofs.Sigs.{sig-in, sig-out}
 use Rattle.subset.specs.Lists.{listAt}
 use Rattle.table.specs.Lts.{Lts}
@@ -55,7 +55,7 @@ module _ (t : Lts) (home : List ℕ) (given : ℕ → List Pair) (s : ℕ) where
 
   pub length-own-taken :
       length (outerPairs t home (getD home s 0) s) + length (flatMap given (innerTargets t home s)) ≡ length (sortedPushed t home given s)
-  unfolding innerTargets innerRow outerb sortedPushed rowsOf sortedAt mine inert
+  unfolding innerTargets innerRow outerb sortedPushed ownRows sortedAt mine inert
   length-own-taken =
       ap₂ _+_ (length-outer t home (getD home s 0) s ∙ many-sum (t .m) (λ i. mine i && not (inert i)))
       (ap length (flat-map given (λ i. getD (t .target) i 0) (members (t .m) (λ i. mine i && inert i)))
@@ -69,7 +69,7 @@ module _ (t : Lts) (home : List ℕ) (given : ℕ → List Pair) (s : ℕ) where
 -- ---- which: the rows one by one
 module _ (t : Lts) (home : List ℕ) (given : ℕ → List Pair) (s : ℕ) where
   own-pushed : (p : Pair) → Mem p (outerPairs t home (getD home s 0) s) → Mem p (sortedPushed t home given s)
-  unfolding outerPairs outerb sortedPushed rowsOf sortedAt
+  unfolding outerPairs outerb sortedPushed ownRows sortedAt
   own-pushed p m =
       let f : ℕ → Bool = λ i. eqb (getD (t .source) i 0) s && outerb t home (getD home s 0) i in
       let g = Memᴰ·of-map (pairAt t home) (members (t .m) f) m in
@@ -77,19 +77,19 @@ module _ (t : Lts) (home : List ℕ) (given : ℕ → List Pair) (s : ℕ) where
       let r = members-out f (t .m) i (g .1) in
       let b = inertb (t .label) (t .target) home (getD home s 0) i in
       let e : b ≡ false = not-true b (and-right (eqb (getD (t .source) i 0) s) (not b) (r .1)) in
-      flat-in (sortedAt t home given (getD home s 0)) (rowsOf t s) i p
+      flat-in (sortedAt t home given (getD home s 0)) (ownRows t s) i p
       (members-in (λ i. eqb (getD (t .source) i 0) s) (t .m) i (r .0) (and-left (eqb (getD (t .source) i 0) s) (not b) (r .1)))
       (subst (λ (c : Bool). Mem p (cond c (given (getD (t .target) i 0)) (pairAt t home i ∷ []))) (sym e) (List·Memᴰ·head (sym (g .2))))
 
   taken-pushed : (u : ℕ) → Mem u (innerTargets t home s) → (p : Pair) → Mem p (given u) → Mem p (sortedPushed t home given s)
-  unfolding innerTargets innerRow sortedPushed rowsOf sortedAt
+  unfolding innerTargets innerRow sortedPushed ownRows sortedAt
   taken-pushed u m p k =
       let f : ℕ → Bool = innerRow t home s in
       let g = Memᴰ·of-map (λ i. getD (t .target) i 0) (members (t .m) f) m in
       let i = g .0 in
       let r = members-out f (t .m) i (g .1) in
       let b = inertb (t .label) (t .target) home (getD home s 0) i in
-      flat-in (sortedAt t home given (getD home s 0)) (rowsOf t s) i p
+      flat-in (sortedAt t home given (getD home s 0)) (ownRows t s) i p
       (members-in (λ i. eqb (getD (t .source) i 0) s) (t .m) i (r .0) (and-left (eqb (getD (t .source) i 0) s) b (r .1)))
       (subst (λ (c : Bool). Mem p (cond c (given (getD (t .target) i 0)) (pairAt t home i ∷ [])))
       (sym (and-right (eqb (getD (t .source) i 0) s) b (r .1))) (subst (λ (x : ℕ). Mem p (given x)) (sym (g .2)) k))
@@ -97,9 +97,9 @@ module _ (t : Lts) (home : List ℕ) (given : ℕ → List Pair) (s : ℕ) where
   pushed-split :
       (p : Pair) → Mem p (sortedPushed t home given s)
       → Mem p (outerPairs t home (getD home s 0) s) ⊎ ((u : ℕ) × Mem u (innerTargets t home s) × Mem p (given u))
-  unfolding outerPairs outerb innerTargets innerRow sortedPushed rowsOf sortedAt
+  unfolding outerPairs outerb innerTargets innerRow sortedPushed ownRows sortedAt
   pushed-split p m =
-      let f = flat-out (sortedAt t home given (getD home s 0)) (rowsOf t s) p m in
+      let f = flat-out (sortedAt t home given (getD home s 0)) (ownRows t s) p m in
       let r = members-out (λ i. eqb (getD (t .source) i 0) s) (t .m) (f .0) (f .1) in
       go (f .0) (r .0) (r .1) (inertb (t .label) (t .target) home (getD home s 0) (f .0)) refl (f .2)
     where

@@ -13,7 +13,7 @@ use Rattle.columns.proofs.Bools.{and-left, and-right, and-both, fails, contra}
 use Rattle.columns.proofs.FlatMaps.{flat-in, flat-out}
 use Rattle.columns.proofs.Members.{members-in, members-out}
 use Rattle.signatures.specs.Inductive.{inertb}
-use Rattle.signatures.specs.Strong.{rowsOf, pairAt}
+use Rattle.signatures.specs.Strong.{ownRows, pairAt}
 use Rattle.signatures.proofs.Sigs.{sig-in, sig-out, sig-ascending}
 use Rattle.table.specs.Lts.{Lts, Step}
 use Rattle.table.proofs.Rows.{row-step, step-row}
@@ -48,13 +48,13 @@ module _ (t : Lts) (home : List ℕ) (given : ℕ → List Pair) (s : ℕ) where
   by i = refl
 
   give : (a u : ℕ) → Step t s a u → (p : Pair) → Mem p (part a u) → Mem p (sortedSignature t home given s)
-  unfolding sortedSignature sortedPushed rowsOf
+  unfolding sortedSignature sortedPushed ownRows
   give a u k p m =
       let r = step-row t s a u k in
       let at : Mem p (part (getD (t .label) (r .row) 0) (getD (t .target) (r .row) 0))
       = subst (λ (x : ℕ). Mem p (part x (getD (t .target) (r .row) 0))) (r .label) (subst (λ (y : ℕ). Mem p (part a y)) (r .target) m) in
       sig-in (sortedPushed t home given s) p
-      (flat-in (sortedAt t home given (getD home s 0)) (rowsOf t s) (r .row) p
+      (flat-in (sortedAt t home given (getD home s 0)) (ownRows t s) (r .row) p
       (members-in (λ i. eqb (getD (t .source) i 0) s) (t .m) (r .row) (r .below) (eq-eqb _ _ (sym (r .source))))
       (subst (λ (l : List Pair). Mem p l) (sym (by (r .row))) at))
 
@@ -76,9 +76,9 @@ module _ (t : Lts) (home : List ℕ) (given : ℕ → List Pair) (s : ℕ) where
       (sym (and-both (eq-eqb 0 0 refl) (eq-eqb _ _ (o .stays)))) (o .listed))
 
   pub sorted-out : (p : Pair) → Mem p (sortedSignature t home given s) → OwnOf t home s p ⊎ TakenOf t home given s p
-  unfolding sortedSignature sortedPushed rowsOf part inert
+  unfolding sortedSignature sortedPushed ownRows part inert
   sorted-out p m =
-      let f = flat-out (sortedAt t home given (getD home s 0)) (rowsOf t s) p (sig-out (sortedPushed t home given s) p m) in
+      let f = flat-out (sortedAt t home given (getD home s 0)) (ownRows t s) p (sig-out (sortedPushed t home given s) p m) in
       let r = members-out (λ i. eqb (getD (t .source) i 0) s) (t .m) (f .0) (f .1) in
       let a = getD (t .label) (f .0) 0 in
       let u = getD (t .target) (f .0) 0 in

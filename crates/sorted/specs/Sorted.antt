@@ -11,7 +11,7 @@ use Rattle.partition.specs.Partition.{Partition}
 use Rattle.signatures.specs.Inductive.{inertb}
 use Rattle.signatures.specs.Pairs.{Columns, signature}
 use Rattle.signatures.specs.Signing.{Left, roomy, signing, signatureRefusal}
-use Rattle.signatures.specs.Strong.{rowsOf, pairAt}
+use Rattle.signatures.specs.Strong.{ownRows, pairAt}
 use Rattle.subset.specs.Lists.{listAt, listsRefusal}
 use Rattle.table.specs.Lts.{Lts}
 
@@ -22,8 +22,8 @@ sortedAt t home given b i =
     cond (inertb (t .label) (t .target) home b i) (given (getD (t .target) i 0)) (pairAt t home i ∷ [])
 
 unfoldable pub sortedPushed : Lts → List ℕ → (ℕ → List Pair) → ℕ → List Pair
-unfolding flatMap rowsOf sortedAt
-sortedPushed t home given s = flatMap (sortedAt t home given (getD home s 0)) (rowsOf t s)
+unfolding flatMap ownRows sortedAt
+sortedPushed t home given s = flatMap (sortedAt t home given (getD home s 0)) (ownRows t s)
 
 unfoldable pub sortedSignature : Lts → List ℕ → (ℕ → List Pair) → ℕ → List Pair
 unfolding signature sortedPushed

@@ -15,7 +15,7 @@ use Rattle.columns.proofs.Firsts.{some-in, some-out}
 use Rattle.columns.proofs.Risings.{Rising, of-ascending, listed-in, listed-out}
 use Rattle.columns.proofs.Sets.{pairEq-eq, pairEq-refl}
 use Rattle.subset.specs.Pairs.{endOf, pairAt, pairs, listRefusal}
-use Rattle.subset.specs.Subset.{among, subsetb, subsetRefusal}
+use Rattle.subset.specs.Subset.{amongPairs, subsetb, subsetRefusal}
 use Rattle.subset.proofs.Refusals.{list-of, list-on}
 use Rattle.subset.proofs.Walking.{kept}
 
@@ -25,8 +25,8 @@ module _ (labels blocks : List ℕ) where
   unfolding pairsOf pairAt
   pair-in i h = listed-in (endOf labels blocks) (pairAt labels blocks) i h
 
-  pub among-of : (x : Pair) → (among labels blocks x ≡ true) ↔ Mem x (pairs labels blocks)
-  unfolding among pairsOf pairAt
+  pub among-of : (x : Pair) → (amongPairs labels blocks x ≡ true) ↔ Mem x (pairs labels blocks)
+  unfolding amongPairs pairsOf pairAt
   among-of x = (
     λ e.
         let p = some-out (endOf labels blocks) (λ i. pairEq (pairAt labels blocks i) x) e in
@@ -58,19 +58,19 @@ module _ (selfLabels selfBlocks otherLabels otherBlocks : List ℕ) (x : Pair) w
   -- what the walk decides, with its ends counted
   pub at-ends : (n m : ℕ) → n ≡ endOf selfLabels selfBlocks → m ≡ endOf otherLabels otherBlocks
       → all m (kept n (pairAt selfLabels selfBlocks) (pairAt otherLabels otherBlocks) x) ≡ subsetb selfLabels selfBlocks otherLabels otherBlocks x
-  unfolding subsetb among
+  unfolding subsetb amongPairs
   at-ends n m e d = rw (e, d)
 
-  kept-of : (y : Pair) → (pairEq y x || among selfLabels selfBlocks y) ≡ true → (y ≡ x) ⊎ Mem y (pairs selfLabels selfBlocks)
-  kept-of y e = go (or-split (pairEq y x) (among selfLabels selfBlocks y) e)
+  kept-of : (y : Pair) → (pairEq y x || amongPairs selfLabels selfBlocks y) ≡ true → (y ≡ x) ⊎ Mem y (pairs selfLabels selfBlocks)
+  kept-of y e = go (or-split (pairEq y x) (amongPairs selfLabels selfBlocks y) e)
     where
-      go : (pairEq y x ≡ true) ⊎ (among selfLabels selfBlocks y ≡ true) → (y ≡ x) ⊎ Mem y (pairs selfLabels selfBlocks)
+      go : (pairEq y x ≡ true) ⊎ (amongPairs selfLabels selfBlocks y ≡ true) → (y ≡ x) ⊎ Mem y (pairs selfLabels selfBlocks)
       go (inl q) = inl (pairEq-eq y x q)
       go (inr q) = inr (among-of selfLabels selfBlocks y .0 q)
 
-  of-kept : (y : Pair) → (y ≡ x) ⊎ Mem y (pairs selfLabels selfBlocks) → (pairEq y x || among selfLabels selfBlocks y) ≡ true
-  of-kept y (inl q) = or-left (pairEq y x) (among selfLabels selfBlocks y) (ap (pairEq y) (sym q) ∙ pairEq-refl y)
-  of-kept y (inr m) = or-right (pairEq y x) (among selfLabels selfBlocks y) (among-of selfLabels selfBlocks y .1 m)
+  of-kept : (y : Pair) → (y ≡ x) ⊎ Mem y (pairs selfLabels selfBlocks) → (pairEq y x || amongPairs selfLabels selfBlocks y) ≡ true
+  of-kept y (inl q) = or-left (pairEq y x) (amongPairs selfLabels selfBlocks y) (ap (pairEq y) (sym q) ∙ pairEq-refl y)
+  of-kept y (inr m) = or-right (pairEq y x) (amongPairs selfLabels selfBlocks y) (among-of selfLabels selfBlocks y .1 m)
 
   pub subset-law :
       (subsetb selfLabels selfBlocks otherLabels otherBlocks x ≡ true)
@@ -78,9 +78,9 @@ module _ (selfLabels selfBlocks otherLabels otherBlocks : List ℕ) (x : Pair) w
   unfolding subsetb pairsOf pairAt
   subset-law =
       let f : ℕ → Pair = pairAt otherLabels otherBlocks in
-      let test : ℕ → Bool = λ j. pairEq (f j) x || among selfLabels selfBlocks (f j) in (
+      let test : ℕ → Bool = λ j. pairEq (f j) x || amongPairs selfLabels selfBlocks (f j) in (
         λ e y m.
             let p = listed-out (endOf otherLabels otherBlocks) f y m in
-            kept-of y (ap (λ (z : Pair). pairEq z x || among selfLabels selfBlocks z) (p .same) ∙ all-at test (endOf otherLabels otherBlocks) (p .at) e (p .below)),
+            kept-of y (ap (λ (z : Pair). pairEq z x || amongPairs selfLabels selfBlocks z) (p .same) ∙ all-at test (endOf otherLabels otherBlocks) (p .at) e (p .below)),
         λ h. all-of test (endOf otherLabels otherBlocks) (λ j l. of-kept (f j) (h (f j) (pair-in otherLabels otherBlocks j l))),
       )

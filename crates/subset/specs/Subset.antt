@@ -11,16 +11,16 @@ use Rattle.columns.specs.Tests.{all}
 use Rattle.subset.specs.Pairs.{shorter, endOf, pairAt, listRefusal}
 
 -- a pair is in a list
-unfoldable pub among : List ℕ → List ℕ → Pair → Bool
+unfoldable pub amongPairs : List ℕ → List ℕ → Pair → Bool
 unfolding some shorter pairEq pairAt
-among labels blocks x = some (endOf labels blocks) (λ i. pairEq (pairAt labels blocks i) x)
+amongPairs labels blocks x = some (endOf labels blocks) (λ i. pairEq (pairAt labels blocks i) x)
 
 -- every pair of other, apart from the excluded one, is in self
 unfoldable pub subsetb : List ℕ → List ℕ → List ℕ → List ℕ → Pair → Bool
-unfolding all shorter pairEq pairAt among
+unfolding all shorter pairEq pairAt amongPairs
 subsetb selfLabels selfBlocks otherLabels otherBlocks x =
     all (endOf otherLabels otherBlocks)
-    (λ j. pairEq (pairAt otherLabels otherBlocks j) x || among selfLabels selfBlocks (pairAt otherLabels otherBlocks j))
+    (λ j. pairEq (pairAt otherLabels otherBlocks j) x || amongPairs selfLabels selfBlocks (pairAt otherLabels otherBlocks j))
 
 -- the first of the pairs from i to before n that is not below x, n if there is none
 unfoldable pub notBelow : List ℕ → List ℕ → ℕ → ℕ → Pair → ℕ

@@ -7,14 +7,14 @@ use mathlib.Core.List.{List}
 use lib.ListN.{length, set, length-set}
 use Rattle.partition.specs.declared.block.Block.{Block}
 use Rattle.partition.specs.Block.{entry}
-use Rattle.host.specs.Tables.{laid, blank}
+use Rattle.host.specs.Tables.{recorded, blank}
 use Rattle.host.proofs.Filling.{length-blank, laid-none, laid-more}
 use Rattle.host.proofs.records.joined.Statement.{statement}
 use Rattle.host.proofs.records.joined.Tie as tie
 
 abbrev Inv-loop : tie.InvT-loop
 Inv-loop begin marked-split end t₀ i₀ t i =
-    (i ≤ length begin) × ((t ≡ laid (entry begin marked-split end) i blank) × (length t ≡ 4096))
+    (i ≤ length begin) × ((t ≡ recorded (entry begin marked-split end) i blank) × (length t ≡ 4096))
 
 abbrev μ-loop : tie.MeasureT-loop
 μ-loop begin marked-split end t₀ i₀ t i = length begin - i
@@ -68,7 +68,7 @@ returns c =
     let f : ℕ → Block = entry (a .args .begin .now) (a .args .marked-split .now) (a .args .end .now) in
     let v = c .before .loop in
     let q : v .i ≡ length (a .args .begin .now) = omega arith in
-    v .inv .1 .0 ∙ ap (λ (k : ℕ). laid f k blank) q
+    v .inv .1 .0 ∙ ap (λ (k : ℕ). recorded f k blank) q
 
 pub joined-spec : {M : Type 1} → statement M
 joined-spec =

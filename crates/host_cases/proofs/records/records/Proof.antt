@@ -3,14 +3,14 @@ use borrow.Author.Needs.{needs}
 use Prim.Native.Nat.{_≤_, _-_}
 use mathlib.Core.Path.{_≡_}
 use Rattle.lines.specs.Text.{puts}
-use Rattle.lines.specs.Spelling.{listed}
+use Rattle.lines.specs.Spelling.{spelledAll}
 use Rattle.host_cases.specs.Fields.{fields}
 use Rattle.host_cases.proofs.Recorded.{fields-none, fields-turn, fields-end}
 use Rattle.host_cases.proofs.records.records.Statement.{statement}
 use Rattle.host_cases.proofs.records.records.Tie as tie
 
 abbrev Inv-loop : tie.InvT-loop
-Inv-loop d e f count out₀ used at₀ i₀ out at i = (i ≤ count) × ((at, out) ≡ puts (listed (fields d e f i)) (used, out₀))
+Inv-loop d e f count out₀ used at₀ i₀ out at i = (i ≤ count) × ((at, out) ≡ puts (spelledAll (fields d e f i)) (used, out₀))
 
 abbrev μ-loop : tie.MeasureT-loop
 μ-loop d e f count out₀ used at₀ i₀ out at i = count - i

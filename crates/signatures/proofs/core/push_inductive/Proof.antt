@@ -9,7 +9,7 @@ use lib.Dec.{eqb}
 use lib.ListN.{getD}
 use Rattle.columns.proofs.TwoColumns.{pairs-none}
 use Rattle.signatures.specs.Inductive.{inertb, markedIn, keyedAt, inductivePushed}
-use Rattle.signatures.specs.Strong.{rowsOf, pairAt}
+use Rattle.signatures.specs.Strong.{ownRows, pairAt}
 use Rattle.signatures.proofs.Pushing.{Pushing, push-start, push-more, push-done}
 use Rattle.signatures.proofs.RowsOf.{RowsFrom, rows-from}
 use Rattle.signatures.proofs.Keys.{keyed-either}
@@ -141,7 +141,7 @@ same-length-2 : tie.Need-same-length-2 Inv-loop μ-loop
 same-length-2 c = c .before .loop .inv .right
 
 returns : tie.Need-returns Inv-loop μ-loop
-unfolding inductivePushed rowsOf keyedAt pairAt
+unfolding inductivePushed ownRows keyedAt pairAt
 returns c =
     let a = c .before .before .before .before .before .before .before .before .before .before .before .before .before .before .args in
     let f = from (c .before .before) in (
@@ -150,7 +150,7 @@ returns c =
           map
           (keyedAt (L (c .before .before .before .before .before .before .before .before .before .before .before .before .before .before)) (a .element-to-block .now) (markedIn (a .element-offset .now) (a .element-to-block .now) (a .marked-split .now))
           (a .state-to-key .now) b)
-          (rowsOf (L (c .before .before .before .before .before .before .before .before .before .before .before .before .before .before)) (a .state)))
+          (ownRows (L (c .before .before .before .before .before .before .before .before .before .before .before .before .before .before)) (a .state)))
           (c .before .before .before .at .ensures .0),
       omega (arith, f .most, c .before .loop .inv .high, c .before .loop .inv .count),
     )
