@@ -13,10 +13,11 @@ use Rattle.columns.specs.Counting.{sum, many, members}
 use Rattle.columns.specs.Rows.{pairsOf}
 use Rattle.columns.specs.Sets.{Mem, Pair}
 use Rattle.columns.proofs.Bools.{and-left, and-right, and-both, contra, fails}
-use Rattle.columns.proofs.Counting.{one-if, one-if-true, one-if-false, many-sum, many-nothing, many-once, many-strict}
+use Rattle.columns.proofs.Counting.{one-if, one-if-true, one-if-false, many-sum, many-nothing, many-strict}
 use Rattle.columns.proofs.Laid.{laid-more, laid-cong, laid-up, length-laid, laid-in, laid-out}
 use Rattle.columns.proofs.Members.{length-members, members-in, members-out}
-use Rattle.columns.proofs.Sums.{sum-cong, sum-mono, sum-one, sum-swap}
+use Rattle.columns.proofs.Owners.{by-numbers, one-owner, owned-few}
+use Rattle.columns.proofs.Sums.{sum-cong}
 use Rattle.columns.proofs.TwoColumns.{length-pairs}
 use Rattle.signatures.specs.Pairs.{signature}
 use Rattle.signatures.specs.Strong.{pairAt}
@@ -32,35 +33,19 @@ length-outer t home b x =
     ∙ length-members (λ i. eqb (getD (t .source) i 0) x && outerb t home b i) (t .m)
 
 module _ (t : Lts) (home : List ℕ) (b : ℕ) (queue : List ℕ) (k : ℕ) where
+  -- the pairs counted state by state
+  by-states : length (outerOf t home b queue k) ≡ sum (λ j. many (t .m) (λ i. eqb (getD (t .source) i 0) (getD queue j 0) && outerb t home b i)) k
+  by-states =
+      length-laid (λ j. outerPairs t home b (getD queue j 0)) k
+      ∙ sum-cong (λ j. length (outerPairs t home b (getD queue j 0))) (λ j. many (t .m) (λ i. eqb (getD (t .source) i 0) (getD queue j 0) && outerb t home b i)) k
+      (λ j w. length-outer t home b (getD queue j 0))
+
   -- the pairs counted row by row
   by-rows : length (outerOf t home b queue k) ≡ sum (λ i. many k (λ j. eqb (getD (t .source) i 0) (getD queue j 0) && outerb t home b i)) (t .m)
-  by-rows =
-      let own : ℕ → ℕ → ℕ = λ j i. one-if (eqb (getD (t .source) i 0) (getD queue j 0) && outerb t home b i) in
-      length-laid (λ j. outerPairs t home b (getD queue j 0)) k
-      ∙ sum-cong (λ j. length (outerPairs t home b (getD queue j 0))) (λ j. sum (own j) (t .m)) k
-      (λ j w. length-outer t home b (getD queue j 0) ∙ many-sum (t .m) (λ i. eqb (getD (t .source) i 0) (getD queue j 0) && outerb t home b i))
-      ∙ sum-swap own k (t .m)
-      ∙ sum-cong (λ i. sum (λ j. own j i) k) (λ i. many k (λ j. eqb (getD (t .source) i 0) (getD queue j 0) && outerb t home b i)) (t .m)
-      (λ i w. sym (many-sum k (λ j. eqb (getD (t .source) i 0) (getD queue j 0) && outerb t home b i)))
+  by-rows = by-states ∙ by-numbers (t .m) (λ i. getD (t .source) i 0) (outerb t home b) (λ j. getD queue j 0) k
 
-  module _ (once : (i j : ℕ) → i < k → j < k → getD queue i 0 ≡ getD queue j 0 → i ≡ j) where
-    -- a row is counted for one state at most
-    row-few : (x : ℕ) (o : Bool) → many k (λ j. eqb x (getD queue j 0) && o) ≤ 1
-    row-few x o =
-        many-once k (λ j. eqb x (getD queue j 0) && o)
-        (λ i j a c p q.
-        once i j a c
-        (sym (eqb-true x (getD queue i 0) (and-left (eqb x (getD queue i 0)) o p)) ∙ eqb-true x (getD queue j 0) (and-left (eqb x (getD queue j 0)) o q)))
-
-    pub visited-few : length (outerOf t home b queue k) ≤ t .m
-    visited-few =
-        omega (
-          arith,
-          by-rows,
-          sum-mono (λ i. many k (λ j. eqb (getD (t .source) i 0) (getD queue j 0) && outerb t home b i)) (λ _. 1) (t .m)
-              (λ i w. row-few (getD (t .source) i 0) (outerb t home b i)),
-          sum-one (t .m),
-        )
+  pub visited-few : ((i j : ℕ) → i < k → j < k → getD queue i 0 ≡ getD queue j 0 → i ≡ j) → length (outerOf t home b queue k) ≤ t .m
+  visited-few once = omega (arith, by-states, owned-few (t .m) (λ i. getD (t .source) i 0) (outerb t home b) (λ j. getD queue j 0) k once)
 
 module _ (t : Lts) (v : Valid t) (home : List ℕ) (s : ℕ) (queue : List ℕ) (k : ℕ) (l : Lists t home s queue k) where
   -- a row is counted for one state of the list, if its source is reached
@@ -72,7 +57,7 @@ module _ (t : Lts) (v : Valid t) (home : List ℕ) (s : ℕ) (queue : List ℕ) 
           let f = l .all x h (and-left (inertly t home s x) o e) in
           omega (
             arith,
-            row-few t home (getD home s 0) queue k (l .once) x o,
+            one-owner (t .m) (λ i. getD (t .source) i 0) (outerb t home (getD home s 0)) (λ j. getD queue j 0) k (l .once) x o,
             many-strict (f .0) k (λ j. eqb x (getD queue j 0) && o) (f .1) (and-both (eq-eqb x (getD queue (f .0) 0) (sym (f .2))) (and-right (inertly t home s x) o e)),
             one-if-true true refl,
           )

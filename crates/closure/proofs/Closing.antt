@@ -4,11 +4,13 @@ use native.Mathlib.Omega.{arith}
 use borrow.Author.Tests.{ltb-true}
 use mathlib.Core.Bool.{Bool, true, false}
 use mathlib.Core.Path.{_≡_, refl, ap, sym, _∙_}
+use mathlib.Core.List.{List}
 use lib.Dec.{ltb}
 use lib.ListN.{getD}
 use Rattle.closure.specs.Closure.{markInto, goingOn, goesOn, readDown, close}
 use Rattle.columns.proofs.Bools.{and-left}
 use Rattle.partition.specs.Partition.{Partition, Sound}
+use Rattle.partition.proofs.Owned.{owned}
 use Rattle.table.specs.Lts.{Lts, Valid}
 use Rattle.closure.proofs.Growing.{Grown, grown-none, grown-more}
 use Rattle.closure.proofs.Steps.{into-grown}
@@ -55,6 +57,16 @@ module _ (t : Lts) (b : ℕ) (p : Partition) (g : Sound p) where
     closing-state w h =
         let s = c .grown .sound .consistent in
         omega (arith, c .grown .n, c .most, g .consistent .bounds b w .most, s .order .below (it - 1) (omega (arith, c .grown .n, c .most, g .consistent .bounds b w .most)))
+
+    -- of the block
+    pub closing-home :
+        b < p .count → getD (q .marked-split) b 0 < it → (u : ℕ) → u ≡ getD (q .elements) (it - 1) 0 → getD (q .element-to-block) u 0 ≡ b
+    closing-home w h u e =
+        let s = c .grown .sound .consistent in
+        let known : b < q .count = omega (arith, c .grown .count) in
+        ap (λ (x : ℕ). getD (q .element-to-block) x 0) e
+        ∙ owned q s b (it - 1) known (omega (arith, s .bounds b known .from))
+        (omega (arith, c .most, ap (λ (x : List ℕ). getD x b 0) (c .grown .end)))
 
     pub closing-more :
         Valid t → p .n ≡ t .n → 0 < it → goesOn q b it ≡ true → (u : ℕ) → u ≡ getD (q .elements) (it - 1) 0 → (r : Partition) → r ≡ markInto t b u (t .m) q

@@ -1,3 +1,5 @@
+pub mod Listing
+pub mod Inners
 pub mod Growing
 pub mod Steps
 pub mod Reading
@@ -8,3 +10,4 @@ pub mod Closed
 pub mod Least
 pub mod Laws
 pub mod Examples
+pub mod Standing

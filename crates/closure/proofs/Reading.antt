@@ -1,21 +1,21 @@
 -- The rows that lead to a state, read one after the other, as it stands between two turns.
-use Prim.Native.Nat.{ℕ, zero, suc, _≤_, _<_}
+use Prim.Native.Nat.{ℕ, zero, suc, _+_, _≤_, _<_}
 use native.Mathlib.Omega.{arith}
 use native.Mathlib.Nat.{eq-or-lt-of-le}
-use borrow.Author.Tests.{eq-eqb, ne-eqb}
-use mathlib.Core.Bool.{true, false}
-use mathlib.Core.Path.{_≡_, ap, _∙_}
+use borrow.Author.Tests.{eq-eqb, eqb-true, ltb-true, lt-ltb}
+use mathlib.Core.Bool.{Bool, true, false, _&&_}
+use mathlib.Core.Path.{_≡_, refl, ap, sym, _∙_}
 use mathlib.Core.Logic.{⊎-elim}
 use mathlib.Core.List.{List}
-use lib.Dec.{eqb}
-use lib.ListN.{getD}
+use lib.Dec.{eqb, ltb}
+use lib.ListN.{length, getD}
 use Rattle.closure.specs.Closure.{silentb, markSource, markInto}
+use Rattle.closure.specs.Inner.{innerb, Inner}
+use Rattle.columns.proofs.All.{lt-or-le}
+use Rattle.columns.proofs.Bools.{and-left, and-right, and-both, contra, fails}
 use Rattle.partition.specs.Mark.{mark}
 use Rattle.partition.specs.Partition.{Partition, Sound}
-use Rattle.table.specs.Links.{Linked}
 use Rattle.table.specs.Lts.{Lts, Valid}
-use Rattle.table.specs.Stretch.{nextIncoming}
-use Rattle.table.proofs.Stretches.{next-law}
 use Rattle.closure.proofs.Growing.{Grown}
 use Rattle.closure.proofs.Steps.{into-grown}
 
@@ -31,69 +31,174 @@ module _ (t : Lts) (b i : ℕ) (p : Partition) where
   source-idle e = rw e
 
 -- ---- the rows that lead to u
-module _ (t : Lts) (b u : ℕ) (p : Partition) where
-  into-row : (i : ℕ) → getD (t .target) i 0 ≡ u → markSource t b i (markInto t b u i p) ≡ markInto t b u (suc i) p
-  unfolding markInto
-  into-row i e = rw (eq-eqb (getD (t .target) i 0) u e)
+module _ (t : Lts) (v : Valid t) (b u : ℕ) (p : Partition) (same : p .n ≡ t .n) (g : Sound p) where
+  abbrev to : ℕ → ℕ
+  to i = getD (t .target) i 0
 
-  -- rows that do not lead to u change nothing
-  into-skip : (i j : ℕ) → i ≤ j → ((k : ℕ) → i ≤ k → k < j → getD (t .target) k 0 ≡ u → ⊥) → markInto t b u i p ≡ markInto t b u j p
+  -- row i is hidden and comes from block b
+  abbrev Silent : ℕ → Type 0
+  Silent i = silentb t (p .element-to-block) b i ≡ true
+
+  into-row : (i : ℕ) → to i ≡ u → markSource t b i (markInto t b u i p) ≡ markInto t b u (suc i) p
   unfolding markInto
-  into-skip i zero h f = ap (λ (k : ℕ). markInto t b u k p) (zero-is h)
+  into-row i e = rw (eq-eqb (to i) u e)
+
+  -- a row changes nothing that does not lead to u or is not silent
+  into-idle : (i : ℕ) → i < t .m → (to i ≡ u → Silent i → ⊥) → markInto t b u i p ≡ markInto t b u (suc i) p
+  unfolding markInto
+  into-idle i h f = go (eqb (to i) u) refl
+    where
+      past : eqb (to i) u ≡ false → markInto t b u i p ≡ markInto t b u (suc i) p
+      past e = rw e
+
+      go : (c : Bool) → eqb (to i) u ≡ c → markInto t b u i p ≡ markInto t b u (suc i) p
+      go true e =
+          let r = into-grown t v b u i p (omega arith) same g in
+          source-idle t b i (markInto t b u i p)
+          (ap (λ (x : List ℕ). silentb t x b i) (r .element-to-block) ∙ fails (f (eqb-true (to i) u e)))
+          ∙ into-row i (eqb-true (to i) u e)
+      go false e = past e
+
+  -- nor do several of them
+  into-skip : (i j : ℕ) → i ≤ j → j ≤ t .m → ((k : ℕ) → i ≤ k → k < j → to k ≡ u → Silent k → ⊥) → markInto t b u i p ≡ markInto t b u j p
+  into-skip i zero h w f = ap (λ (k : ℕ). markInto t b u k p) (zero-is h)
     where
       zero-is : {k : ℕ} → k ≤ 0 → k ≡ 0
       zero-is h = omega arith
-  into-skip i (suc j) h f =
+  into-skip i (suc j) h w f =
       ⊎-elim (λ (e : i ≡ suc j). ap (λ (k : ℕ). markInto t b u k p) e)
       (λ (l : i < suc j).
-      into-skip i j (omega arith) (λ k a z. f k a (omega arith)) ∙ past (ne-eqb (getD (t .target) j 0) u (f j (omega arith) (omega arith))))
+      into-skip i j (omega arith) (omega arith) (λ k a z. f k a (omega arith)) ∙ into-idle j w (f j (omega arith) (omega arith)))
       (eq-or-lt-of-le h)
-    where
-      past : eqb (getD (t .target) j 0) u ≡ false → markInto t b u j p ≡ markInto t b u (suc j) p
-      past e = rw e
 
--- the rows before row i are read, and row i leads to u; or i is the end
-pub record Reading (t : Lts) (b u : ℕ) (p q : Partition) (i : ℕ) : Type 0 where
-  pub most : i ≤ t .m
-  pub here : i < t .m → getD (t .target) i 0 ≡ u
-  pub done : q ≡ markInto t b u i p
+-- the rows before `next` are read; of the listed rows that lead to u these are those before position j, and no row from there on leads to less
+pub record Reading (t : Lts) (b u : ℕ) (order : List ℕ) (h : ℕ) (p q : Partition) (j : ℕ) : Type 0 where
+  pub next : ℕ
+  pub most : next ≤ t .m
+  pub done : q ≡ markInto t b u next p
+  pub before : (k : ℕ) → k < j → k < h → getD (t .target) (getD order k 0) 0 ≡ u → getD order k 0 < next
+  pub after : (k : ℕ) → j ≤ k → k < h → getD (t .target) (getD order k 0) 0 ≡ u → next ≤ getD order k 0
+  pub above : (k : ℕ) → j ≤ k → k < h → u ≤ getD (t .target) (getD order k 0) 0
 
-module _ (t : Lts) (head link : List ℕ) (linked : Linked (t .target) (t .n) (t .m) head link) (b u : ℕ) (p : Partition) where
-  pub reading-start : (i : ℕ) → u < t .n → i ≡ getD head u 0 → Reading t b u p p i
-  unfolding markInto
-  reading-start i w e =
-      let r : i ≡ nextIncoming (t .target) (t .m) u 0 = e ∙ linked .first u w in
-      let l = next-law (t .target) (t .m) u 0 (omega arith) in
-      record {
-        most = omega (arith, l .most);
-        here = λ h. ap (λ (k : ℕ). getD (t .target) k 0) r ∙ l .hit (omega (arith, h));
-        done = into-skip t b u p 0 i (omega arith) (λ k a z. l .before k a (omega (arith, z)));
-      }
+-- what the listed rows are asked for when they are looked up
+module _ (t : Lts) (v : Valid t) (home : List ℕ) (b : ℕ) (order : List ℕ) (h : ℕ) (l : Inner t home b order h) where
+  pub listed-below : (k : ℕ) → k < h → getD order k 0 < length (t .target)
+  listed-below k w = omega (arith, l .row k w, v .long .target)
 
-  module _ (q : Partition) (i : ℕ) (c : Reading t b u p q i) (h : i < t .m) (j : ℕ) (e : j ≡ getD link i 0) where
-    after : j ≡ nextIncoming (t .target) (t .m) u (suc i)
-    after = e ∙ linked .next i h ∙ ap (λ (x : ℕ). nextIncoming (t .target) (t .m) x (suc i)) (c .here h)
+  pub listed-rising : (j k : ℕ) → j ≤ k → k < h → getD (t .target) (getD order j 0) 0 ≤ getD (t .target) (getD order k 0) 0
+  listed-rising j k a w =
+      ⊎-elim (λ (e : j ≡ k). omega (arith, ap (λ (x : ℕ). getD (t .target) (getD order x 0) 0) e))
+      (λ (n : j < k).
+      ⊎-elim (λ (x : getD (t .target) (getD order j 0) 0 < getD (t .target) (getD order k 0) 0). omega arith)
+      (λ (x : (getD (t .target) (getD order j 0) 0 ≡ getD (t .target) (getD order k 0) 0) × (getD order j 0 < getD order k 0)). omega (arith, x .0))
+      (l .ascending j k n w))
+      (eq-or-lt-of-le a)
 
-    pub reading-less : i < j
-    reading-less = omega (arith, after, next-law (t .target) (t .m) u (suc i) h .low)
+  listed-less : (j k : ℕ) → j < k → k < h → getD (t .target) (getD order j 0) 0 ≡ getD (t .target) (getD order k 0) 0 → getD order j 0 < getD order k 0
+  listed-less j k a w e =
+      ⊎-elim (λ (x : getD (t .target) (getD order j 0) 0 < getD (t .target) (getD order k 0) 0). absurd (omega arith))
+      (λ (x : (getD (t .target) (getD order j 0) 0 ≡ getD (t .target) (getD order k 0) 0) × (getD order j 0 < getD order k 0)). x .1)
+      (l .ascending j k a w)
 
-    pub reading-more : (r : Partition) → r ≡ markSource t b i q → Reading t b u p r j
-    reading-more r f =
-        let l = next-law (t .target) (t .m) u (suc i) h in
+  pub listed-silent : (j : ℕ) → j < h → silentb t home b (getD order j 0) ≡ true
+  unfolding innerb
+  listed-silent j w =
+      and-left (silentb t home b (getD order j 0)) (eqb (getD home (getD (t .target) (getD order j 0) 0) 0) b) (l .inner j w)
+
+  -- a silent row that leads into the block is listed
+  listed-all : (i : ℕ) → i < t .m → silentb t home b i ≡ true → getD home (getD (t .target) i 0) 0 ≡ b → (j : ℕ) × (j < h) × (getD order j 0 ≡ i)
+  unfolding innerb
+  listed-all i w s e = l .all i w (and-both s (eq-eqb (getD home (getD (t .target) i 0) 0) b e))
+
+-- what the test of a position says
+module _ (target order : List ℕ) (h j u : ℕ) (r : Bool) (e : r ≡ ltb j h && eqb (getD target (getD order j 0) 0) u) where
+  pub leads-before : r ≡ true → j < h
+  leads-before f = ltb-true j h (and-left (ltb j h) (eqb (getD target (getD order j 0) 0) u) (sym e ∙ f))
+
+  pub leads-to : r ≡ true → getD target (getD order j 0) 0 ≡ u
+  leads-to f = eqb-true (getD target (getD order j 0) 0) u (and-right (ltb j h) (eqb (getD target (getD order j 0) 0) u) (sym e ∙ f))
+
+  pub leads-not : r ≡ false → j < h → getD target (getD order j 0) 0 ≡ u → ⊥
+  leads-not f a c = contra (and-both (lt-ltb j h a) (eq-eqb (getD target (getD order j 0) 0) u c)) (sym e ∙ f)
+
+module _ (t : Lts) (v : Valid t) (b u : ℕ) (p : Partition) (same : p .n ≡ t .n) (g : Sound p) where
+  abbrev home : List ℕ
+  home = p .element-to-block
+
+  module _ (order : List ℕ) (h : ℕ) (l : Inner t home b order h) where
+    abbrev listed : ℕ → ℕ
+    listed k = getD order k 0
+
+    abbrev into : ℕ → ℕ
+    into i = getD (t .target) i 0
+
+    pub reading-start :
+        (j : ℕ) → ((k : ℕ) → k < j → into (listed k) < u) → ((k : ℕ) → j ≤ k → k < h → u ≤ into (listed k)) → Reading t b u order h p p j
+    unfolding markInto
+    reading-start j f k =
         record {
-          most = omega (arith, l .most, after);
-          here = λ w. ap (λ (k : ℕ). getD (t .target) k 0) after ∙ l .hit (omega (arith, w, after));
-          done =
-              f ∙ ap (markSource t b i) (c .done) ∙ into-row t b u p i (c .here h)
-              ∙ into-skip t b u p (suc i) j (omega (arith, l .low, after)) (λ k a z. l .before k a (omega (arith, z, after)));
+          next = 0;
+          most = omega arith;
+          done = refl;
+          before = λ x a w e. absurd (omega (arith, f x a, e));
+          after = λ x a w e. omega arith;
+          above = k;
         }
 
-pub reading-end : (t : Lts) (b u : ℕ) (p q : Partition) (i : ℕ) → Reading t b u p q i → t .m ≤ i → q ≡ markInto t b u (t .m) p
-reading-end t b u p q i c h = c .done ∙ ap (λ (k : ℕ). markInto t b u k p) (equal h (c .most))
-  where
-    equal : {x y : ℕ} → y ≤ x → x ≤ y → x ≡ y
-    equal a z = omega arith
+    module _ (q : Partition) (j : ℕ) (c : Reading t b u order h p q j) where
+      pub reading-grown : Grown b p q
+      reading-grown = rw (c .done) (into-grown t v b u (c .next) p (c .most) same g)
 
-pub reading-grown :
-    (t : Lts) → Valid t → (b u : ℕ) (p q : Partition) (i : ℕ) → p .n ≡ t .n → Sound p → Reading t b u p q i → Grown b p q
-reading-grown t v b u p q i same g c = rw (c .done) (into-grown t v b u i p (c .most) same g)
+      -- a silent row that leads to u and is not read yet is listed at j or later
+      unread : (i : ℕ) → c .next ≤ i → i < t .m → into i ≡ u → silentb t home b i ≡ true → getD home u 0 ≡ b
+          → (k : ℕ) × (j ≤ k) × (k < h) × (listed k ≡ i)
+      unread i a w e s eu =
+          let x = listed-all t v home b order h l i w s (ap (λ (y : ℕ). getD home y 0) e ∙ eu) in (
+            x .0,
+            ⊎-elim
+                (λ (n : x .0 < j). absurd (omega (arith, c .before (x .0) n (x .1) (ap into (x .2) ∙ e), x .2, a)))
+                (λ (n : j ≤ x .0). n) (lt-or-le (x .0) j),
+            x .1,
+            x .2,
+          )
+
+      module _ (eu : getD home u 0 ≡ b) where
+        pub reading-more :
+            j < h → into (listed j) ≡ u → (i : ℕ) → i ≡ listed j → (r : Partition) → r ≡ markSource t b i q → Reading t b u order h p r (j + 1)
+        reading-more w e i ei r f =
+            let a : c .next ≤ listed j = c .after j (omega arith) w e in
+            let m : listed j < t .m = l .row j w in
+            record {
+              next = suc (listed j);
+              most = m;
+              done =
+                  f ∙ ap (λ (x : ℕ). markSource t b x q) ei
+                  ∙ ap (markSource t b (listed j)) (c .done ∙ into-skip t v b u p same g (c .next) (listed j) a (omega arith) between)
+                  ∙ into-row t v b u p same g (listed j) e;
+              before = λ k x y d.
+                  ⊎-elim (λ (z : k ≡ j). omega (arith, ap listed z)) (λ (z : k < j). omega (arith, c .before k z y d, a))
+                  (eq-or-lt-of-le (omega (arith, x)));
+              after = λ k x y d. listed-less t v home b order h l j k (omega (arith, x)) y (e ∙ sym d);
+              above = λ k x y. c .above k (omega (arith, x)) y;
+            }
+          where
+            between : (k : ℕ) → c .next ≤ k → k < listed j → into k ≡ u → silentb t home b k ≡ true → ⊥
+            between k x z d s =
+                let y = unread k x (omega (arith, l .row j w)) d s eu in
+                ⊎-elim (λ (n : j ≡ y .0). absurd (omega (arith, ap listed n, y .3, z)))
+                (λ (n : j < y .0). absurd (omega (arith, listed-less t v home b order h l j (y .0) n (y .2) (e ∙ sym (ap into (y .3) ∙ d)), y .3, z)))
+                (eq-or-lt-of-le (y .1))
+
+        pub reading-end : (j < h → into (listed j) ≡ u → ⊥) → q ≡ markInto t b u (t .m) p
+        reading-end f =
+            c .done ∙ into-skip t v b u p same g (c .next) (t .m) (c .most) (omega arith) none
+          where
+            none : (k : ℕ) → c .next ≤ k → k < t .m → into k ≡ u → silentb t home b k ≡ true → ⊥
+            none k x z d s =
+                let y = unread k x z d s eu in
+                let there : into (listed (y .0)) ≡ u = ap into (y .3) ∙ d in
+                ⊎-elim (λ (n : j ≡ y .0). f (omega (arith, y .2)) (ap (λ (o : ℕ). into (listed o)) n ∙ there))
+                (λ (n : j < y .0).
+                f (omega (arith, y .2))
+                (omega (arith, c .above j (omega arith) (omega (arith, y .2)), listed-rising t v home b order h l j (y .0) (y .1) (y .2), there)))
+                (eq-or-lt-of-le (y .1))

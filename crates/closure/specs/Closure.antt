@@ -48,15 +48,15 @@ close t p b = readDown t b (getD (p .end) b 0) p
 
 -- the room of the two work slices
 unfoldable pub workb : Lts → ℕ → ℕ → Bool
-workb t head link = leb (t .n + t .m + 1) head && leb (t .n + t .m + 1) link
+workb t order spare = leb (t .n + t .m + 1) order && leb (t .n + t .m + 1) spare
 
 -- 1, 2, 3, 4, 7, 5 and 6, 14, 8
 unfoldable pub closureRefusal : Lts → Partition → ℕ → ℕ → ℕ → Refusal
 unfolding checkedBoth workb
-closureRefusal t p b head link = checkedBoth t p (workb t head link) (unless (ltb b (p .count)) (refusal 8 b) none)
+closureRefusal t p b order spare = checkedBoth t p (workb t order spare) (unless (ltb b (p .count)) (refusal 8 b) none)
 
 -- the partition is closed, and the work slices are zero
 unfoldable pub markBackwardClosure : Lts → Partition → ℕ → List ℕ → List ℕ → Said × (Partition × (List ℕ × List ℕ))
 unfolding leaving closureRefusal close
-markBackwardClosure t p b head link =
-    leaving (closureRefusal t p b (length head) (length link)) (p, (head, link)) [] (close t p b, (zeros (length head), zeros (length link)))
+markBackwardClosure t p b order spare =
+    leaving (closureRefusal t p b (length order) (length spare)) (p, (order, spare)) [] (close t p b, (zeros (length order), zeros (length spare)))

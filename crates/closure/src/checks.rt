@@ -22,13 +22,13 @@ pub fn closure_refusal(
     marked_split: &[u16],
     end: &[u16],
     b: usize,
-    head: usize,
-    link: usize,
+    order: usize,
+    spare: usize,
 ) -> Refusal
-    ensures { λ r. ⌜ r ≡ closureRefusal (lts table (now (source .entry)) (now (label .entry)) (now (target .entry))) (parts (now (elements .entry)) (now («element_offset» .entry)) (now («element_to_block» .entry)) (now (begin .entry)) (now («marked_split» .entry)) (now (end .entry)) (table .n) count) b head link ⌝ }
+    ensures { λ r. ⌜ r ≡ closureRefusal (lts table (now (source .entry)) (now (label .entry)) (now (target .entry))) (parts (now (elements .entry)) (now («element_offset» .entry)) (now («element_to_block» .entry)) (now (begin .entry)) (now («marked_split» .entry)) (now (end .entry)) (table .n) count) b order spare ⌝ }
 {
     let cells = table.n as usize + table.m as usize + 1;
-    let room = (cells <= head) & (cells <= link);
+    let room = (cells <= order) & (cells <= spare);
     let t = check(
         table,
         source,

@@ -1,41 +1,21 @@
 // The work of `mark_backward_closure`, on columns that are checked already. No entry points: each says what it requires.
 ghost use mathlib.Core.Path.{_≡_};
-ghost use Prim.Native.Nat.{_≤_, _<_};
+ghost use Prim.Native.Nat.{ℕ, _≤_, _<_};
 ghost use lib.ListN.{length, getD};
+ghost use mathlib.Core.Bool.{true, _&&_};
+ghost use lib.Dec.{eqb, ltb};
 ghost use Rattle.closure.specs.Closure.{silentb, goingOn, markSource, markInto, close};
+ghost use Rattle.closure.specs.Inner.{Inner};
 ghost use Rattle.columns.specs.Columns.{zeros};
 ghost use Rattle.partition.specs.Partition.{parts, Sound};
-ghost use Rattle.table.specs.Links.{Linked};
 ghost use Rattle.table.specs.Lts.{lts, Valid};
+use crate::inner::list_inner;
 use columns::cells::at;
 use columns::cells::clear;
 use partition::core::mark_element;
 use table::Table;
-use table::core::taken;
-use table::links::link_incoming;
 
-// Whether row i is hidden and comes from a state of block b.
-fn is_silent(
-    table: Table,
-    source: &[u16],
-    label: &[u16],
-    target: &[u16],
-    element_to_block: &[u16],
-    b: usize,
-    i: usize,
-) -> bool
-    requires { ⌜ (i < length (now source)) × (i < length (now label)) × (getD (now source) i 0 < length (now «element_to_block»)) ⌝ }
-    ensures { λ r. ⌜ r ≡ silentb (lts table (now (source .entry)) (now (label .entry)) (now (target .entry))) (now («element_to_block» .entry)) b i ⌝ }
-{
-    if !taken(label, true, i) {
-        return false;
-    }
-    let s = at(source, i);
-    let home = at(element_to_block, s);
-    if home == b { true } else { false }
-}
-
-// Marks the source of row i, if the row is hidden and comes from block b.
+// Marks the source of row i, which is hidden and comes from block b.
 fn mark_source(
     table: Table,
     source: &[u16],
@@ -51,25 +31,55 @@ fn mark_source(
     b: usize,
     i: usize,
 )
-    requires { ⌜ Valid (lts table (now source) (now label) (now target)) × (i < table .m) ⌝ }
+    requires { ⌜ Valid (lts table (now source) (now label) (now target)) × (i < table .m) × (silentb (lts table (now source) (now label) (now target)) (now «element_to_block») b i ≡ true) ⌝ }
     requires { ⌜ Sound (parts (now elements) (now «element_offset») (now «element_to_block») (now begin) (now «marked_split») (now end) (table .n) count) ⌝ }
     ensures { λ _. ⌜ parts (now (elements .exit)) (now («element_offset» .exit)) (now («element_to_block» .exit)) (now (begin .exit)) (now («marked_split» .exit)) (now (end .exit)) (table .n) count ≡ markSource (lts table (now (source .entry)) (now (label .entry)) (now (target .entry))) b i (parts (now (elements .entry)) (now («element_offset» .entry)) (now («element_to_block» .entry)) (now (begin .entry)) (now («marked_split» .entry)) (now (end .entry)) (table .n) count) ⌝ }
 {
-    if is_silent(table, source, label, target, element_to_block, b, i) {
-        let n = table.n as usize;
-        let s = at(source, i);
-        mark_element(
-            &mut *elements,
-            &mut *element_offset,
-            element_to_block,
-            begin,
-            &mut *marked_split,
-            end,
-            n,
-            count,
-            s,
-        );
+    let n = table.n as usize;
+    let s = at(source, i);
+    mark_element(
+        &mut *elements,
+        &mut *element_offset,
+        element_to_block,
+        begin,
+        &mut *marked_split,
+        end,
+        n,
+        count,
+        s,
+    );
+}
+
+// The first of h listed rows whose target is not below u; h if there is none.
+fn first_into(target: &[u16], order: &[u16], h: usize, u: usize) -> usize
+    requires { ⌜ (h ≤ length (now order)) × ((k : ℕ) → k < h → getD (now order) k 0 < length (now target)) ⌝ }
+    requires { ⌜ ((j k : ℕ) → j ≤ k → k < h → getD (now target) (getD (now order) j 0) 0 ≤ getD (now target) (getD (now order) k 0) 0) ⌝ }
+    ensures { λ r. ⌜ (r ≤ h) × ((j : ℕ) → j < r → getD (now (target .entry)) (getD (now (order .entry)) j 0) 0 < u) × ((j : ℕ) → r ≤ j → j < h → u ≤ getD (now (target .entry)) (getD (now (order .entry)) j 0) 0) ⌝ }
+{
+    let mut low = 0;
+    let mut high = h;
+    while low < high {
+        let mid = low + (high - low) / 2;
+        let i = at(order, mid);
+        if at(target, i) < u {
+            low = mid + 1;
+        } else {
+            high = mid;
+        }
     }
+    low
+}
+
+// Whether the row listed at j, if there is one below h, leads to u.
+fn leads(target: &[u16], order: &[u16], h: usize, j: usize, u: usize) -> bool
+    requires { ⌜ (h ≤ length (now order)) × ((k : ℕ) → k < h → getD (now order) k 0 < length (now target)) ⌝ }
+    ensures { λ r. ⌜ r ≡ ltb j h && eqb (getD (now (target .entry)) (getD (now (order .entry)) j 0) 0) u ⌝ }
+{
+    if h <= j {
+        return false;
+    }
+    let i = at(order, j);
+    if at(target, i) == u { true } else { false }
 }
 
 // Marks the sources of the hidden rows that lead to u from block b, one after the other.
@@ -78,8 +88,8 @@ fn mark_into(
     source: &[u16],
     label: &[u16],
     target: &[u16],
-    head: &[u16],
-    link: &[u16],
+    order: &[u16],
+    h: usize,
     elements: &mut [u16],
     element_offset: &mut [u16],
     element_to_block: &[u16],
@@ -90,13 +100,13 @@ fn mark_into(
     b: usize,
     u: usize,
 )
-    requires { ⌜ Valid (lts table (now source) (now label) (now target)) × Linked (now target) (table .n) (table .m) (now head) (now link) × (u < table .n) ⌝ }
+    requires { ⌜ Valid (lts table (now source) (now label) (now target)) × Inner (lts table (now source) (now label) (now target)) (now «element_to_block») b (now order) h × (getD (now «element_to_block») u 0 ≡ b) × (u < table .n) ⌝ }
     requires { ⌜ Sound (parts (now elements) (now «element_offset») (now «element_to_block») (now begin) (now «marked_split») (now end) (table .n) count) ⌝ }
     ensures { λ _. ⌜ parts (now (elements .exit)) (now («element_offset» .exit)) (now («element_to_block» .exit)) (now (begin .exit)) (now («marked_split» .exit)) (now (end .exit)) (table .n) count ≡ markInto (lts table (now (source .entry)) (now (label .entry)) (now (target .entry))) b u (table .m) (parts (now (elements .entry)) (now («element_offset» .entry)) (now («element_to_block» .entry)) (now (begin .entry)) (now («marked_split» .entry)) (now (end .entry)) (table .n) count) ⌝ }
 {
-    let m = table.m as usize;
-    let mut i = at(head, u);
-    while i < m {
+    let mut j = first_into(target, order, h, u);
+    while leads(target, order, h, j, u) {
+        let i = at(order, j);
         mark_source(
             table,
             source,
@@ -112,7 +122,7 @@ fn mark_into(
             b,
             i,
         );
-        i = at(link, i);
+        j += 1;
     }
 }
 
@@ -132,8 +142,8 @@ fn close_marks(
     source: &[u16],
     label: &[u16],
     target: &[u16],
-    head: &[u16],
-    link: &[u16],
+    order: &[u16],
+    h: usize,
     elements: &mut [u16],
     element_offset: &mut [u16],
     element_to_block: &[u16],
@@ -143,7 +153,7 @@ fn close_marks(
     count: usize,
     b: usize,
 )
-    requires { ⌜ Valid (lts table (now source) (now label) (now target)) × Linked (now target) (table .n) (table .m) (now head) (now link) ⌝ }
+    requires { ⌜ Valid (lts table (now source) (now label) (now target)) × Inner (lts table (now source) (now label) (now target)) (now «element_to_block») b (now order) h ⌝ }
     requires { ⌜ Sound (parts (now elements) (now «element_offset») (now «element_to_block») (now begin) (now «marked_split») (now end) (table .n) count) × (b < count) ⌝ }
     ensures { λ _. ⌜ parts (now (elements .exit)) (now («element_offset» .exit)) (now («element_to_block» .exit)) (now (begin .exit)) (now («marked_split» .exit)) (now (end .exit)) (table .n) count ≡ close (lts table (now (source .entry)) (now (label .entry)) (now (target .entry))) (parts (now (elements .entry)) (now («element_offset» .entry)) (now («element_to_block» .entry)) (now (begin .entry)) (now («marked_split» .entry)) (now (end .entry)) (table .n) count) b ⌝ }
 {
@@ -157,8 +167,8 @@ fn close_marks(
             source,
             label,
             target,
-            head,
-            link,
+            order,
+            h,
             &mut *elements,
             &mut *element_offset,
             element_to_block,
@@ -172,15 +182,15 @@ fn close_marks(
     }
 }
 
-// The same, where `head` and `link` are work slices in which the incoming rows are linked first. A block with nothing marked, or with
-// nothing unmarked, needs no links.
-fn link_and_close(
+// The same for block b as it stands. Every cell of `order` and `spare` is zero, and zero then. A block with nothing marked, or with nothing
+// unmarked, needs no list.
+pub fn mark_backward_closure(
     table: Table,
     source: &[u16],
     label: &[u16],
     target: &[u16],
-    head: &mut [u16],
-    link: &mut [u16],
+    order: &mut [u16],
+    spare: &mut [u16],
     elements: &mut [u16],
     element_offset: &mut [u16],
     element_to_block: &[u16],
@@ -190,21 +200,35 @@ fn link_and_close(
     count: usize,
     b: usize,
 )
-    requires { ⌜ Valid (lts table (now source) (now label) (now target)) × (table .n ≤ length (now head)) × (table .m ≤ length (now link)) ⌝ }
+    requires { ⌜ Valid (lts table (now source) (now label) (now target)) × (table .m ≤ length (now order)) × (table .m ≤ length (now spare)) ⌝ }
+    requires { ⌜ (now order ≡ zeros (length (now order))) × (now spare ≡ zeros (length (now spare))) ⌝ }
     requires { ⌜ Sound (parts (now elements) (now «element_offset») (now «element_to_block») (now begin) (now «marked_split») (now end) (table .n) count) × (b < count) ⌝ }
     ensures { λ _. ⌜ parts (now (elements .exit)) (now («element_offset» .exit)) (now («element_to_block» .exit)) (now (begin .exit)) (now («marked_split» .exit)) (now (end .exit)) (table .n) count ≡ close (lts table (now (source .entry)) (now (label .entry)) (now (target .entry))) (parts (now (elements .entry)) (now («element_offset» .entry)) (now («element_to_block» .entry)) (now (begin .entry)) (now («marked_split» .entry)) (now (end .entry)) (table .n) count) b ⌝ }
+    ensures { λ _. ⌜ (now (order .exit) ≡ zeros (length (now (order .entry)))) × (now (spare .exit) ≡ zeros (length (now (spare .entry)))) ⌝ }
 {
-    if going_on(at(begin, b), at(&*marked_split, b), at(end, b)) {
-        let n = table.n as usize;
-        let m = table.m as usize;
-        link_incoming(target, n, m, &mut *head, &mut *link);
+    let x = at(begin, b);
+    let z = at(end, b);
+    if going_on(x, at(&*marked_split, b), z) {
+        let h = list_inner(
+            table,
+            source,
+            label,
+            target,
+            &*elements,
+            element_to_block,
+            b,
+            x,
+            z,
+            &mut *order,
+            &mut *spare,
+        );
         close_marks(
             table,
             source,
             label,
             target,
-            &*head,
-            &*link,
+            &*order,
+            h,
             &mut *elements,
             &mut *element_offset,
             element_to_block,
@@ -214,47 +238,6 @@ fn link_and_close(
             count,
             b,
         );
+        clear(&mut order[..h]);
     }
-}
-
-// Closes the marks of block b, and clears the two work slices.
-pub fn mark_backward_closure(
-    table: Table,
-    source: &[u16],
-    label: &[u16],
-    target: &[u16],
-    head: &mut [u16],
-    link: &mut [u16],
-    elements: &mut [u16],
-    element_offset: &mut [u16],
-    element_to_block: &[u16],
-    begin: &[u16],
-    marked_split: &mut [u16],
-    end: &[u16],
-    count: usize,
-    b: usize,
-)
-    requires { ⌜ Valid (lts table (now source) (now label) (now target)) × (table .n ≤ length (now head)) × (table .m ≤ length (now link)) ⌝ }
-    requires { ⌜ Sound (parts (now elements) (now «element_offset») (now «element_to_block») (now begin) (now «marked_split») (now end) (table .n) count) × (b < count) ⌝ }
-    ensures { λ _. ⌜ parts (now (elements .exit)) (now («element_offset» .exit)) (now («element_to_block» .exit)) (now (begin .exit)) (now («marked_split» .exit)) (now (end .exit)) (table .n) count ≡ close (lts table (now (source .entry)) (now (label .entry)) (now (target .entry))) (parts (now (elements .entry)) (now («element_offset» .entry)) (now («element_to_block» .entry)) (now (begin .entry)) (now («marked_split» .entry)) (now (end .entry)) (table .n) count) b ⌝ }
-    ensures { λ _. ⌜ (now (head .exit) ≡ zeros (length (now (head .entry)))) × (now (link .exit) ≡ zeros (length (now (link .entry)))) ⌝ }
-{
-    link_and_close(
-        table,
-        source,
-        label,
-        target,
-        &mut *head,
-        &mut *link,
-        &mut *elements,
-        &mut *element_offset,
-        element_to_block,
-        begin,
-        &mut *marked_split,
-        end,
-        count,
-        b,
-    );
-    clear(head);
-    clear(link);
 }

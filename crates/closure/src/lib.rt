@@ -8,10 +8,12 @@ ghost use Rattle.table.specs.Lts.{lts};
 
 pub mod checks;
 pub mod core;
+pub mod inner;
 
 use columns::answers::Answer;
 use columns::answers::finished;
 use columns::answers::refusing;
+use columns::cells::clear;
 use table::Table;
 
 // From end - 1 down, incoming hidden sources in the same block are marked, until nothing is unmarked or the marked stretch is read.
@@ -28,10 +30,10 @@ pub fn mark_backward_closure(
     end: &[u16],
     count: u16,
     block_index: u16,
-    head: &mut [u16],
-    link: &mut [u16],
+    order: &mut [u16],
+    spare: &mut [u16],
 ) -> Answer
-    ensures { λ r. ⌜ (said r, (parts (now (elements .exit)) (now («element_offset» .exit)) (now («element_to_block» .exit)) (now (begin .exit)) (now («marked_split» .exit)) (now (end .exit)) (table .n) count, (now (head .exit), now (link .exit)))) ≡ markBackwardClosure (lts table (now (source .entry)) (now (label .entry)) (now (target .entry))) (parts (now (elements .entry)) (now («element_offset» .entry)) (now («element_to_block» .entry)) (now (begin .entry)) (now («marked_split» .entry)) (now (end .entry)) (table .n) count) «block_index» (now (head .entry)) (now (link .entry)) ⌝ }
+    ensures { λ r. ⌜ (said r, (parts (now (elements .exit)) (now («element_offset» .exit)) (now («element_to_block» .exit)) (now (begin .exit)) (now («marked_split» .exit)) (now (end .exit)) (table .n) count, (now (order .exit), now (spare .exit)))) ≡ markBackwardClosure (lts table (now (source .entry)) (now (label .entry)) (now (target .entry))) (parts (now (elements .entry)) (now («element_offset» .entry)) (now («element_to_block» .entry)) (now (begin .entry)) (now («marked_split» .entry)) (now (end .entry)) (table .n) count) «block_index» (now (order .entry)) (now (spare .entry)) ⌝ }
 {
     let k = count as usize;
     let b = block_index as usize;
@@ -48,20 +50,22 @@ pub fn mark_backward_closure(
         &*marked_split,
         end,
         b,
-        head.len(),
-        link.len(),
+        order.len(),
+        spare.len(),
     );
     let number = t.number;
     if number != 0 {
         return refusing(t);
     }
+    clear(&mut *order);
+    clear(&mut *spare);
     core::mark_backward_closure(
         table,
         source,
         label,
         target,
-        &mut *head,
-        &mut *link,
+        &mut *order,
+        &mut *spare,
         &mut *elements,
         &mut *element_offset,
         element_to_block,

@@ -24,24 +24,24 @@ use table_cases::tables::read_table;
 struct Tail {
     count: u16,
     block: u16,
-    head: usize,
-    link: usize,
+    order: usize,
+    spare: usize,
     rest: Input,
 }
 
-fn read_tail(first: Input, buffer: &mut Buffer, head: &mut Work, link: &mut Work) -> Tail
-    ensures { λ r. ⌜ Counts (r .head) (now (head .exit)) × Counts (r .link) (now (link .exit)) ⌝ }
+fn read_tail(first: Input, buffer: &mut Buffer, order: &mut Work, spare: &mut Work) -> Tail
+    ensures { λ r. ⌜ Counts (r .order) (now (order .exit)) × Counts (r .spare) (now (spare .exit)) ⌝ }
 {
     let count = first.small(buffer);
     let block = count.input.small(buffer);
-    let heads = block.input.column(buffer, head);
-    let links = heads.input.column(buffer, link);
+    let heads = block.input.column(buffer, order);
+    let links = heads.input.column(buffer, spare);
     let rest = links.input.end_line(buffer);
     Tail {
         count: count.value,
         block: block.value,
-        head: heads.count,
-        link: links.count,
+        order: heads.count,
+        spare: links.count,
         rest,
     }
 }
@@ -65,17 +65,17 @@ fn read_case(
     d: &mut Column,
     e: &mut Column,
     f: &mut Column,
-    head: &mut Work,
-    link: &mut Work,
+    order: &mut Work,
+    spare: &mut Work,
 ) -> Case
     ensures { λ r. ⌜ Counts (r .given .source) (now (source .exit)) × Counts (r .given .label) (now (label .exit)) × Counts (r .given .target) (now (target .exit)) ⌝ }
     ensures { λ r. ⌜ Counts (r .to .a) (now (a .exit)) × Counts (r .to .b) (now (b .exit)) × Counts (r .to .c) (now (c .exit)) × Counts (r .to .d) (now (d .exit)) × Counts (r .to .e) (now (e .exit)) × Counts (r .to .f) (now (f .exit)) ⌝ }
-    ensures { λ r. ⌜ Counts (r .tail .head) (now (head .exit)) × Counts (r .tail .link) (now (link .exit)) ⌝ }
+    ensures { λ r. ⌜ Counts (r .tail .order) (now (order .exit)) × Counts (r .tail .spare) (now (spare .exit)) ⌝ }
 {
     let given = read_table(line.input, buffer, source, label, target);
     let columns = read_columns(given.input, buffer, a, b, c, d, e, f);
     let to = columns.lengths;
-    let tail = read_tail(columns.input, buffer, head, link);
+    let tail = read_tail(columns.input, buffer, order, spare);
     Case { given, to, tail }
 }
 
@@ -85,15 +85,15 @@ fn show(
     a: &Column,
     b: &Column,
     e: &Column,
-    head: &Work,
-    link: &Work,
+    order: &Work,
+    spare: &Work,
     out: &mut Buffer,
     used: usize,
 ) -> usize {
     let tail = case.tail;
     let marked = show_marked(case.to, a, b, e, out, used);
-    let headed = column(out, marked, head, tail.head);
-    column(out, headed, link, tail.link)
+    let headed = column(out, marked, order, tail.order);
+    column(out, headed, spare, tail.spare)
 }
 
 // The rest of a line, and its answer.
@@ -107,8 +107,8 @@ pub fn replay(line: Line, buffer: &mut Buffer, out: &mut Buffer, used: usize) ->
     let mut d = [0u16; 5000];
     let mut e = [0u16; 5000];
     let mut f = [0u16; 5000];
-    let mut head = [0u16; 12600];
-    let mut link = [0u16; 12600];
+    let mut order = [0u16; 12600];
+    let mut spare = [0u16; 12600];
     let case = read_case(
         line,
         buffer,
@@ -121,8 +121,8 @@ pub fn replay(line: Line, buffer: &mut Buffer, out: &mut Buffer, used: usize) ->
         &mut d,
         &mut e,
         &mut f,
-        &mut head,
-        &mut link,
+        &mut order,
+        &mut spare,
     );
     let tail = case.tail;
     let rest = tail.rest;
@@ -145,10 +145,10 @@ pub fn replay(line: Line, buffer: &mut Buffer, out: &mut Buffer, used: usize) ->
         &f[..to.f],
         tail.count,
         tail.block,
-        &mut head[..tail.head],
-        &mut link[..tail.link],
+        &mut order[..tail.order],
+        &mut spare[..tail.spare],
     );
     let answered = said(out, used, plain(answer));
-    let shown = show(case, &a, &b, &e, &head, &link, out, answered);
+    let shown = show(case, &a, &b, &e, &order, &spare, out, answered);
     end_case(rest, out, shown)
 }

@@ -26,4 +26,7 @@ pub mod Swaps
 pub mod Inverses
 pub mod Numbering
 pub mod Members
+pub mod Listing
+pub mod Owners
+pub mod ApartLists
 pub mod Chosen

@@ -3,7 +3,6 @@ pub mod Picks
 pub mod Outcomes
 pub mod Ready
 pub mod Pushing
-pub mod RowsOf
 pub mod Keys
 pub mod Sigs
 pub mod Rows

@@ -43,11 +43,11 @@ incoming-length t =
     length-sort rowLt (keyOf (t .target) (t .source) (t .label)) row-order (listed (t .m) (λ k. k)) ∙ length-listed (t .m) (λ (k : ℕ). k)
 
 module _ (t : Lts) (v : Valid t) where
-  key-back : (i : ℕ) → i < t .m → keyOf (t .target) (t .source) (t .label) i ≡ backRow t i
+  pub key-back : (i : ℕ) → i < t .m → keyOf (t .target) (t .source) (t .label) i ≡ backRow t i
   key-back i h = key-row (t .target) (t .source) (t .label) i (omega (arith, h, v .long .target)) (omega (arith, h, v .long .source)) (omega (arith, h, v .long .label))
 
   -- no two rows are the same
-  back-apart : (i j : ℕ) → i < j → j < t .m → backRow t i ≡ backRow t j → ⊥
+  pub back-apart : (i j : ℕ) → i < j → j < t .m → backRow t i ≡ backRow t j → ⊥
   unfolding rowIn
   back-apart i j h l e =
       let same : rowAt t i ≡ rowAt t j = ap (λ (r : Row). (r .1 .0, (r .1 .1, r .0))) e in

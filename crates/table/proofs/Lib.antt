@@ -1,10 +1,10 @@
 pub mod Rows
 pub mod Refusals
 pub mod Stretches
+pub mod RowsOf
 pub mod Incomings
 pub mod Walks
 pub mod Searching
-pub mod Linking
 pub mod Sayings
 pub mod Runs
 pub mod Meetings

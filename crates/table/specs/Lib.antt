@@ -2,7 +2,6 @@ pub mod Lts
 pub mod Checks
 pub mod Stretch
 pub mod Transitions
-pub mod Links
 pub mod Incoming
 pub mod Reach
 pub mod Search

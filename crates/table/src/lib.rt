@@ -3,7 +3,6 @@
 pub mod checks;
 pub mod core;
 pub mod incoming;
-pub mod links;
 pub mod reach;
 pub mod transitions;
 

@@ -43,8 +43,8 @@ fn mark_backward_closure(line: &mut Line) -> Result<String, Stop> {
     rust(|| partition.mark_backward_closure(BlockIndex::new(block), &incoming))?;
     columns.take_back(&partition);
     work.iter_mut().for_each(|slice| slice.fill(0));
-    let [head, link] = &work;
-    Ok(done(&[], &[&columns.elements, &columns.element_offset, &columns.marked_split, head, link]))
+    let [order, spare] = &work;
+    Ok(done(&[], &[&columns.elements, &columns.element_offset, &columns.marked_split, order, spare]))
 }
 
 fn sort_topological(line: &mut Line) -> Result<String, Stop> {

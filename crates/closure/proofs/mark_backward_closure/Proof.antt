@@ -1,11 +1,12 @@
 -- `mark_backward_closure` meets its contract.
+use borrow.Author.Needs.{needs}
 use native.Mathlib.Omega.{arith}
-use mathlib.Core.Path.{refl}
+use mathlib.Core.Path.{refl, sym, ap, _∙_}
 use lib.ListN.{length}
+use Rattle.columns.specs.Columns.{zeros}
 use Rattle.partition.specs.Partition.{Partition, parts}
 use Rattle.table.specs.Lts.{Lts, lts}
 use Rattle.closure.proofs.Answering.{closure-ready, closure-refused, closure-answered}
-use borrow.Author.Needs.{needs}
 use Rattle.closure.proofs.mark_backward_closure.Statement.{statement}
 use Rattle.closure.proofs.mark_backward_closure.Tie as tie
 
@@ -34,10 +35,29 @@ same-length-3 : tie.Need-same-length-3
 same-length-3 c = search needs
 
 returns : tie.Need-returns
-returns c = let a = c .before .before .before .before .before .before .before .before .before .before .before .before .before .before .before .before .before in closure-refused (L a) (P a) (a .args .block-index) (a .args .head .now) (a .args .link .now) _ (c .before .before .closure-refusal .ensures) _ (c .before .if1 .taken) (c .refusing .ensures)
+returns c =
+    let a = c .before .before .before .before .before .before .before .before .before .before .before .before .before .before .before .before .before in
+    closure-refused (L a) (P a) (a .args .block-index) (a .args .order .now) (a .args .spare .now) _ (c .before .before .closure-refusal .ensures) _
+    (c .before .if1 .taken) (c .refusing .ensures)
+
+clear-requires : tie.Need-clear-requires
+clear-requires c κs = search needs
+
+clear-requires-2 : tie.Need-clear-requires-2
+clear-requires-2 c κs = search needs
 
 mark-backward-closure-requires : tie.Need-mark-backward-closure-requires
-mark-backward-closure-requires c κs = let a = c .before .before .before .before .before .before .before .before .before .before .before .before .before .before .before .before .before .before .before .before .before in let q = closure-ready (L a) (P a) refl (a .args .block-index) (length (a .args .head .now)) (length (a .args .link .now)) _ (c .before .before .before .before .before .before .closure-refusal .ensures) (c .before .before .before .before .before .if1 .left) in ((q .valid, omega (arith, q .heads), omega (arith, q .links)), (q .sound, q .known))
+mark-backward-closure-requires c κs =
+    let a = c .before .before .before .before .before .before .before .before .before .before .before .before .before .before .before .before .before .before .before .before .before .before .before .before .before .before .before .before .before in
+    let q =
+    closure-ready (L a) (P a) refl (a .args .block-index) (length (a .args .order .now)) (length (a .args .spare .now)) _
+    (c .before .before .before .before .before .before .before .before .before .before .before .before .before .before .closure-refusal .ensures) (c .before .before .before .before .before .before .before .before .before .before .before .before .before .if1 .left)
+    in
+    let x = c .before .before .before .before .before .before .before .before .before .before .before .clear in
+    let y = c .before .before .before .before .before .before .before .clear2 in (
+      (q .valid, omega (arith, q .orders, x .kept .0), omega (arith, q .spares, y .kept .0)),
+      ((x .ensures ∙ ap zeros (sym (x .kept .0)), y .ensures ∙ ap zeros (sym (y .kept .0))), (q .sound, q .known)),
+    )
 
 finished-requires : tie.Need-finished-requires
 finished-requires c κs = search needs
@@ -58,7 +78,12 @@ same-length-8 : tie.Need-same-length-8
 same-length-8 c = search needs
 
 returns-2 : tie.Need-returns-2
-returns-2 c = let a = c .before .before .before .before .before .before .before .before .before .before .before .before .before .before .before .before .before .before .before .before .before .before .before .before .before .before .before .before .before .before .before .before .before in closure-answered (L a) (P a) (a .args .block-index) (a .args .head .now) (a .args .link .now) _ (c .before .before .before .before .before .before .before .before .before .before .before .before .before .before .before .before .before .before .closure-refusal .ensures) _ (c .before .before .before .before .before .before .before .before .before .before .before .before .before .before .before .before .before .if1 .left) (c .finished .ensures) _ (c .before .before .before .before .before .before .before .before .before .before .before .mark-backward-closure .ensures .0) _ _ (c .before .before .before .before .before .before .before .before .before .before .before .mark-backward-closure .ensures .1 .0) (c .before .before .before .before .before .before .before .before .before .before .before .mark-backward-closure .ensures .1 .1)
+returns-2 c =
+    let a = c .before .before .before .before .before .before .before .before .before .before .before .before .before .before .before .before .before .before .before .before .before .before .before .before .before .before .before .before .before .before .before .before .before .before .before .before .before .before .before .before .before in
+    let q = c .before .before .before .before .before .before .before .before .before .before .before .mark-backward-closure in
+    closure-answered (L a) (P a) (a .args .block-index) (a .args .order .now) (a .args .spare .now) _ (c .before .before .before .before .before .before .before .before .before .before .before .before .before .before .before .before .before .before .before .before .before .before .before .before .before .before .closure-refusal .ensures) _
+    (c .before .before .before .before .before .before .before .before .before .before .before .before .before .before .before .before .before .before .before .before .before .before .before .before .before .if1 .left) (c .finished .ensures) _ (q .ensures .0) _ _ (q .ensures .1 .0 ∙ ap zeros (c .before .before .before .before .before .before .before .before .before .before .before .before .before .before .before .before .before .before .before .before .before .before .before .clear .kept .0))
+    (q .ensures .1 .1 ∙ ap zeros (c .before .before .before .before .before .before .before .before .before .before .before .before .before .before .before .before .before .before .before .clear2 .kept .0))
 
 pub mark-backward-closure-spec : {M : Type 1} → statement M
 mark-backward-closure-spec =
@@ -70,6 +95,8 @@ mark-backward-closure-spec =
     same-length-2
     same-length-3
     returns
+    clear-requires
+    clear-requires-2
     mark-backward-closure-requires
     finished-requires
     same-length-4

@@ -14,7 +14,7 @@ use Rattle.columns.proofs.TwoColumns.{length-pairs}
 use Rattle.signatures.specs.Inductive.{inertb}
 use Rattle.signatures.specs.Strong.{pairAt}
 use Rattle.signatures.proofs.Pushing.{Pushing, push-start, push-more, push-pass, push-done}
-use Rattle.signatures.proofs.RowsOf.{RowsFrom, rows-from}
+use Rattle.table.proofs.RowsOf.{RowsFrom, rows-from}
 use Rattle.table.specs.Lts.{Lts, lts, Valid}
 use Rattle.table.proofs.Stretches.{rising}
 use Rattle.branching.specs.Branching.{outerb}

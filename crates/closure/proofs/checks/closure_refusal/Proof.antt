@@ -37,21 +37,21 @@ check-requires c κs = search needs
 
 returns : tie.Need-returns
 unfolding closureRefusal workb
-returns c = let a = c .before .before .before .before .before .before .before .before .before .before .before .before .before in both-out (L a) (P a) (workb (L a) (a .args .head) (a .args .link)) (unless (ltb (a .args .b) (a .args .count)) (refusal 8 (a .args .b)) none) _ (c .before .check .ensures) (c .if1 .taken)
+returns c = let a = c .before .before .before .before .before .before .before .before .before .before .before .before .before in both-out (L a) (P a) (workb (L a) (a .args .order) (a .args .spare)) (unless (ltb (a .args .b) (a .args .count)) (refusal 8 (a .args .b)) none) _ (c .before .check .ensures) (c .if1 .taken)
 
 refuse-requires : tie.Need-refuse-requires
 refuse-requires c κs = search needs
 
 returns-2 : tie.Need-returns-2
 unfolding closureRefusal workb
-returns-2 c = let a = c .before .before .before .before .before .before .before .before .before .before .before .before .before .before .before in c .refuse .ensures ∙ sym (both-on (L a) (P a) (workb (L a) (a .args .head) (a .args .link)) (unless (ltb (a .args .b) (a .args .count)) (refusal 8 (a .args .b)) none) _ (c .before .before .before .check .ensures) (c .before .before .if1 .left) ∙ simp (le-ltb _ _ (c .before .if2 .taken)))
+returns-2 c = let a = c .before .before .before .before .before .before .before .before .before .before .before .before .before .before .before in c .refuse .ensures ∙ sym (both-on (L a) (P a) (workb (L a) (a .args .order) (a .args .spare)) (unless (ltb (a .args .b) (a .args .count)) (refusal 8 (a .args .b)) none) _ (c .before .before .before .check .ensures) (c .before .before .if1 .left) ∙ simp (le-ltb _ _ (c .before .if2 .taken)))
 
 refuse-requires-2 : tie.Need-refuse-requires-2
 refuse-requires-2 c κs = search needs
 
 returns-3 : tie.Need-returns-3
 unfolding closureRefusal workb
-returns-3 c = let a = c .before .before .before .before .before .before .before .before .before .before .before .before .before .before .before in c .refuse2 .ensures ∙ sym (both-on (L a) (P a) (workb (L a) (a .args .head) (a .args .link)) (unless (ltb (a .args .b) (a .args .count)) (refusal 8 (a .args .b)) none) _ (c .before .before .before .check .ensures) (c .before .before .if1 .left) ∙ simp (lt-ltb _ _ (c .before .if2 .left)))
+returns-3 c = let a = c .before .before .before .before .before .before .before .before .before .before .before .before .before .before .before in c .refuse2 .ensures ∙ sym (both-on (L a) (P a) (workb (L a) (a .args .order) (a .args .spare)) (unless (ltb (a .args .b) (a .args .count)) (refusal 8 (a .args .b)) none) _ (c .before .before .before .check .ensures) (c .before .before .if1 .left) ∙ simp (lt-ltb _ _ (c .before .if2 .left)))
 
 pub closure-refusal-spec : {M : Type 1} → statement M
 closure-refusal-spec =

@@ -1,18 +1,65 @@
--- `core.mark_backward_closure` meets its contract.
+-- `core.mark_backward_closure` meets its contract. Where nothing is marked, or nothing is unmarked, the definition reads no position.
 use borrow.Author.Needs.{needs}
-use mathlib.Core.Path.{ap, _∙_}
+use Prim.Native.Nat.{ℕ}
+use native.Mathlib.Omega.{arith}
+use mathlib.Core.Bool.{false}
+use mathlib.Core.List.{List}
+use mathlib.Core.Path.{sym, ap, _∙_}
+use lib.Seq.{length-take-le}
 use Rattle.columns.specs.Columns.{zeros}
+use Rattle.columns.proofs.Lists.{front-zeros}
+use Rattle.partition.specs.Partition.{Partition, parts}
+use Rattle.table.specs.Lts.{Lts, lts}
+use Rattle.closure.proofs.Closing.{goes, closing-start, closing-end}
+use Rattle.closure.proofs.Standing.{stands}
 use Rattle.closure.proofs.core.mark_backward_closure.Statement.{statement}
 use Rattle.closure.proofs.core.mark_backward_closure.Tie as tie
 
-link-and-close-requires : tie.Need-link-and-close-requires
-link-and-close-requires c κs = search needs
+-- the table and the partition that are lent
+abbrev L : tie.Start → Lts
+L a = lts (a .args .table) (a .args .source .now) (a .args .label .now) (a .args .target .now)
+
+abbrev P : tie.Start → Partition
+P a =
+    parts (a .args .elements .now) (a .args .element-offset .now) (a .args .element-to-block .now) (a .args .begin .now)
+    (a .args .marked-split .now) (a .args .end .now) (a .args .table .n) (a .args .count)
+
+at-requires : tie.Need-at-requires
+at-requires c κs = search needs
+
+at-requires-2 : tie.Need-at-requires-2
+at-requires-2 c κs = search needs
+
+at-requires-3 : tie.Need-at-requires-3
+at-requires-3 c κs = search needs
+
+going-on-requires : tie.Need-going-on-requires
+going-on-requires c κs = search needs
+
+list-inner-requires : tie.Need-list-inner-requires
+list-inner-requires c κs =
+    let a = c .before .before .before .before .before .before .before .before .before .before .before .before .before .before .before .before .before .before .before .before in
+    let g = a .pre .1 .1 .0 in (
+      (
+        a .pre .0 .0,
+        g .long .element-to-block,
+        stands (P a) g (a .args .b) (a .pre .1 .1 .1) (c .before .before .before .before .before .before .before .before .at .result) (c .before .before .before .before .before .before .before .at2 .result) (c .before .before .before .before .before .before .before .before .at .ensures .0) (c .before .before .before .before .before .before .before .at2 .ensures .0),
+      ),
+      ((a .pre .0 .1, a .pre .0 .2), a .pre .1 .0),
+    )
+
+close-marks-requires : tie.Need-close-marks-requires
+close-marks-requires c κs = let a = c .before .before .before .before .before .before .before .before .before .before .before .before .before .before .before .before .before .before .before .before .before .before .before .before .before .before .before .before .before in ((a .pre .0 .0, c .before .before .before .before .before .before .before .before .list-inner .ensures .0 .0), a .pre .1 .1)
+
+slice-relend-prefix-clear : tie.Need-slice-relend-prefix-clear
+slice-relend-prefix-clear c = c .before .before .before .before .before .before .before .before .before .before .before .before .before .before .before .list-inner .ensures .0 .0 .room
+
+slice-aggregate-clear : tie.Need-slice-aggregate-clear
+slice-aggregate-clear c =
+    let q = c .before .before .before .before .before .before .before .before .before .before .before .before .before .before .before .before .list-inner in sym (length-take-le (q .result) (q .last .1 .1 .1 .1 .1 .1 .1 .1 .1 .0) (q .ensures .0 .0 .room))
 
 clear-requires : tie.Need-clear-requires
 clear-requires c κs = search needs
-
-clear-requires-2 : tie.Need-clear-requires-2
-clear-requires-2 c κs = search needs
 
 same-length : tie.Need-same-length
 same-length c = search needs
@@ -31,19 +78,46 @@ same-length-5 c = search needs
 
 returns : tie.Need-returns
 returns c =
-    let q = c .before .before .before .before .before .before .before .before .before .before .before .before .before .before .before .before .before .before .link-and-close in
-    (q .ensures, (c .before .before .before .before .before .before .clear .ensures ∙ ap zeros (q .kept .1 .1 .1 .1 .0), c .before .before .clear2 .ensures ∙ ap zeros (q .kept .1 .1 .1 .1 .1 .0)))
+    let q = c .before .before .before .before .before .before .before .before .before .before .before .before .before .before .before .before .before .before .before .list-inner in
+    let order : List ℕ = q .last .1 .1 .1 .1 .1 .1 .1 .1 .1 .0 in (
+      c .before .before .before .before .before .before .before .before .before .before .close-marks .ensures,
+      (
+        front-zeros (q .result) order (c .before .before .clear .last .0) (q .ensures .0 .0 .room) (c .before .before .clear .ensures) (q .ensures .0 .1)
+            ∙ ap zeros (q .kept .1 .1 .1 .1 .1 .1 .1 .1 .1 .0),
+        q .ensures .1,
+      ),
+    )
+
+same-length-6 : tie.Need-same-length-6
+same-length-6 c = search needs
+
+returns-2 : tie.Need-returns-2
+returns-2 c =
+    let a = c .before .before .before .before .before .before .before .before .before .before .before .before .before .before .before .before .before in
+    let g = a .pre .1 .1 .0 in (
+      closing-end (L a) (a .args .b) (P a) g (P a) _ (closing-start (L a) (a .args .b) (P a) g _ (c .before .before .before .before .at2 .ensures .0))
+          (goes _ _ _ _ _ (c .before .before .before .before .before .at .ensures .0) (c .before .before .at3 .ensures .0) false (sym (c .before .going-on .ensures) ∙ c .if1 .left)),
+      a .pre .1 .0,
+    )
 
 pub mark-backward-closure-spec : {M : Type 1} → statement M
 mark-backward-closure-spec =
     tie.close
     (tie.spec
-    link-and-close-requires
+    at-requires
+    at-requires-2
+    at-requires-3
+    going-on-requires
+    list-inner-requires
+    close-marks-requires
+    slice-relend-prefix-clear
+    slice-aggregate-clear
     clear-requires
-    clear-requires-2
     same-length
     same-length-2
     same-length-3
     same-length-4
     same-length-5
-    returns)
+    returns
+    same-length-6
+    returns-2)

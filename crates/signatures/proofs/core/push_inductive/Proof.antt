@@ -11,7 +11,7 @@ use Rattle.columns.proofs.TwoColumns.{pairs-none}
 use Rattle.signatures.specs.Inductive.{inertb, markedIn, keyedAt, inductivePushed}
 use Rattle.signatures.specs.Strong.{ownRows, pairAt}
 use Rattle.signatures.proofs.Pushing.{Pushing, push-start, push-more, push-done}
-use Rattle.signatures.proofs.RowsOf.{RowsFrom, rows-from}
+use Rattle.table.proofs.RowsOf.{RowsFrom, rows-from}
 use Rattle.signatures.proofs.Keys.{keyed-either}
 use Rattle.signatures.proofs.core.push_inductive.Statement.{statement}
 use Rattle.signatures.proofs.core.push_inductive.Tie as tie

@@ -9,7 +9,7 @@ use lib.ListN.{getD}
 use Rattle.columns.proofs.TwoColumns.{pairs-none}
 use Rattle.signatures.specs.Strong.{ownRows, pairAt, strongPushed}
 use Rattle.signatures.proofs.Pushing.{Pushing, push-start, push-more, push-done}
-use Rattle.signatures.proofs.RowsOf.{RowsFrom, rows-from}
+use Rattle.table.proofs.RowsOf.{RowsFrom, rows-from}
 use Rattle.signatures.proofs.core.push_strong.Statement.{statement}
 use Rattle.signatures.proofs.core.push_strong.Tie as tie
 use Rattle.table.specs.Lts.{Lts, lts}

@@ -9,7 +9,7 @@ use lib.ListN.{getD}
 use Rattle.columns.proofs.Bools.{and-both, and-no-left, and-no-right}
 use Rattle.columns.proofs.Counting.{many-le}
 use Rattle.signatures.specs.Inductive.{inertb}
-use Rattle.signatures.proofs.RowsOf.{RowsFrom, rows-from}
+use Rattle.table.proofs.RowsOf.{RowsFrom, rows-from}
 use Rattle.subset.specs.Lists.{startAt}
 use Rattle.table.specs.Lts.{Lts, lts, Valid}
 use Rattle.table.proofs.Stretches.{rising}

@@ -1,4 +1,4 @@
--- `core.is_silent` meets its contract.
+-- `inner.is_silent` meets its contract.
 use borrow.Author.Tests.{eq-eqb, ne-eqb, not-true, not-false}
 use mathlib.Core.Path.{sym, ap, _∙_}
 use Prim.Native.Nat.{ℕ}
@@ -8,8 +8,8 @@ use Rattle.columns.proofs.Bools.{and-both, and-no-left, and-no-right}
 use Rattle.table.specs.Reach.{takes}
 use Rattle.closure.specs.Closure.{silentb}
 use borrow.Author.Needs.{needs}
-use Rattle.closure.proofs.core.is_silent.Statement.{statement}
-use Rattle.closure.proofs.core.is_silent.Tie as tie
+use Rattle.closure.proofs.inner.is_silent.Statement.{statement}
+use Rattle.closure.proofs.inner.is_silent.Tie as tie
 
 taken-requires : tie.Need-taken-requires
 taken-requires c κs = search needs

@@ -1,0 +1,167 @@
+// The rows of a block that are hidden and stay in it, listed by target, and among equals as the rows come. No entry points: each says what
+// it requires.
+ghost use mathlib.Core.List.{_++_};
+ghost use mathlib.Core.Path.{_≡_};
+ghost use Prim.Native.Nat.{ℕ, _+_, _-_, _≤_, _<_};
+ghost use lib.ListN.{length, getD, take};
+ghost use Rattle.closure.specs.Closure.{silentb};
+ghost use Rattle.closure.specs.Inner.{innerb, innerRows, Stands, Inner};
+ghost use Rattle.columns.specs.Columns.{zeros, laid};
+ghost use Rattle.table.specs.Lts.{lts, Valid};
+use columns::cells::at;
+use columns::sorting::sort;
+use table::Table;
+use table::core::rows_of;
+use table::core::taken;
+
+// Whether row i is hidden and comes from a state of block b.
+fn is_silent(
+    table: Table,
+    source: &[u16],
+    label: &[u16],
+    target: &[u16],
+    element_to_block: &[u16],
+    b: usize,
+    i: usize,
+) -> bool
+    requires { ⌜ (i < length (now source)) × (i < length (now label)) × (getD (now source) i 0 < length (now «element_to_block»)) ⌝ }
+    ensures { λ r. ⌜ r ≡ silentb (lts table (now (source .entry)) (now (label .entry)) (now (target .entry))) (now («element_to_block» .entry)) b i ⌝ }
+{
+    if !taken(label, true, i) {
+        return false;
+    }
+    let s = at(source, i);
+    let home = at(element_to_block, s);
+    if home == b { true } else { false }
+}
+
+// Whether row i is hidden, comes from a state of block b and leads to one.
+fn is_inner(
+    table: Table,
+    source: &[u16],
+    label: &[u16],
+    target: &[u16],
+    element_to_block: &[u16],
+    b: usize,
+    i: usize,
+) -> bool
+    requires { ⌜ (i < length (now source)) × (i < length (now label)) × (i < length (now target)) ⌝ }
+    requires { ⌜ (getD (now source) i 0 < length (now «element_to_block»)) × (getD (now target) i 0 < length (now «element_to_block»)) ⌝ }
+    ensures { λ r. ⌜ r ≡ innerb (lts table (now (source .entry)) (now (label .entry)) (now (target .entry))) (now («element_to_block» .entry)) b i ⌝ }
+{
+    if !is_silent(table, source, label, target, element_to_block, b, i) {
+        return false;
+    }
+    let u = at(target, i);
+    let there = at(element_to_block, u);
+    if there == b { true } else { false }
+}
+
+// Puts the rows of state s that are hidden and stay in block b behind the first h rows. Returns how many rows there are then.
+fn list_state(
+    table: Table,
+    source: &[u16],
+    label: &[u16],
+    target: &[u16],
+    element_to_block: &[u16],
+    b: usize,
+    s: usize,
+    order: &mut [u16],
+    h: usize,
+) -> usize
+    requires { ⌜ Valid (lts table (now source) (now label) (now target)) × (s < table .n) × (table .n ≤ length (now «element_to_block»)) ⌝ }
+    requires { ⌜ (h + length (innerRows (lts table (now source) (now label) (now target)) (now «element_to_block») b s) ≤ length (now order)) × (h ≤ 65535) ⌝ }
+    ensures { λ r. ⌜ (take r (now (order .exit)) ≡ take h (now (order .entry)) ++ innerRows (lts table (now (source .entry)) (now (label .entry)) (now (target .entry))) (now («element_to_block» .entry)) b s) × (r ≡ h + length (innerRows (lts table (now (source .entry)) (now (label .entry)) (now (target .entry))) (now («element_to_block» .entry)) b s)) ⌝ }
+    ensures { λ r. ⌜ ((k : ℕ) → r ≤ k → getD (now (order .exit)) k 0 ≡ getD (now (order .entry)) k 0) ⌝ }
+{
+    let m = table.m as usize;
+    let rows = rows_of(source, m, s);
+    let mut i = rows.first;
+    let end = rows.end;
+    let mut k = h;
+    while i < end {
+        if is_inner(table, source, label, target, element_to_block, b, i) {
+            order[k] = i as u16;
+            k += 1;
+            i += 1;
+        } else {
+            i += 1;
+        }
+    }
+    k
+}
+
+// The same for the states at the positions from x to before z, one after the other, over the first cells. Returns how many rows.
+fn list_states(
+    table: Table,
+    source: &[u16],
+    label: &[u16],
+    target: &[u16],
+    elements: &[u16],
+    element_to_block: &[u16],
+    b: usize,
+    x: usize,
+    z: usize,
+    order: &mut [u16],
+) -> usize
+    requires { ⌜ Valid (lts table (now source) (now label) (now target)) × (table .n ≤ length (now «element_to_block»)) × Stands (table .n) (now elements) (now «element_to_block») b x z ⌝ }
+    requires { ⌜ table .m ≤ length (now order) ⌝ }
+    ensures { λ r. ⌜ (take r (now (order .exit)) ≡ laid (λ k. innerRows (lts table (now (source .entry)) (now (label .entry)) (now (target .entry))) (now («element_to_block» .entry)) b (getD (now (elements .entry)) (x + k) 0)) (z - x)) × (r ≤ table .m) ⌝ }
+    ensures { λ r. ⌜ ((k : ℕ) → r ≤ k → getD (now (order .exit)) k 0 ≡ getD (now (order .entry)) k 0) ⌝ }
+{
+    let mut h = 0;
+    let mut k = x;
+    while k < z {
+        let s = at(elements, k);
+        h = list_state(
+            table,
+            source,
+            label,
+            target,
+            element_to_block,
+            b,
+            s,
+            &mut *order,
+            h,
+        );
+        k += 1;
+    }
+    h
+}
+
+// Lists the hidden rows that stay in block b, whose states stand at the positions from x to before z. Returns how many. Every cell of
+// `order` and `spare` is zero before; behind the rows it is zero then, and all of `spare`.
+pub fn list_inner(
+    table: Table,
+    source: &[u16],
+    label: &[u16],
+    target: &[u16],
+    elements: &[u16],
+    element_to_block: &[u16],
+    b: usize,
+    x: usize,
+    z: usize,
+    order: &mut [u16],
+    spare: &mut [u16],
+) -> usize
+    requires { ⌜ Valid (lts table (now source) (now label) (now target)) × (table .n ≤ length (now «element_to_block»)) × Stands (table .n) (now elements) (now «element_to_block») b x z ⌝ }
+    requires { ⌜ (table .m ≤ length (now order)) × (table .m ≤ length (now spare)) ⌝ }
+    requires { ⌜ (now order ≡ zeros (length (now order))) × (now spare ≡ zeros (length (now spare))) ⌝ }
+    ensures { λ r. ⌜ Inner (lts table (now (source .entry)) (now (label .entry)) (now (target .entry))) (now («element_to_block» .entry)) b (now (order .exit)) r × ((k : ℕ) → r ≤ k → getD (now (order .exit)) k 0 ≡ 0) ⌝ }
+    ensures { λ _. ⌜ now (spare .exit) ≡ zeros (length (now (spare .entry))) ⌝ }
+{
+    let h = list_states(
+        table,
+        source,
+        label,
+        target,
+        elements,
+        element_to_block,
+        b,
+        x,
+        z,
+        &mut *order,
+    );
+    sort(&mut order[..h], &mut *spare, target, source, label);
+    h
+}
