@@ -1,23 +1,67 @@
 -- The inner rows of a block's states, listed state by state.
 use Prim.Native.Nat.{ℕ, _+_, _-_, _≤_, _<_}
 use native.Mathlib.Omega.{arith}
+use borrow.Author.Tests.{eqb-true, eqb-false, ne-eqb}
 use mathlib.Core.Path.{_≡_, refl, ap, sym, _∙_}
-use mathlib.Core.Bool.{_&&_}
+use mathlib.Core.Bool.{Bool, true, false, cond, _&&_}
 use mathlib.Core.List.{List, [], _++_}
 use lib.Dec.{eqb}
 use lib.ListN.{length, length-append, getD, take}
 use Rattle.columns.specs.Columns.{laid}
 use Rattle.columns.specs.Counting.{many}
+use Rattle.columns.proofs.Bools.{and-no-left, and-no-right}
 use Rattle.columns.proofs.Laid.{laid-none, laid-more, length-laid, laid-up}
 use Rattle.columns.proofs.Members.{length-members}
 use Rattle.columns.proofs.Owners.{owned-few}
 use Rattle.columns.proofs.Sums.{sum-cong}
-use Rattle.table.specs.Lts.{Lts}
+use Rattle.table.specs.Lts.{Lts, Valid}
+use Rattle.table.proofs.RowsOf.{RowsFrom}
+use Rattle.table.proofs.Stretches.{label-up}
+use Rattle.closure.specs.Closure.{silentb}
 use Rattle.closure.specs.Inner.{innerb, innerRows, Stands}
 
 pub length-inner : (t : Lts) (home : List ℕ) (b s : ℕ) → length (innerRows t home b s) ≡ many (t .m) (λ i. eqb (getD (t .source) i 0) s && innerb t home b i)
 unfolding innerRows
 length-inner t home b s = length-members (λ i. eqb (getD (t .source) i 0) s && innerb t home b i) (t .m)
+
+-- a row of state s that is not listed, and if it is visible all behind it
+pub row-skipped :
+    (t : Lts) → Valid t → (home : List ℕ) (b s first end : ℕ) → RowsFrom t s first end → (i r : ℕ) → first ≤ i → i < end
+    → innerb t home b i ≡ false → r ≡ cond (eqb (getD (t .label) i 0) 0) (i + 1) end
+    → (i < r) × (r ≤ end) × ((j : ℕ) → i ≤ j → j < r → (eqb (getD (t .source) j 0) s && innerb t home b j) ≡ false)
+unfolding innerb silentb
+row-skipped t v home b s first end f i r low w e q = go (eqb (getD (t .label) i 0) 0) refl
+  where
+    same : (j : ℕ) → i ≤ j → j < end → getD (t .source) i 0 ≡ getD (t .source) j 0
+    same j a c = eqb-true _ _ (f .own i low w) ∙ sym (eqb-true _ _ (f .own j (omega (arith, low, a)) c))
+
+    visible : {x y : ℕ} → x ≤ y → (x ≡ 0 → ⊥) → y ≡ 0 → ⊥
+    visible h n z = omega (arith, h, n, z)
+
+    one : {j : ℕ} → i ≤ j → j < i + 1 → j ≡ i
+    one a c = omega arith
+
+    go : (c : Bool) → eqb (getD (t .label) i 0) 0 ≡ c
+        → (i < r) × (r ≤ end) × ((j : ℕ) → i ≤ j → j < r → (eqb (getD (t .source) j 0) s && innerb t home b j) ≡ false)
+    go true h =
+        let n : r ≡ i + 1 = q ∙ ap (λ (c : Bool). cond c (i + 1) end) h in (
+          omega (arith, n),
+          omega (arith, n, w),
+          λ j a c.
+              ap (λ (k : ℕ). eqb (getD (t .source) k 0) s && innerb t home b k) (one a (omega (arith, n, c)))
+              ∙ and-no-right (eqb (getD (t .source) i 0) s) (innerb t home b i) e,
+        )
+    go false h =
+        let n : r ≡ end = q ∙ ap (λ (c : Bool). cond c (i + 1) end) h in (
+          omega (arith, n, w),
+          omega (arith, n),
+          λ j a c.
+              let up = label-up t v i j a (omega (arith, n, c, f .most)) (same j a (omega (arith, n, c))) in
+              and-no-right (eqb (getD (t .source) j 0) s) (innerb t home b j)
+              (and-no-left (silentb t home b j) (eqb (getD home (getD (t .target) j 0) 0) b)
+              (and-no-left (eqb (getD (t .label) j 0) 0) (eqb (getD home (getD (t .source) j 0) 0) b)
+              (ne-eqb (getD (t .label) j 0) 0 (visible up (eqb-false (getD (t .label) i 0) 0 h))))),
+        )
 
 -- the inner rows of the states at the first k positions from x on
 abbrev pub innerOf : Lts → List ℕ → ℕ → List ℕ → ℕ → ℕ → List ℕ

@@ -1,8 +1,10 @@
 // The rows of a block that are hidden and stay in it, listed by target, and among equals as the rows come. No entry points: each says what
 // it requires.
+ghost use mathlib.Core.Bool.{cond};
 ghost use mathlib.Core.List.{_++_};
 ghost use mathlib.Core.Path.{_≡_};
 ghost use Prim.Native.Nat.{ℕ, _+_, _-_, _≤_, _<_};
+ghost use lib.Dec.{eqb};
 ghost use lib.ListN.{length, getD, take};
 ghost use Rattle.closure.specs.Closure.{silentb};
 ghost use Rattle.closure.specs.Inner.{innerb, innerRows, Stands, Inner};
@@ -57,6 +59,14 @@ fn is_inner(
     if there == b { true } else { false }
 }
 
+// The row after row i; `end` where row i is visible, since the hidden rows of a state come first.
+fn row_after(label: &[u16], i: usize, end: usize) -> usize
+    requires { ⌜ (i < length (now label)) × (i < 65536) ⌝ }
+    ensures { λ r. ⌜ r ≡ cond (eqb (getD (now (label .entry)) i 0) 0) (i + 1) end ⌝ }
+{
+    if at(label, i) == 0 { i + 1 } else { end }
+}
+
 // Puts the rows of state s that are hidden and stay in block b behind the first h rows. Returns how many rows there are then.
 fn list_state(
     table: Table,
@@ -85,7 +95,7 @@ fn list_state(
             k += 1;
             i += 1;
         } else {
-            i += 1;
+            i = row_after(label, i, end);
         }
     }
     k

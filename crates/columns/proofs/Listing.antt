@@ -8,8 +8,8 @@ use mathlib.Core.List.{List, [], _∷_, _++_, append-nil, append-assoc}
 use lib.ListN.{length, length-set, getD, set, take}
 use lib.Seq.{take-suc-set, getD-set-other}
 use Rattle.columns.specs.Counting.{many, members}
-use Rattle.columns.proofs.Counting.{one-if-true, one-if-false, many-suc, many-nothing}
-use Rattle.columns.proofs.Members.{members-hit, members-miss, members-rest, members-none, length-members}
+use Rattle.columns.proofs.Counting.{one-if-true, many-suc, many-nothing}
+use Rattle.columns.proofs.Members.{members-hit, members-rest, members-none, length-members}
 
 -- of the numbers from `first` to before `end`, those below i are seen, and those that pass stand behind the first h cells: k cells in all
 pub record Listing (f : ℕ → Bool) (first end h : ℕ) (l₀ : List ℕ) (i k : ℕ) (l : List ℕ) : Type 0 where
@@ -46,15 +46,18 @@ module _ (f : ℕ → Bool) (first end h : ℕ) (l₀ : List ℕ) where
         rest = λ j g. getD-set-other l k j i 0 (λ e. omega (arith, g, e)) ∙ p .rest j (omega (arith, g));
       }
 
-      pub list-pass : f i ≡ false → Listing f first end h l₀ (i + 1) k l
-      list-pass t = record {
-        low = omega (arith, p .low);
-        high = omega arith;
-        exact = omega (arith, p .exact, many-suc i f, one-if-false (f i) t);
-        cells = p .cells ∙ ap (λ (a : List ℕ). take h l₀ ++ a) (sym (members-miss f i t));
-        size = p .size;
-        rest = p .rest;
-      }
+    -- several that do not pass
+    pub list-skip : (r : ℕ) → i ≤ r → r ≤ end → ((j : ℕ) → i ≤ j → j < r → f j ≡ false) → Listing f first end h l₀ r k l
+    list-skip r a w n =
+        let e : members r f ≡ members i f = members-rest f r i a n in
+        record {
+          low = omega (arith, p .low);
+          high = w;
+          exact = omega (arith, p .exact, ap length e, length-members f r, length-members f i);
+          cells = p .cells ∙ ap (λ (a : List ℕ). take h l₀ ++ a) (sym e);
+          size = p .size;
+          rest = p .rest;
+        }
 
     pub list-done :
         (m : ℕ) → end ≤ i → end ≤ m → ((j : ℕ) → end ≤ j → j < m → f j ≡ false)

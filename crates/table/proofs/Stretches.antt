@@ -115,3 +115,18 @@ incoming-up t v i j h l e =
     (λ k. absurd (contra (k .1) (ap (λ (z : ℕ). ltb z (getD (t .target) j 0)) e ∙ ltb-order .irrefl (getD (t .target) j 0))))
     (lex-split ltb ltb ltb-order ltb-order (rowAt t i .1) (rowAt t j .1) (q .1))))
     (lex-split ltb pairLt ltb-order pair-order (rowAt t i) (rowAt t j) (v .ascending i j h l))
+
+-- and the rows of a state by ascending label: the hidden ones come first
+pub label-up :
+    (t : Lts) → Valid t → (i j : ℕ) → i ≤ j → j < t .m → getD (t .source) i 0 ≡ getD (t .source) j 0 → getD (t .label) i 0 ≤ getD (t .label) j 0
+unfolding rowIn rowLt pairLt
+label-up t v i j h l e =
+    ⊎-elim (λ (q : i ≡ j). omega (arith, ap (λ (k : ℕ). getD (t .label) k 0) q))
+    (λ (w : i < j).
+    ⊎-elim (λ (q : ltb (getD (t .source) i 0) (getD (t .source) j 0) ≡ true). absurd (omega (arith, ltb-true (getD (t .source) i 0) (getD (t .source) j 0) q, e)))
+    (λ q.
+    ⊎-elim (λ (k : ltb (getD (t .label) i 0) (getD (t .label) j 0) ≡ true). omega (arith, ltb-true (getD (t .label) i 0) (getD (t .label) j 0) k))
+    (λ k. let z : getD (t .label) i 0 ≡ getD (t .label) j 0 = k .0 in omega (arith, z))
+    (lex-split ltb ltb ltb-order ltb-order (rowAt t i .1) (rowAt t j .1) (q .1)))
+    (lex-split ltb pairLt ltb-order pair-order (rowAt t i) (rowAt t j) (v .ascending i j w l)))
+    (eq-or-lt-of-le h)

@@ -1,20 +1,20 @@
 -- `inner.list_state` meets its contract. The loop's invariant: the rows seen that are hidden and stay in the block are listed.
 use borrow.Author.Needs.{needs}
 use native.Mathlib.Omega.{arith}
-use Prim.Native.Nat.{ℕ, _+_, _-_, _<_}
+use Prim.Native.Nat.{ℕ, _+_, _-_, _≤_, _<_}
 use mathlib.Core.Path.{_≡_, sym, _∙_}
-use mathlib.Core.Bool.{Bool, true, _&&_}
+use mathlib.Core.Bool.{Bool, true, false, _&&_}
 use lib.Dec.{eqb}
 use lib.ListN.{length, getD}
 use Rattle.columns.specs.Counting.{many}
-use Rattle.columns.proofs.Bools.{and-both, and-no-left, and-no-right}
+use Rattle.columns.proofs.Bools.{and-both, and-no-left}
 use Rattle.columns.proofs.Counting.{many-le, many-strict}
 use Rattle.table.specs.Lts.{Lts, lts, Valid}
 use Rattle.table.proofs.Stretches.{rising}
 use Rattle.closure.specs.Inner.{innerb, innerRows}
-use Rattle.columns.proofs.Listing.{Listing, list-start, list-more, list-pass, list-done}
+use Rattle.columns.proofs.Listing.{Listing, list-start, list-more, list-skip, list-done}
 use Rattle.table.proofs.RowsOf.{RowsFrom, rows-from}
-use Rattle.closure.proofs.Listing.{length-inner}
+use Rattle.closure.proofs.Listing.{length-inner, row-skipped}
 use Rattle.closure.proofs.inner.list_state.Statement.{statement}
 use Rattle.closure.proofs.inner.list_state.Tie as tie
 
@@ -101,17 +101,26 @@ loop-again c =
     list-more _ _ _ _ _ _ _ _ (c .before .before .before .loop .inv) (omega (arith, c .before .before .loop-test)) (passes c)
     (omega (arith, room c, c .before .before .before .loop .inv .size, c .before .before .before .before .before .before .before .before .before .before .before .pre .1 .0))
 
-add-i-2 : tie.Need-add-i-2 Inv-loop μ-loop
-add-i-2 c = omega (arith, below (c .before .before), valid (c .before .before .before .before .before .before .before .before .before .before .before) .few-rows)
+row-after-requires : tie.Need-row-after-requires Inv-loop μ-loop
+row-after-requires c κs =
+    let v = valid (c .before .before .before .before .before .before .before .before .before .before .before) in
+    (omega (arith, below (c .before .before), v .long .label), omega (arith, below (c .before .before), v .few-rows))
+
+-- the rows that are passed over
+skipped : (c : tie.After-row-after Inv-loop μ-loop)
+    → (c .before .before .before .before .loop .i < c .row-after .result) × (c .row-after .result ≤ c .before .before .before .before .before .rows-of .result .end)
+    × ((j : ℕ) → c .before .before .before .before .loop .i ≤ j → j < c .row-after .result → F (c .before .before .before .before .before .before .before .before .before .before .before .before) j ≡ false)
+skipped c =
+    let a = c .before .before .before .before .before .before .before .before .before .before .before .before in
+    row-skipped (L a) (valid a) (a .args .element-to-block .now) (a .args .b) (a .args .s) _ _ (from (c .before .before .before .before .before)) (c .before .before .before .before .loop .i) (c .row-after .result)
+    (c .before .before .before .before .loop .inv .low) (omega (arith, c .before .before .before .loop-test)) (sym (c .before .before .is-inner .ensures) ∙ c .before .if1 .left) (c .row-after .ensures)
 
 loop-less-2 : tie.Need-loop-less-2 Inv-loop μ-loop
-loop-less-2 c = omega (arith, c .before .before .loop-test)
+loop-less-2 c = omega (arith, c .before .before .before .loop-test, skipped c .0)
 
 loop-again-2 : tie.Need-loop-again-2 Inv-loop μ-loop
 loop-again-2 c =
-    let a = c .before .before .before .before .before .before .before .before .before .before .before .args in
-    list-pass _ _ _ _ _ _ _ _ (c .before .before .before .loop .inv) (omega (arith, c .before .before .loop-test))
-    (and-no-right (eqb (getD (a .source .now) (c .before .before .before .loop .i) 0) (a .s)) _ (sym (c .before .is-inner .ensures) ∙ c .if1 .left))
+    list-skip _ _ _ _ _ _ _ _ (c .before .before .before .before .loop .inv) (c .row-after .result) (omega (arith, skipped c .0)) (skipped c .1) (skipped c .2)
 
 same-length : tie.Need-same-length Inv-loop μ-loop
 same-length c = c .before .loop .inv .size
@@ -141,7 +150,7 @@ list-state-spec =
     add-i
     loop-less
     loop-again
-    add-i-2
+    row-after-requires
     loop-less-2
     loop-again-2
     same-length
