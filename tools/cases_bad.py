@@ -1,5 +1,5 @@
 """Lines that are no case."""
-from operations import BYTES, FLAGS, RECORDS, WIDE, Case, written
+from operations import BYTES, FLAGS, RECORDS, WIDE, Case, room, written
 
 WRONG_WORDS = ('65536', '131071', '4294967296', '18446744073709551616', 'x', '-1', '1x', '|')
 
@@ -31,7 +31,7 @@ def lines(operation, example):
             yield written(operation, {**example, name: 2})
         if isinstance(value, list):
             cell = (0, 0, 0) if name in RECORDS else 0
-            yield written(operation, {**example, name: [cell] * (operation.room(name) + 1)})
+            yield written(operation, {**example, name: [cell] * (room(name) + 1)})
             yield written(operation, {**example, name: [*value[:-1], too_large(name)]})
 
 

@@ -4,7 +4,7 @@ from itertools import product
 import partitions
 import splits
 from faults import damage, every_length, shorten
-from operations import BOUNDS, COLUMN_ROOM, TEXT_ROOM, Case
+from operations import BOUNDS, ROOM, Case
 from partitions import LARGEST, copied, laid_out, lengthen, random_partition
 from refusals import COLUMNS, MOST_STATES, shown
 
@@ -37,7 +37,7 @@ def good_arguments(rng, operation, v):
             chosen[name] = splits.good_argument(rng, {**v, **chosen}, name)
         elif name == 'text':
             room = len(shown(v)) + rng.choice((0, 0, 1, 5))
-            chosen[name] = list(rng.randbytes(min(room, TEXT_ROOM)))
+            chosen[name] = list(rng.randbytes(min(room, ROOM)))
         else:
             chosen[name] = rng.randrange(v[BOUNDS[name]])
     return chosen
@@ -93,14 +93,14 @@ def large(operation, rng):
         yield {**v, **good_arguments(rng, operation, v)}
     v = random_partition(rng, MOST_STATES, 7)
     for column in COLUMNS:
-        v[column] += [LARGEST] * (COLUMN_ROOM - MOST_STATES)
+        v[column] += [LARGEST] * (ROOM - MOST_STATES)
     yield {**v, **good_arguments(rng, operation, v)}
     for v in (partitions.wrapped_sum(257, 257), partitions.wrapped_sum(MOST_STATES, 17)):
         yield {**v, **good_arguments(rng, operation, v)}
     v = random_partition(rng, MOST_STATES + 1, 3)
     yield {**v, **good_arguments(rng, operation, v)}
     if 'text' in operation.parameters:
-        yield {**random_partition(rng, 5), 'text': [9] * TEXT_ROOM}
+        yield {**random_partition(rng, 5), 'text': [9] * ROOM}
 
 
 def sound(operation, rng, number):
@@ -147,7 +147,7 @@ def values_of_new(operation, rng, number):
     for n, lengths in product((0, 1, 2), product((0, 1, 2, 3), repeat=6)):
         yield {'n': n, **{column: [LARGEST] * length for column, length in zip(COLUMNS, lengths)}}
     for n in (0, MOST_STATES - 1, MOST_STATES, MOST_STATES + 1, LARGEST):
-        for length in (0, min(n, COLUMN_ROOM), COLUMN_ROOM):
+        for length in (0, min(n, ROOM), ROOM):
             yield {'n': n, **{column: [n] * length for column in COLUMNS}}
     for index in range(number + number // 2):
         n = small_size(rng)

@@ -2,7 +2,7 @@
 from itertools import chain, combinations, product
 
 from faults import several
-from operations import OTHER, ROWS_ROOM, SELF, Case
+from operations import OTHER, ROOM, SELF, Case
 from partitions import LARGEST
 from refusals import MOST_LABELS, MOST_ROWS
 
@@ -46,7 +46,7 @@ def long_list(size, step=1):
 
 def of_size():
     """Long lists, equal ones and ones that differ at the end, and numbers at their limits."""
-    for size in (300, MOST_ROWS, ROWS_ROOM):
+    for size in (300, MOST_ROWS, ROOM):
         pairs = long_list(size)
         yield from (given(pairs, other, pairs[-1]) for other in (pairs, pairs[::7], [], long_list(size // 2, 2)))
         yield from (given(pairs[:-1], pairs, excluded) for excluded in (pairs[-1], (0, LARGEST)))

@@ -5,7 +5,7 @@ import partitions
 import splits
 from cases_partition import every_changed_cell, every_short_column, good_arguments, large, small_size, sound
 from faults import damage, damaged, every_length, outside, several, shorten
-from operations import COLUMN_ROOM, Case
+from operations import ROOM, Case
 from partitions import LARGEST, laid_out, lengthen, random_partition, random_split
 from refusals import COLUMNS, MOST_STATES, WORK, marked
 from splits import junk_bytes, junk_cells, put
@@ -108,7 +108,7 @@ def at_room(operation, rng):
     v = random_partition(rng, MOST_STATES, 3)
     v |= good_arguments(rng, operation, v)
     names = [name for name in COLUMNS + splits.SLICES if name in v]
-    yield {**v, **{name: v[name] + [1] * (COLUMN_ROOM - len(v[name])) for name in names}}
+    yield {**v, **{name: v[name] + [1] * (ROOM - len(v[name])) for name in names}}
     yield {**v, names[-1]: v[names[-1]][:MOST_STATES if names[-1] in WORK else MOST_STATES - 1]}
 
 

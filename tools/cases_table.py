@@ -8,7 +8,7 @@ import splits
 import tables
 from cases_partition import small_size
 from faults import above, damage, damaged, every_length, outside, several, shorten
-from operations import FLAGS, Case
+from operations import FLAGS, Case, room
 from partitions import LARGEST, random_partition
 from refusals import COLUMNS, GIVEN, MOST_LABELS, MOST_ROWS, MOST_STATES, ROWS
 from splits import junk_cells, more
@@ -44,7 +44,7 @@ def slices_besides(operation):
 def lent(operation, rng, v):
     """Result and work slices for these values: mostly exact, with junk."""
     needed = {name: operation.lengths()[name](v) for name in slices_besides(operation) if name not in GIVEN}
-    return {name: junk_cells(rng, v['n'], min(cells + more(rng, 0), operation.room(name)))
+    return {name: junk_cells(rng, v['n'], min(cells + more(rng), room(name)))
             for name, cells in needed.items()}
 
 
@@ -165,7 +165,7 @@ def of_size(operation, rng):
 def at_room(operation, rng):
     """The largest table with every slice as long as `replay` takes it, and with each slice one short."""
     v = completed(operation, rng, tables.full(rng, MOST_STATES))
-    yield {**v, **{name: v[name] + [1] * (operation.room(name) - len(v[name])) for name in operation.lengths()}}
+    yield {**v, **{name: v[name] + [1] * (room(name) - len(v[name])) for name in operation.lengths()}}
     yield from ({**v, name: v[name][:needed(v) - 1]} for name, needed in operation.lengths().items())
 
 

@@ -4,7 +4,7 @@ from itertools import accumulate, chain, combinations, product
 import partitions
 import plain
 import tables
-from operations import LISTS_ROOM
+from operations import ROOM
 from partitions import LARGEST
 from refusals import GIVEN, MOST_ROWS, MOST_STATES
 
@@ -125,7 +125,7 @@ def large(rng):
     n = MOST_STATES
     for step, visible, each in product(('alike', 'rising', 'mixed'), (0, 1000, MOST_ROWS - n), (0, 1, 4)):
         yield {**fan(n, visible, rng.choice((0, 7, n - 1))), **laid_flat(spread(rng, n, each, step))}
-    for step, visible in product(('alike', 'rising', 'mixed'), (0, LISTS_ROOM - 17 * n)):
+    for step, visible in product(('alike', 'rising', 'mixed'), (0, ROOM - 17 * n)):
         yield {**fan(n, visible, 5), **laid_flat(spread(rng, n, 17, step))}
     for first in (65530, 65535, 65536):
         before = [(rng.randint(0, 3), rng.randint(0, 3)) for _ in range(first)]
@@ -133,8 +133,8 @@ def large(rng):
             yield {**v, **laid_flat(spread(rng, v['n'], 4, 'mixed'), before, [(0, 0)] * 5)}
             yield {**v, **laid_flat([[]] * v['n'], before)}
     longest = laid_flat(spread(rng, 3, 5, 'mixed'))
-    yield {**fan(3, 2, 1), **longest, **{name: longest[name] + [1] * (LISTS_ROOM - 15) for name in GIVEN[1:]}}
-    yield {**fan(3, 2, 1), **longest, 'given_labels': longest['given_labels'] + [9] * (LISTS_ROOM - 15)}
+    yield {**fan(3, 2, 1), **longest, **{name: longest[name] + [1] * (ROOM - 15) for name in GIVEN[1:]}}
+    yield {**fan(3, 2, 1), **longest, 'given_labels': longest['given_labels'] + [9] * (ROOM - 15)}
 
 
 def tried(rng):

@@ -33,26 +33,14 @@ class Operation(NamedTuple):
         """The work slices."""
         return [slice for slice, cells in self.needs.items() if cells is worked]
 
-    def room(self, slice):
-        """The longest slice that `replay` takes here."""
-        if slice == 'text':
-            return TEXT_ROOM
-        if slice in RECORDS:
-            return RECORDS_ROOM
-        if slice in GIVEN[1:] or slice in RESULT and 'starts' in self.parameters:
-            return LISTS_ROOM
-        if slice in COLUMNS or slice == 'starts' or slice not in PAIRS and 'm' not in self.parameters:
-            return COLUMN_ROOM
-        return WORK_ROOM if slice in self.work() else ROWS_ROOM
+    def is_slice(self, parameter):
+        """Whether the parameter is a slice, or else a number."""
+        return parameter in self.lengths() or parameter in ('text',) + GIVEN + PAIRS
 
 
-# The longest slices that `replay` takes.
-COLUMN_ROOM = 5000
+# The longest slice that `replay` takes, and the longest list of block records.
+ROOM = 70000
 RECORDS_ROOM = 4096
-ROWS_ROOM = 8400
-WORK_ROOM = 12600
-LISTS_ROOM = 70000
-TEXT_ROOM = 70000
 # The slices of bytes, and of u32; every other one is of u16.
 BYTES = ('text', 'choice')
 WIDE = ('starts',)
@@ -169,12 +157,54 @@ ALL = (
 BY_NAME = {operation.name: operation for operation in ALL}
 
 
+def room(slice):
+    """The longest slice of this name that `replay` takes."""
+    return RECORDS_ROOM if slice in RECORDS else ROOM
+
+
+def largest(parameter):
+    """The largest number that the parameter, or a cell of it, may be."""
+    if parameter in FLAGS:
+        return 1
+    if parameter in BYTES:
+        return 255
+    return 4294967295 if parameter in WIDE else 65535
+
+
+def is_number(words, place, most):
+    """Whether the word at the place is a number of at most this."""
+    if place >= len(words):
+        return False
+    word = words[place]
+    return word.isascii() and word.isdigit() and int(word) <= most
+
+
+def bad_place(line):
+    """The place of the first word of a line that is wrong, missing or too many, the name's being 0; None for a case."""
+    words = line.split(' ')
+    if words[0] not in BY_NAME:
+        return 0
+    operation, place = BY_NAME[words[0]], 1
+    for parameter in operation.parameters:
+        end = place + 1
+        if operation.is_slice(parameter):
+            if not is_number(words, place, room(parameter)):
+                return place
+            place, end = end, end + int(words[place]) * (3 if parameter in RECORDS else 1)
+        for place in range(place, end):
+            if not is_number(words, place, largest(parameter)):
+                return place
+        place = end
+    return None if place == len(words) else place
+
+
 class Case:
     """A line of input: an operation on values, or a line that is no case (`line` given, `values` None)."""
 
     def __init__(self, operation, values, line=None):
         self.operation, self.values = operation, values
         self.line = line if values is None else written(operation, values)
+        self.bad_line = f'bad {bad_place(line)}' if values is None else None
         self.refused = None if values is None else operation.refusal(values)
         self.refusal_line = refusal_line(operation, values, self.refused) if self.refused else None
 

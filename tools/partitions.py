@@ -1,7 +1,6 @@
 """Partitions as values of a case: n, count and the six columns; sound ones, longer ones and damaged ones."""
 from itertools import permutations, product
 
-from operations import COLUMN_ROOM
 from refusals import COLUMNS, MOST_STATES
 
 LARGEST = 65535
@@ -61,8 +60,7 @@ def lengthen(rng, v):
     """Some columns get cells beyond n, with junk in them."""
     for column in COLUMNS:
         if rng.random() < 0.5:
-            most = min(4, COLUMN_ROOM - len(v[column]))
-            v[column] += [junk(rng, v['n']) for _ in range(rng.randint(0, most))]
+            v[column] += [junk(rng, v['n']) for _ in range(rng.randint(0, 4))]
     return v
 
 

@@ -4,7 +4,9 @@ import subprocess
 import sys
 import tempfile
 
-ROOT = pathlib.Path(__file__).resolve().parent.parent
+import needs
+from needs import ROOT
+
 REPLAY = ROOT / 'target' / 'bin' / 'replay'
 ORACLE = ROOT / 'oracle' / 'target' / 'release' / 'oracle'
 
@@ -12,9 +14,14 @@ ORACLE = ROOT / 'oracle' / 'target' / 'release' / 'oracle'
 def build_oracle():
     """Builds the Rust; nothing is fetched."""
     manifest = ROOT / 'oracle' / 'Cargo.toml'
-    built = subprocess.run(['cargo', 'build', '--quiet', '--release', '--offline', '--manifest-path', str(manifest)])
+    built = subprocess.run([needs.cargo(), 'build', '--quiet', '--release', '--offline', '--manifest-path', manifest])
     if built.returncode != 0:
-        sys.exit('compare: the oracle could not be built')
+        needs.stop('the oracle could not be built')
+
+
+def command(program):
+    """How a program is run: the Rust as it is, one of the port by tools/run."""
+    return [program] if program == ORACLE else [ROOT / 'tools' / 'run', program]
 
 
 def answers(programs, lines):
@@ -32,4 +39,4 @@ def answers(programs, lines):
 
 def start(program, given, output):
     with open(given, 'rb') as lines, open(output, 'wb') as answered:
-        return subprocess.Popen([str(program)], stdin=lines, stdout=answered)
+        return subprocess.Popen(command(program), stdin=lines, stdout=answered)

@@ -13,7 +13,8 @@ import sample_signature
 import sample_split
 import sample_table
 import signatures
-from operations import ALL, BOUNDS, BY_NAME, Case
+import tables
+from operations import ALL, BOUNDS, BY_NAME, ROOM, Case
 from partitions import LARGEST, copied, laid_out, wrapped_sum
 from refusals import COLUMNS, MOST_STATES, shown
 
@@ -160,13 +161,29 @@ def of_limits():
     yield Case(operation, {**wrapped_sum(257, 257), 'element': 0})
 
 
+def of_room():
+    """A slice that is read and one that is changed, each as long as `replay` takes it."""
+    v = SOUND[5][1]
+    yield '# the longest slices'
+    yield Case(BY_NAME['len'], {**v, 'element_offset': v['element_offset'] + [7] * (ROOM - v['n'])})
+    table = tables.given(2, 1, [(0, 0, 1), (1, 0, 1)])
+    yield Case(BY_NAME['incoming'], {**table, 'incoming': [8] * ROOM, 'spare': [7] * 5})
+
+
+def of_line_ends():
+    """Lines that end in a carriage return too: it is a byte of the last word. A comment has no answer."""
+    yield '# lines that end in a carriage return\r'
+    for line in ('Block::len 1 2 4\r', 'tau_hat 3\r', 'tau_hat 3 \r', 'tau_hat\r', '\r'):
+        yield Case(BY_NAME['tau_hat'], None, line)
+
+
 def of_no_case():
     """Lines that are no case, the short ones, and one slice that is too long."""
     yield '# no case'
     for operation, maker in ((BY_NAME['Block::len'], cases_block), (BY_NAME['display'], cases_partition)):
         cases = list(cases_bad.cases(operation, maker.example(operation)))
         yield from (case for case in cases if len(case.line) < 300)
-    yield next(case for case in cases if len(case.line) > 5000)
+    yield next(case for case in cases if len(case.line) > ROOM)
     yield Case(operation, None, 'no_such_operation 1')
     yield from sample_host.of_no_case()
     yield from sample_split.of_no_case()
@@ -200,4 +217,6 @@ def entries():
     yield from of_limits()
     yield from sample_split.of_size()
     yield from sample_table.of_size()
+    yield from of_room()
     yield from of_no_case()
+    yield from of_line_ends()

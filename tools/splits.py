@@ -2,7 +2,6 @@
 from functools import cache
 from itertools import product
 
-from operations import COLUMN_ROOM
 from partitions import LARGEST
 from refusals import WORK, marked
 
@@ -19,9 +18,9 @@ def junk_bytes(rng, length):
     return rng.choices((0, 1, 255, rng.randint(0, 255)), k=length)
 
 
-def more(rng, n):
+def more(rng):
     """A number of cells beyond those that are needed: mostly none."""
-    return min(rng.choice((0, 0, 1, 4)), COLUMN_ROOM - n - 1)
+    return rng.choice((0, 0, 1, 4))
 
 
 def put(cells, states, values):
@@ -60,7 +59,7 @@ def random_dense(rng, size):
 
 def random_numbers(rng, v):
     """Dense numbers for the block's marked states, and junk for all others; for one state junk too."""
-    cells, states = junk_cells(rng, v['n'], v['n'] + more(rng, v['n'])), sorted(marked(v))
+    cells, states = junk_cells(rng, v['n'], v['n'] + more(rng)), sorted(marked(v))
     if not states or v['end'][v['block']] - v['begin'][v['block']] == 1:
         return cells
     return put(cells, states, random_dense(rng, len(states)))
@@ -68,13 +67,13 @@ def random_numbers(rng, v):
 
 def random_choice(rng, v):
     """Nothing, everything, or some of the block's marked states chosen; junk for all others."""
-    cells, states = junk_bytes(rng, v['n'] + more(rng, v['n'])), marked(v)
+    cells, states = junk_bytes(rng, v['n'] + more(rng)), marked(v)
     drawn = rng.choice(((0,), (1, 255), (0, 1), (0, 1, 255), (0, 0, 0, 128)))
     return put(cells, states, rng.choices(drawn, k=len(states)))
 
 
 def random_work(rng, v):
-    return junk_cells(rng, v['n'], v['n'] + 1 + more(rng, v['n']))
+    return junk_cells(rng, v['n'], v['n'] + 1 + more(rng))
 
 
 def good_argument(rng, v, name):

@@ -4,7 +4,17 @@ use native.Mathlib.Omega.{arith}
 use mathlib.Core.Path.{_≡_, ap, _∙_}
 use mathlib.Core.Logic.{⊎-elim}
 use mathlib.Core.Bool.{Bool, true, false, cond}
-use mathlib.Core.List.{List, [], _∷_, _++_, append-nil, List·Memᴰ·not-nil, List·Memᴰ·tail, List·Memᴰ·append-cases, List·Memᴰ·eq-of-singleton}
+use mathlib.Core.List.{
+  List,
+  [],
+  _∷_,
+  _++_,
+  append-nil,
+  List·Memᴰ·not-nil,
+  List·Memᴰ·tail,
+  List·Memᴰ·append-cases,
+  List·Memᴰ·eq-of-singleton,
+}
 use Rattle.columns.specs.Columns.{laid}
 use Rattle.columns.specs.Counting.{members}
 use Rattle.columns.specs.Sets.{Mem}
@@ -23,12 +33,14 @@ module _ {A T : Type 0} (tag : A → T) where
   )
 
   pub apart-laid :
-      (h : ℕ → List A) (k : ℕ) → ((j : ℕ) → j < k → Apart tag (h j)) → ((i j : ℕ) → i < j → j < k → (x y : A) → Mem x (h i) → Mem y (h j) → tag x ≡ tag y → ⊥)
+      (h : ℕ → List A) (k : ℕ) → ((j : ℕ) → j < k → Apart tag (h j)) →
+      ((i j : ℕ) → i < j → j < k → (x y : A) → Mem x (h i) → Mem y (h j) → tag x ≡ tag y → ⊥)
       → Apart tag (laid h k)
   unfolding laid Apart
   apart-laid h zero a d = tt
   apart-laid h (suc k) a d =
-      apart-append (laid h k) (h k) (apart-laid h k (λ j w. a j (omega (arith, w))) (λ i j v w. d i j v (omega (arith, w)))) (a k (omega arith))
+      apart-append (laid h k) (h k) (apart-laid h k (λ j w. a j (omega (arith, w))) (λ i j v w. d i j v (omega (arith, w))))
+      (a k (omega arith))
       (λ x y p q. let r = laid-out h x k p in d (r .0) k (r .1) (omega arith) x y (r .2) q)
 
 pub apart-members :

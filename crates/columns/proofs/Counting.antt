@@ -64,7 +64,8 @@ many-full n f g h m k w e =
     (cases (f k))
 
 -- one that passes only the second test makes the second count larger
-pub many-less : (n s : ℕ) (f g : ℕ → Bool) → ((k : ℕ) → k < n → f k ≡ true → g k ≡ true) → s < n → f s ≡ false → g s ≡ true → many n f < many n g
+pub many-less : (n s : ℕ) (f g : ℕ → Bool) → ((k : ℕ) → k < n → f k ≡ true → g k ≡ true) → s < n → f s ≡ false → g s ≡ true →
+    many n f < many n g
 many-less n s f g h w nf yg =
     ⊎-elim (λ (l : many n f < many n g). l) (λ (m : many n g ≤ many n f). absurd (contra (many-full n f g h m s w yg) nf))
     (lt-or-le (many n f) (many n g))
@@ -227,4 +228,5 @@ sum-pick a (suc n) f h =
 
 pub eqb-same : (a b c d : ℕ) → (a ≡ b → c ≡ d) → (c ≡ d → a ≡ b) → eqb a b ≡ eqb c d
 eqb-same a b c d h g =
-    ⊎-elim (λ (e : a ≡ b). eq-eqb a b e ∙ sym (eq-eqb c d (h e))) (λ (m : a ≡ b → ⊥). ne-eqb a b m ∙ sym (ne-eqb c d (λ e. m (g e)))) (same-or-not a b)
+    ⊎-elim (λ (e : a ≡ b). eq-eqb a b e ∙ sym (eq-eqb c d (h e))) (λ (m : a ≡ b → ⊥). ne-eqb a b m ∙ sym (ne-eqb c d (λ e. m (g e))))
+    (same-or-not a b)

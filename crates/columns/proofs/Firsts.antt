@@ -23,7 +23,8 @@ module _ (n : ℕ) (f : ℕ → Bool) where
   pub first-is : (k : ℕ) → k ≤ n → NoneBelow f k → (k < n → f k ≡ true) → k ≡ first n f
   first-is k h r e =
       let l : First n f (first n f) = first-law n f in
-      le-antisymm (not-below (λ w. contra (l .hit (omega arith)) (r (first n f) w))) (not-below (λ w. contra (e (omega (arith, w, l .bound))) (l .before k w)))
+      le-antisymm (not-below (λ w. contra (l .hit (omega arith)) (r (first n f) w)))
+      (not-below (λ w. contra (e (omega (arith, w, l .bound))) (l .before k w)))
 
   pub first-hit : (k : ℕ) → k < n → NoneBelow f k → f k ≡ true → k ≡ first n f
   first-hit k h r e = first-is k (omega arith) r (λ _. e)

@@ -4,7 +4,22 @@ use native.Mathlib.Omega.{arith}
 use mathlib.Core.Path.{_≡_, refl, ap, sym, _∙_}
 use mathlib.Core.Logic.{⊎-elim}
 use mathlib.Core.Bool.{Bool, true, false, cond}
-use mathlib.Core.List.{List, [], _∷_, _++_, map, flatMap, append-nil, append-assoc, List·Memᴰ·tail, List·Memᴰ·cases-cons, List·Memᴰ·not-nil, List·Memᴰ·append-cases, Memᴰ·append-left, Memᴰ·append-right}
+use mathlib.Core.List.{
+  List,
+  [],
+  _∷_,
+  _++_,
+  map,
+  flatMap,
+  append-nil,
+  append-assoc,
+  List·Memᴰ·tail,
+  List·Memᴰ·cases-cons,
+  List·Memᴰ·not-nil,
+  List·Memᴰ·append-cases,
+  Memᴰ·append-left,
+  Memᴰ·append-right,
+}
 use lib.ListN.{length, getD, length-append}
 use Rattle.columns.specs.Counting.{sum, members}
 use Rattle.columns.specs.Sets.{Mem}
@@ -23,7 +38,8 @@ module _ {A B : Type 0} (f : A → List B) where
   unfolding flatMap
   flat-out [] z m = absurd (List·Memᴰ·not-nil m)
   flat-out (y ∷ l) z m =
-      ⊎-elim (λ (k : Mem z (f y)). (y, here, k)) (λ (k : Mem z (flatMap f l)). let r = flat-out l z k in (r .0, List·Memᴰ·tail (r .1), r .2))
+      ⊎-elim (λ (k : Mem z (f y)). (y, here, k)) (λ (k : Mem z (flatMap f l)). let r =
+      flat-out l z k in (r .0, List·Memᴰ·tail (r .1), r .2))
       (List·Memᴰ·append-cases (f y) m)
 
   pub flat-append : (l m : List A) → flatMap f (l ++ m) ≡ flatMap f l ++ flatMap f m

@@ -39,14 +39,16 @@ only-once a b n h k l wk wl q = sym (h .back k wk) ∙ ap (λ (x : ℕ). getD b 
 module _ (o e : List ℕ) (n : ℕ) (io : Inverse o e n) (ie : Inverse e o n) where
   pub sum-perm : (f : ℕ → ℕ) → sum (λ s. f (getD o s 0)) n ≡ sum f n
   sum-perm f =
-      sum-cong (λ s. f (getD o s 0)) (λ s. sum (λ k. cond (eqb (getD o s 0) k) (f k) 0) n) n (λ s w. sym (sum-pick (getD o s 0) n f (io .below s w)))
+      sum-cong (λ s. f (getD o s 0)) (λ s. sum (λ k. cond (eqb (getD o s 0) k) (f k) 0) n) n
+      (λ s w. sym (sum-pick (getD o s 0) n f (io .below s w)))
       ∙ sum-swap (λ s k. cond (eqb (getD o s 0) k) (f k) 0) n n
       ∙ sum-cong (λ k. sum (λ s. cond (eqb (getD o s 0) k) (f k) 0) n) f n
       (λ k w.
       sum-cong (λ s. cond (eqb (getD o s 0) k) (f k) 0) (λ s. cond (eqb (getD e k 0) s) (f k) 0) n
       (λ s ws.
       ap (λ (t : Bool). cond t (f k) 0)
-      (eqb-same (getD o s 0) k (getD e k 0) s (λ q. ap (λ (x : ℕ). getD e x 0) (sym q) ∙ io .back s ws) (λ q. ap (λ (x : ℕ). getD o x 0) (sym q) ∙ ie .back k w)))
+      (eqb-same (getD o s 0) k (getD e k 0) s (λ q. ap (λ (x : ℕ). getD e x 0) (sym q) ∙ io .back s ws)
+      (λ q. ap (λ (x : ℕ). getD o x 0) (sym q) ∙ ie .back k w)))
       ∙ sum-pick (getD e k 0) n (λ _. f k) (ie .below k w))
 
 each : (a n : ℕ) → a < n → sum (λ k. one-if (eqb a k)) n ≡ 1
@@ -67,7 +69,8 @@ module _ (o e : List ℕ) (n : ℕ) (io : Inverse o e n) where
   all-hits : sum hits n ≡ n
   unfolding hits
   all-hits =
-      sum-cong (λ k. many n (λ s. eqb (getD o s 0) k)) (λ k. sum (λ s. one-if (eqb (getD o s 0) k)) n) n (λ k w. many-sum n (λ s. eqb (getD o s 0) k))
+      sum-cong (λ k. many n (λ s. eqb (getD o s 0) k)) (λ k. sum (λ s. one-if (eqb (getD o s 0) k)) n) n
+      (λ k w. many-sum n (λ s. eqb (getD o s 0) k))
       ∙ sum-swap (λ k s. one-if (eqb (getD o s 0) k)) n n
       ∙ sum-cong (λ s. sum (λ k. one-if (eqb (getD o s 0) k)) n) (λ _. 1) n (λ s w. each (getD o s 0) n (io .below s w))
       ∙ sum-one n

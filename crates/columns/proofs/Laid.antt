@@ -48,5 +48,6 @@ module _ {A : Type 0} (h : ℕ → List A) where
   unfolding laid
   laid-out p zero m = absurd (List·Memᴰ·not-nil m)
   laid-out p (suc k) m =
-      ⊎-elim (λ (w : Mem p (laid h k)). let r = laid-out p k w in (r .0, omega (arith, r .1), r .2)) (λ (w : Mem p (h k)). (k, omega arith, w))
+      ⊎-elim (λ (w : Mem p (laid h k)). let r = laid-out p k w in (r .0, omega (arith, r .1), r .2))
+      (λ (w : Mem p (h k)). (k, omega arith, w))
       (List·Memᴰ·append-cases (laid h k) m)

@@ -6,8 +6,39 @@ use Prim.Native.Nat.{ℕ, zero, suc, _+_, _-_, _≤_, _<_}
 use native.Mathlib.Nat.{not-suc-le-zero, le-of-suc-le-suc}
 use native.Mathlib.Numerals.{add-one}
 use native.Mathlib.Omega.{arith}
-use lib.ListN.{length, length-set, getD, set, take, drop, replicate, length-replicate, length-append, length-drop, drop-of-length-le, replicate-append-replicate, List·getD-append, getD-replicate, List·getD-eq-default}
-use lib.Seq.{drop-cons, take-suc, set-at, append-snoc, take-length, take-at, drop-at, drop-drop, drop-append-add, length-take-le, getD-at, getD-append-add, getD-drop, ext-getD}
+use lib.ListN.{
+  length,
+  length-set,
+  getD,
+  set,
+  take,
+  drop,
+  replicate,
+  length-replicate,
+  length-append,
+  length-drop,
+  drop-of-length-le,
+  replicate-append-replicate,
+  List·getD-append,
+  getD-replicate,
+  List·getD-eq-default,
+}
+use lib.Seq.{
+  drop-cons,
+  take-suc,
+  set-at,
+  append-snoc,
+  take-length,
+  take-at,
+  drop-at,
+  drop-drop,
+  drop-append-add,
+  length-take-le,
+  getD-at,
+  getD-append-add,
+  getD-drop,
+  ext-getD,
+}
 use Rattle.columns.specs.Columns.{listed, over, written, zeros, wiped}
 use Rattle.columns.proofs.All.{top-or-below, lt-or-le}
 
@@ -21,10 +52,12 @@ pub paint-none : (f : ℕ → ℕ) (l : List ℕ) → l ≡ listed 0 f ++ drop 0
 unfolding listed
 paint-none f l = refl
 
-pub paint-more : (f : ℕ → ℕ) (n : ℕ) (l x : List ℕ) → n < length l → x ≡ listed n f ++ drop n l → set x n (f n) ≡ listed (n + 1) f ++ drop (n + 1) l
+pub paint-more : (f : ℕ → ℕ) (n : ℕ) (l x : List ℕ) → n < length l → x ≡ listed n f ++ drop n l → set x n (f n) ≡ listed (n + 1) f ++
+    drop (n + 1) l
 unfolding listed
 paint-more f n l x h e =
-    rw (add-one, e, drop-cons l n 0 h, set-at (listed n f) (getD l n 0) (drop (suc n) l) (f n) n (length-listed n f)) (sym (append-snoc (listed n f) (f n) (drop (suc n) l)))
+    rw (add-one, e, drop-cons l n 0 h, set-at (listed n f) (getD l n 0) (drop (suc n) l) (f n) n (length-listed n f))
+    (sym (append-snoc (listed n f) (f n) (drop (suc n) l)))
 
 -- the loop's invariant: i of n cells are written
 abbrev pub Painted : (ℕ → ℕ) → ℕ → List ℕ → ℕ → List ℕ → Type 0
@@ -33,7 +66,8 @@ Painted f n l i x = (i ≤ n) × ((x ≡ listed i f ++ drop i l) × (length x �
 pub painted-none : (f : ℕ → ℕ) (n : ℕ) (l : List ℕ) → Painted f n l 0 l
 painted-none f n l = (omega arith, (paint-none f l, refl))
 
-pub painted-more : (f : ℕ → ℕ) (n : ℕ) (l : List ℕ) (i : ℕ) (x : List ℕ) (v : ℕ) → n ≤ length l → i < n → v ≡ f i → Painted f n l i x → Painted f n l (i + 1) (set x i v)
+pub painted-more : (f : ℕ → ℕ) (n : ℕ) (l : List ℕ) (i : ℕ) (x : List ℕ) (v : ℕ) → n ≤ length l → i < n → v ≡ f i → Painted f n l i x →
+    Painted f n l (i + 1) (set x i v)
 painted-more f n l i x v h w e p =
     (omega arith, (ap (set x i) e ∙ paint-more f i l x (omega arith) (p .1 .0), length-set x i v ∙ p .1 .1))
 
@@ -41,7 +75,8 @@ pub painted-done : (f : ℕ → ℕ) (n : ℕ) (l : List ℕ) (i : ℕ) (x m : L
 unfolding over
 painted-done f n l i x m p q h =
     let e : i ≡ n = omega arith in
-    p .1 .0 ∙ ap (λ (k : ℕ). listed k f ++ drop k l) e ∙ ap (λ (k : ℕ). listed n f ++ drop k l) (sym (length-listed n f)) ∙ ap (λ (t : List ℕ). t ++ drop (length t) l) h
+    p .1 .0 ∙ ap (λ (k : ℕ). listed k f ++ drop k l) e ∙ ap (λ (k : ℕ). listed n f ++ drop k l) (sym (length-listed n f)) ∙
+    ap (λ (t : List ℕ). t ++ drop (length t) l) h
 
 pub over-all : (m l : List ℕ) → length m ≡ length l → over m l ≡ m
 unfolding over
@@ -78,7 +113,8 @@ module _ (h : ℕ) (m l x : List ℕ) (fits : h ≤ length m) (e : x ≡ over (t
 
   pub back-kept : drop h x ≡ drop h l
   unfolding over
-  back-kept = ap (drop h) e ∙ drop-at (take h m) (drop (length (take h m)) l) h (length-take-le h m fits) ∙ ap (λ (n : ℕ). drop n l) (length-take-le h m fits)
+  back-kept = ap (drop h) e ∙ drop-at (take h m) (drop (length (take h m)) l) h (length-take-le h m fits) ∙
+      ap (λ (n : ℕ). drop n l) (length-take-le h m fits)
 
 -- the first h cells of x cleared, where the others are those of l
 pub wiped-front : (h : ℕ) (l x z : List ℕ) → h ≤ length x → z ≡ zeros (length (take h x)) → drop h x ≡ drop h l → z ++ drop h x ≡ wiped h l
@@ -89,7 +125,8 @@ wiped-front h l x z w e k = rw (e, k, length-take-le h x w, length-replicate {A 
 pub take-zeros : (h n : ℕ) → h ≤ n → take h (zeros n) ≡ zeros h
 take-zeros h n w =
     let q : n ≡ h + (n - h) = omega arith in
-    ap (take h) (ap zeros q ∙ sym (replicate-append-replicate h (n - h) 0)) ∙ take-at (zeros h) (zeros (n - h)) h (length-replicate {A = ℕ} h 0)
+    ap (take h) (ap zeros q ∙ sym (replicate-append-replicate h (n - h) 0)) ∙
+    take-at (zeros h) (zeros (n - h)) h (length-replicate {A = ℕ} h 0)
 
 -- zeros stay zeros
 pub wiped-zeros : (h n : ℕ) → h ≤ n → wiped h (zeros n) ≡ zeros n
@@ -104,7 +141,8 @@ wiped-zeros h n w =
 pub listed-const : (n v : ℕ) → listed n (λ _. v) ≡ replicate n v
 unfolding listed
 listed-const zero v = refl
-listed-const (suc n) v = ap (λ (t : List ℕ). t ++ (v ∷ [])) (listed-const n v) ∙ replicate-append-replicate n 1 v ∙ ap (λ (k : ℕ). replicate k v) (add-one n)
+listed-const (suc n) v = ap (λ (t : List ℕ). t ++ (v ∷ [])) (listed-const n v) ∙ replicate-append-replicate n 1 v ∙
+    ap (λ (k : ℕ). replicate k v) (add-one n)
 
 pub listed-cong : {A : Type 0} (n : ℕ) (f g : ℕ → A) → ((i : ℕ) → i < n → f i ≡ g i) → listed n f ≡ listed n g
 unfolding listed
@@ -186,11 +224,13 @@ zeros-of l h =
 
 pub zeros-at : (n k : ℕ) → getD (zeros n) k 0 ≡ 0
 zeros-at n k =
-    ⊎-elim (λ (w : k < n). getD-replicate n k 0 0 w) (λ (w : n ≤ k). List·getD-eq-default (zeros n) 0 (omega (arith, length-replicate {A = ℕ} n 0)))
+    ⊎-elim (λ (w : k < n). getD-replicate n k 0 0 w)
+    (λ (w : n ≤ k). List·getD-eq-default (zeros n) 0 (omega (arith, length-replicate {A = ℕ} n 0)))
     (lt-or-le k n)
 
 -- the first h cells cleared, where the others are zero already
-pub front-zeros : (h : ℕ) (x z : List ℕ) → h ≤ length x → z ≡ zeros (length (take h x)) → ((k : ℕ) → h ≤ k → getD x k 0 ≡ 0) → z ++ drop h x ≡ zeros (length x)
+pub front-zeros : (h : ℕ) (x z : List ℕ) → h ≤ length x → z ≡ zeros (length (take h x)) → ((k : ℕ) → h ≤ k → getD x k 0 ≡ 0) → z ++
+    drop h x ≡ zeros (length x)
 front-zeros h x z w e r =
     let d : drop h x ≡ zeros (length x - h)
     = zeros-of (drop h x) (λ k. getD-drop h x k 0 ∙ r (h + k) (omega arith)) ∙ ap zeros (length-drop h x) in
@@ -203,4 +243,5 @@ front-zeros h x z w e r =
 pub tail-zero : (h : ℕ) (l m : List ℕ) → drop h l ≡ drop h m → ((k : ℕ) → getD m k 0 ≡ 0) → (k : ℕ) → h ≤ k → getD l k 0 ≡ 0
 tail-zero h l m e z k w =
     let q : k ≡ h + (k - h) = omega arith in
-    ap (λ (y : ℕ). getD l y 0) q ∙ sym (getD-drop h l (k - h) 0) ∙ ap (λ (x : List ℕ). getD x (k - h) 0) e ∙ getD-drop h m (k - h) 0 ∙ z (h + (k - h))
+    ap (λ (y : ℕ). getD l y 0) q ∙ sym (getD-drop h l (k - h) 0) ∙ ap (λ (x : List ℕ). getD x (k - h) 0) e ∙ getD-drop h m (k - h) 0 ∙
+    z (h + (k - h))

@@ -8,7 +8,18 @@ use borrow.Author.Tests.{lt-ltb}
 use mathlib.Core.Bool.{Bool, true, false, cond, _&&_}
 use mathlib.Core.Path.{_≡_, refl, ap, sym, _∙_}
 use mathlib.Core.Logic.{⊎-elim}
-use mathlib.Core.List.{List, [], _∷_, _++_, append-nil, List·Memᴰ·not-nil, List·Memᴰ·append-cases, List·Memᴰ·eq-of-singleton, Memᴰ·append-left, Memᴰ·append-right}
+use mathlib.Core.List.{
+  List,
+  [],
+  _∷_,
+  _++_,
+  append-nil,
+  List·Memᴰ·not-nil,
+  List·Memᴰ·append-cases,
+  List·Memᴰ·eq-of-singleton,
+  Memᴰ·append-left,
+  Memᴰ·append-right,
+}
 use lib.Dec.{ltb}
 use lib.ListN.{length, getD, set, length-append, List·getD-append}
 use lib.Seq.{getD-at}
@@ -89,7 +100,8 @@ module _ (f : ℕ → Bool) where
     where
       go : (s < n → f s ≡ true → Mem s (members n f)) → (t : Bool) → f n ≡ t → Mem s (members n f ++ cond t (n ∷ []) [])
       go ih true q =
-          ⊎-elim (λ (w : s ≡ n). rw w (Memᴰ·append-right (members n f) here)) (λ (w : s < n). Memᴰ·append-left (n ∷ []) (ih w e)) (top-or-below h)
+          ⊎-elim (λ (w : s ≡ n). rw w (Memᴰ·append-right (members n f) here)) (λ (w : s < n). Memᴰ·append-left (n ∷ []) (ih w e))
+          (top-or-below h)
       go ih false q =
           rw (append-nil (members n f)) (⊎-elim (λ (w : s ≡ n). absurd (contra e (ap f w ∙ q))) (λ (w : s < n). ih w e) (top-or-below h))
 
@@ -102,7 +114,8 @@ module _ (f : ℕ → Bool) where
           → (s < suc n) × (f s ≡ true)
       go ih true q m =
           ⊎-elim (λ (k : Mem s (members n f)). let r = ih k in (omega (arith, r .0), r .1))
-          (λ (k : Mem s (n ∷ [])). let w : s ≡ n = List·Memᴰ·eq-of-singleton k in (omega arith, ap f w ∙ q)) (List·Memᴰ·append-cases (members n f) m)
+          (λ (k : Mem s (n ∷ [])). let w : s ≡ n = List·Memᴰ·eq-of-singleton k in (omega arith, ap f w ∙ q))
+          (List·Memᴰ·append-cases (members n f) m)
       go ih false q m = let r = ih (rw (append-nil (members n f)) at m) in (omega (arith, r .0), r .1)
 
   pub members-ascending : (n : ℕ) → Ascending ltb (members n f)
@@ -116,7 +129,8 @@ module _ (f : ℕ → Bool) where
 
 -- ---- a list of just these, sorted
 pub sort-members :
-    (n : ℕ) (f : ℕ → Bool) (l : List ℕ) → Apart (λ x. x) l → ((s : ℕ) → Mem s l → (s < n) × (f s ≡ true)) → ((s : ℕ) → s < n → f s ≡ true → Mem s l)
+    (n : ℕ) (f : ℕ → Bool) (l : List ℕ) → Apart (λ x. x) l → ((s : ℕ) → Mem s l → (s < n) × (f s ≡ true)) →
+    ((s : ℕ) → s < n → f s ≡ true → Mem s l)
     → sort ltb (λ x. x) l ≡ members n f
 sort-members n f l a out in-l =
     ascending-unique ltb ltb-order (sort ltb (λ x. x) l) (members n f)
@@ -127,7 +141,8 @@ sort-members n f l a out in-l =
 -- ---- along the members: σ gives the member of each rank
 module _ (f : ℕ → Bool) (σ : ℕ → ℕ) where
   pub many-along :
-      (n : ℕ) → ((s : ℕ) → s < n → f s ≡ true → σ (many s f) ≡ s) → (g : ℕ → Bool) → many (many n f) (λ j. g (σ j)) ≡ many n (λ t. f t && g t)
+      (n : ℕ) → ((s : ℕ) → s < n → f s ≡ true → σ (many s f) ≡ s) → (g : ℕ → Bool) →
+      many (many n f) (λ j. g (σ j)) ≡ many n (λ t. f t && g t)
   unfolding many
   many-along zero at g = refl
   many-along (suc n) at g = go (many-along n (λ s w. at s (omega arith)) g) (f n) refl

@@ -90,7 +90,8 @@ module _ (n : ℕ) (e f : ℕ → ℕ → Bool) (agree : (s t : ℕ) → s < n �
       many-cong (least e s) (leads e) (leads f) (λ k l. leads-cong k (omega arith)) ∙ ap (λ (x : ℕ). many x (leads f)) (least-cong s h)
 
 -- a finer test has at least as many blocks, and with no more it is the same test
-module _ (n : ℕ) (e f : ℕ → ℕ → Bool) (qe : Equivalence e) (qf : Equivalence f) (finer : (s t : ℕ) → s < n → t < n → f s t ≡ true → e s t ≡ true) where
+module _ (n : ℕ) (e f : ℕ → ℕ → Bool) (qe : Equivalence e) (qf : Equivalence f)
+    (finer : (s t : ℕ) → s < n → t < n → f s t ≡ true → e s t ≡ true) where
   leads-finer : (s : ℕ) → s < n → leads e s ≡ true → leads f s ≡ true
   unfolding leads
   leads-finer s h l =
@@ -123,4 +124,5 @@ module _ (n : ℕ) (e f : ℕ → ℕ → Bool) (qe : Equivalence e) (qf : Equiv
       et = leads-least e qe y (many-full n (leads e) (leads f) leads-finer h y hy (least-leads f qf t))
 
       xy : e x y ≡ true
-      xy = qe .transitive x s y (finer x s hx hs (least-eq f qf s)) (qe .transitive s t y k (qe .symmetric y t (finer y t hy ht (least-eq f qf t))))
+      xy = qe .transitive x s y (finer x s hx hs (least-eq f qf s))
+          (qe .transitive s t y k (qe .symmetric y t (finer y t hy ht (least-eq f qf t))))

@@ -26,7 +26,8 @@ module _ (m : ℕ) (owner : ℕ → ℕ) (f : ℕ → Bool) (owners : ℕ → �
     one-owner x o =
         many-once k (λ j. eqb x (owners j) && o)
         (λ i j a c p q.
-        once i j a c (sym (eqb-true x (owners i) (and-left (eqb x (owners i)) o p)) ∙ eqb-true x (owners j) (and-left (eqb x (owners j)) o q)))
+        once i j a c (sym (eqb-true x (owners i) (and-left (eqb x (owners i)) o p)) ∙
+        eqb-true x (owners j) (and-left (eqb x (owners j)) o q)))
 
     pub owned-few : sum (λ j. many m (own j)) k ≤ m
     owned-few =

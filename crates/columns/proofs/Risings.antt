@@ -2,7 +2,20 @@
 use mathlib.Core.Path.{_≡_, ap, sym, subst, _∙_}
 use mathlib.Core.Logic.{⊎-elim}
 use mathlib.Core.Bool.{Bool, true}
-use mathlib.Core.List.{List, [], _∷_, _++_, List·Memᴰ·head, List·Memᴰ·tail, List·Memᴰ·cases-cons, List·Memᴰ·not-nil, List·Memᴰ·append-cases, List·Memᴰ·eq-of-singleton, Memᴰ·append-left, Memᴰ·append-right}
+use mathlib.Core.List.{
+  List,
+  [],
+  _∷_,
+  _++_,
+  List·Memᴰ·head,
+  List·Memᴰ·tail,
+  List·Memᴰ·cases-cons,
+  List·Memᴰ·not-nil,
+  List·Memᴰ·append-cases,
+  List·Memᴰ·eq-of-singleton,
+  Memᴰ·append-left,
+  Memᴰ·append-right,
+}
 use Prim.Native.Nat.{ℕ, zero, suc, _-_, _<_}
 use native.Mathlib.Omega.{arith}
 use lib.ListN.{length, getD}
@@ -30,7 +43,8 @@ module _ {A : Type 0} where
   unfolding listed
   listed-out zero f x m = absurd (List·Memᴰ·not-nil m)
   listed-out (suc n) f x m =
-      ⊎-elim (λ (k : Mem x (listed n f)). let p = listed-out n f x k in record { at = p .at; below = omega (arith, p .below); same = p .same })
+      ⊎-elim (λ (k : Mem x (listed n f)). let p = listed-out n f x k in
+      record { at = p .at; below = omega (arith, p .below); same = p .same })
       (λ (k : Mem x (f n ∷ [])). record { at = n; below = omega arith; same = List·Memᴰ·eq-of-singleton k })
       (List·Memᴰ·append-cases (listed n f) m)
 
@@ -54,7 +68,8 @@ module _ {A : Type 0} where
     snoc-ascending [] x a h = (λ z m. absurd (List·Memᴰ·not-nil m), tt)
     snoc-ascending (y ∷ l) x a h = (
       λ z m.
-          ⊎-elim (λ (k : Mem z l). a .0 z k) (λ (k : Mem z (x ∷ [])). ap (lt y) (List·Memᴰ·eq-of-singleton k) ∙ h y here) (List·Memᴰ·append-cases l m),
+          ⊎-elim (λ (k : Mem z l). a .0 z k) (λ (k : Mem z (x ∷ [])). ap (lt y) (List·Memᴰ·eq-of-singleton k) ∙ h y here)
+          (List·Memᴰ·append-cases l m),
       snoc-ascending l x (a .1) (λ z m. h z (List·Memᴰ·tail m)),
     )
 
@@ -64,7 +79,8 @@ module _ {A : Type 0} where
     ascending-snoc (y ∷ l) x a = let r = ascending-snoc l x (a .1) in (
       (λ z m. a .0 z (Memᴰ·append-left (x ∷ []) m), r .0),
       λ z m.
-          ⊎-elim (λ (e : z ≡ y). ap (λ (w : A). lt w x) e ∙ a .0 x (Memᴰ·append-right l here)) (λ (k : Mem z l). r .1 z k) (List·Memᴰ·cases-cons m),
+          ⊎-elim (λ (e : z ≡ y). ap (λ (w : A). lt w x) e ∙ a .0 x (Memᴰ·append-right l here)) (λ (k : Mem z l). r .1 z k)
+          (List·Memᴰ·cases-cons m),
     )
 
     -- what each is below
@@ -97,5 +113,6 @@ module _ {A : Type 0} where
         (λ (l : j < n). of-ascending n f (r .0) i j h l) (top-or-below w)
 
 -- by place
-pub ascending-at : (lt : ℕ → ℕ → Bool) (l : List ℕ) → Ascending lt l → (i j : ℕ) → i < j → j < length l → lt (getD l i 0) (getD l j 0) ≡ true
+pub ascending-at : (lt : ℕ → ℕ → Bool) (l : List ℕ) → Ascending lt l → (i j : ℕ) → i < j → j < length l →
+    lt (getD l i 0) (getD l j 0) ≡ true
 ascending-at lt l a = of-ascending lt (length l) (λ k. getD l k 0) (subst (Ascending lt) (sym (listed-cells l)) a)

@@ -16,7 +16,20 @@ use Rattle.columns.specs.declared.answers.NumberAnswer.{NumberAnswer}
 use Rattle.columns.specs.declared.answers.FlagOutcome.{FlagOutcome}
 use Rattle.columns.specs.declared.answers.FlagOutcome.the-variants as F
 use Rattle.columns.specs.declared.answers.FlagAnswer.{FlagAnswer}
-use Rattle.columns.specs.Answers.{Said, done, refused, bit, said, saidOutcome, saidNumber, saidNumberOutcome, saidFlag, saidFlagOutcome, answering, leaving}
+use Rattle.columns.specs.Answers.{
+  Said,
+  done,
+  refused,
+  bit,
+  said,
+  saidOutcome,
+  saidNumber,
+  saidNumberOutcome,
+  saidFlag,
+  saidFlagOutcome,
+  answering,
+  leaving,
+}
 
 pub same-refusal : (r q : Refusal) → refused (r .number) (r .place) ≡ refused (q .number) (q .place) → r ≡ q
 same-refusal r q e =

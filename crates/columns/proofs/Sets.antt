@@ -23,7 +23,8 @@ module _ {A : Type 0} (lt : A → A → Bool) (o : Order lt) where
   insert-new x [] = here
   insert-new x (y ∷ ys) = go (insert-new x ys) (lt x y) (lt y x) refl refl
     where
-      go : Mem x (insert lt x ys) → (b c : Bool) → lt x y ≡ b → lt y x ≡ c → Mem x (cond b (x ∷ y ∷ ys) (cond c (y ∷ insert lt x ys) (y ∷ ys)))
+      go : Mem x (insert lt x ys) → (b c : Bool) → lt x y ≡ b → lt y x ≡ c →
+          Mem x (cond b (x ∷ y ∷ ys) (cond c (y ∷ insert lt x ys) (y ∷ ys)))
       go m true c p q = here
       go m false true p q = List·Memᴰ·tail m
       go m false false p q = List·Memᴰ·head (o .total x y p q)
@@ -33,7 +34,8 @@ module _ {A : Type 0} (lt : A → A → Bool) (o : Order lt) where
   insert-old x z [] m = List·Memᴰ·tail m
   insert-old x z (y ∷ ys) m = go (insert-old x z ys) (lt x y) (lt y x) (List·Memᴰ·cases-cons m)
     where
-      go : (Mem z ys → Mem z (insert lt x ys)) → (b c : Bool) → (z ≡ y) ⊎ Mem z ys → Mem z (cond b (x ∷ y ∷ ys) (cond c (y ∷ insert lt x ys) (y ∷ ys)))
+      go : (Mem z ys → Mem z (insert lt x ys)) → (b c : Bool) → (z ≡ y) ⊎ Mem z ys →
+          Mem z (cond b (x ∷ y ∷ ys) (cond c (y ∷ insert lt x ys) (y ∷ ys)))
       go f true c k = List·Memᴰ·tail m
       go f false true (inl e) = List·Memᴰ·head e
       go f false true (inr k) = List·Memᴰ·tail (f k)
@@ -52,7 +54,8 @@ module _ {A : Type 0} (lt : A → A → Bool) (o : Order lt) where
       deep f (inl e) = inr (List·Memᴰ·head e)
       deep f (inr k) = up (f k)
 
-      go : (Mem z (insert lt x ys) → (z ≡ x) ⊎ Mem z ys) → (b c : Bool) → Mem z (cond b (x ∷ y ∷ ys) (cond c (y ∷ insert lt x ys) (y ∷ ys))) → (z ≡ x) ⊎ Mem z (y ∷ ys)
+      go : (Mem z (insert lt x ys) → (z ≡ x) ⊎ Mem z ys) → (b c : Bool) → Mem z (cond b (x ∷ y ∷ ys) (cond c (y ∷ insert lt x ys) (y ∷ ys)))
+          → (z ≡ x) ⊎ Mem z (y ∷ ys)
       go f true c m = List·Memᴰ·cases-cons m
       go f false true m = deep f (List·Memᴰ·cases-cons m)
       go f false false m = inr m
@@ -70,13 +73,15 @@ module _ {A : Type 0} (lt : A → A → Bool) (o : Order lt) where
       after q z (inl e) = rw e q
       after q z (inr k) = a .0 z k
 
-      go : Ascending lt (insert lt x ys) → (b c : Bool) → lt x y ≡ b → lt y x ≡ c → Ascending lt (cond b (x ∷ y ∷ ys) (cond c (y ∷ insert lt x ys) (y ∷ ys)))
+      go : Ascending lt (insert lt x ys) → (b c : Bool) → lt x y ≡ b → lt y x ≡ c →
+          Ascending lt (cond b (x ∷ y ∷ ys) (cond c (y ∷ insert lt x ys) (y ∷ ys)))
       go i true c p q = (λ z m. above p z (List·Memᴰ·cases-cons m), a)
       go i false true p q = (λ z m. after q z (insert-split x z ys m), i)
       go i false false p q = a
 
   -- ---- a set has one ascending list
-  pub ascending-unique : (l m : List A) → Ascending lt l → Ascending lt m → ((z : A) → Mem z l → Mem z m) → ((z : A) → Mem z m → Mem z l) → l ≡ m
+  pub ascending-unique : (l m : List A) → Ascending lt l → Ascending lt m → ((z : A) → Mem z l → Mem z m) → ((z : A) → Mem z m → Mem z l) →
+      l ≡ m
   unfolding Ascending
   ascending-unique [] [] a b f g = refl
   ascending-unique [] (y ∷ ys) a b f g = absurd (List·Memᴰ·not-nil (g y here))
@@ -134,7 +139,8 @@ module _ {A : Type 0} (lt : A → A → Bool) (o : Order lt) where
         keep true k = insert-old (g x) (g r) (collect lt p g rs) k
         keep false k = k
 
-        go : (Mem r rs → p r ≡ true → Mem (g r) (collect lt p g rs)) → (r ≡ x) ⊎ Mem r rs → Mem (g r) (cond (p x) (insert lt (g x) (collect lt p g rs)) (collect lt p g rs))
+        go : (Mem r rs → p r ≡ true → Mem (g r) (collect lt p g rs)) → (r ≡ x) ⊎ Mem r rs →
+            Mem (g r) (cond (p x) (insert lt (g x) (collect lt p g rs)) (collect lt p g rs))
         go f (inl e) = rw (← e, h) (insert-new (g r) (collect lt p g rs))
         go f (inr k) = keep (p x) (f k h)
 
@@ -212,7 +218,8 @@ module _ {A : Type 0} (lt : A → A → Bool) (o : Order lt) where
     gather-out [] z m = absurd (List·Memᴰ·not-nil m)
     gather-out (x ∷ rs) z m = go (gather-out rs z) (addAll-split z (g x) (gather lt g rs) m)
       where
-        go : (Mem z (gather lt g rs) → (r : R) × Mem r rs × Mem z (g r)) → Mem z (g x) ⊎ Mem z (gather lt g rs) → (r : R) × Mem r (x ∷ rs) × Mem z (g r)
+        go : (Mem z (gather lt g rs) → (r : R) × Mem r rs × Mem z (g r)) → Mem z (g x) ⊎ Mem z (gather lt g rs) → (r : R) × Mem r (x ∷ rs) ×
+            Mem z (g r)
         go f (inl i) = (x, here, i)
         go f (inr i) = let t = f i in (t .0, List·Memᴰ·tail (t .1), t .2)
 
@@ -226,7 +233,8 @@ among-in eq r x (y ∷ l) m = go (among-in eq r x l) (List·Memᴰ·cases-cons m
     go f (inl e) = or-left (eq x y) (among eq x l) (rw e (r y))
     go f (inr k) = or-right (eq x y) (among eq x l) (f k)
 
-pub among-out : {A : Type 0} (eq : A → A → Bool) → ((x y : A) → eq x y ≡ true → x ≡ y) → (x : A) (l : List A) → among eq x l ≡ true → Mem x l
+pub among-out : {A : Type 0} (eq : A → A → Bool) → ((x y : A) → eq x y ≡ true → x ≡ y) → (x : A) (l : List A) → among eq x l ≡ true →
+    Mem x l
 unfolding among
 among-out eq sound x [] h = absurd (contra h refl)
 among-out eq sound x (y ∷ l) h = go (among-out eq sound x l) (or-split (eq x y) (among eq x l) h)
@@ -250,7 +258,10 @@ same-refl eq r (x ∷ xs) = and-both (r x) (same-refl eq r xs)
 
 pub pairEq-eq : (x y : Pair) → pairEq x y ≡ true → x ≡ y
 unfolding pairEq
-pairEq-eq x y h = λ i. (eqb-true (x .0) (y .0) (and-left _ (eqb (x .1) (y .1)) h) i, eqb-true (x .1) (y .1) (and-right (eqb (x .0) (y .0)) _ h) i)
+pairEq-eq x y h = λ i. (
+  eqb-true (x .0) (y .0) (and-left _ (eqb (x .1) (y .1)) h) i,
+  eqb-true (x .1) (y .1) (and-right (eqb (x .0) (y .0)) _ h) i,
+)
 
 pub pairEq-refl : (x : Pair) → pairEq x x ≡ true
 unfolding pairEq

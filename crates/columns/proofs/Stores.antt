@@ -29,7 +29,8 @@ module _ (f : ℕ → Bool) (i v : ℕ → ℕ) where
   length-stores zero l = refl
   length-stores (suc n) l = go (length-stores n l) (f n)
     where
-      go : length (stores f i v n l) ≡ length l → (t : Bool) → length (cond t (set (stores f i v n l) (i n) (v n)) (stores f i v n l)) ≡ length l
+      go : length (stores f i v n l) ≡ length l → (t : Bool) →
+          length (cond t (set (stores f i v n l) (i n) (v n)) (stores f i v n l)) ≡ length l
       go h true = length-set (stores f i v n l) (i n) (v n) ∙ h
       go h false = h
 
@@ -82,6 +83,7 @@ stores-cong f i i' v v' zero l h = refl
 stores-cong f i i' v v' (suc n) l h = go (stores-cong f i i' v v' n l (λ s w. h s (omega arith))) (f n) refl
   where
     go : stores f i v n l ≡ stores f i' v' n l → (t : Bool) → f n ≡ t
-        → cond t (set (stores f i v n l) (i n) (v n)) (stores f i v n l) ≡ cond t (set (stores f i' v' n l) (i' n) (v' n)) (stores f i' v' n l)
+        → cond t (set (stores f i v n l) (i n) (v n)) (stores f i v n l) ≡ cond t (set (stores f i' v' n l) (i' n) (v' n))
+        (stores f i' v' n l)
     go ih true e = let q = h n (omega arith) e in rw (ih, q .0, q .1)
     go ih false e = ih

@@ -80,7 +80,8 @@ pub hits-one : (a m : ℕ) → a < m → sum (hit a) m ≡ 1
 unfolding sum
 hits-one a zero h = absurd (omega arith)
 hits-one a (suc m) h =
-    ⊎-elim (λ e. omega (arith, hits-none a m (omega arith), hit-same a m e)) (λ l. omega (arith, hits-one a m l, hit-other a m (λ e. omega arith)))
+    ⊎-elim (λ e. omega (arith, hits-none a m (omega arith), hit-same a m e))
+    (λ l. omega (arith, hits-one a m l, hit-other a m (λ e. omega arith)))
     (top-or-below h)
 
 -- 1 from x to before z

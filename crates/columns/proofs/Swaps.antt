@@ -31,7 +31,8 @@ module _ (e : List ℕ) (i j : ℕ) (hi : i < length e) (hj : j < length e) wher
   pub swapped-i : getD (swapped i j e) i 0 ≡ getD e j 0
   unfolding swapped
   swapped-i =
-      ⊎-elim (λ (q : i ≡ j). ap (λ (k : ℕ). getD (swapped i j e) k 0) q ∙ two-last e i j _ _ hj ∙ ap (λ (k : ℕ). getD e k 0) q) (λ (n : i ≡ j → ⊥). two-first e i j _ _ hi n)
+      ⊎-elim (λ (q : i ≡ j). ap (λ (k : ℕ). getD (swapped i j e) k 0) q ∙ two-last e i j _ _ hj ∙ ap (λ (k : ℕ). getD e k 0) q)
+      (λ (n : i ≡ j → ⊥). two-first e i j _ _ hi n)
       (same-or-not i j)
 
   pub swapped-other : (k : ℕ) → (k ≡ i → ⊥) → (k ≡ j → ⊥) → getD (swapped i j e) k 0 ≡ getD e k 0

@@ -11,7 +11,16 @@ use Rattle.columns.specs.Columns.{listed, over, written}
 use Rattle.columns.specs.Rows.{pairsOf, firstOf, lastOf}
 use Rattle.columns.specs.Sets.{Pair}
 use Rattle.columns.proofs.All.{lt-or-le}
-use Rattle.columns.proofs.Lists.{length-listed, listed-cong, listed-cons, map-listed, over-front, length-written, written-at, written-after}
+use Rattle.columns.proofs.Lists.{
+  length-listed,
+  listed-cong,
+  listed-cons,
+  map-listed,
+  over-front,
+  length-written,
+  written-at,
+  written-after,
+}
 
 pub length-pairs : (d : ℕ) (a b : List ℕ) → length (pairsOf d a b) ≡ d
 unfolding pairsOf
@@ -22,12 +31,14 @@ unfolding pairsOf listed
 pairs-none a b = refl
 
 pub pairs-more :
-    (d : ℕ) (a b : List ℕ) (x y : ℕ) → d < length a → d < length b → pairsOf (d + 1) (set a d x) (set b d y) ≡ pairsOf d a b ++ ((x, y) ∷ [])
+    (d : ℕ) (a b : List ℕ) (x y : ℕ) → d < length a → d < length b → pairsOf (d + 1) (set a d x) (set b d y) ≡ pairsOf d a b ++
+    ((x, y) ∷ [])
 unfolding pairsOf listed
 pairs-more d a b x y ha hb =
     rw add-one
     (ap₂ (λ (l : List Pair) (p : Pair). l ++ (p ∷ []))
-    (listed-cong {A = Pair} d _ _ (λ i w. ap₂ (λ (j k : ℕ). (j, k)) (getD-set-other a d i x 0 (λ e. omega arith)) (getD-set-other b d i y 0 (λ e. omega arith))))
+    (listed-cong {A = Pair} d _ _ (λ i w. ap₂ (λ (j k : ℕ). (j, k)) (getD-set-other a d i x 0 (λ e. omega arith))
+    (getD-set-other b d i y 0 (λ e. omega arith))))
     (ap₂ (λ (j k : ℕ). (j, k)) (getD-set-same a d x 0 ha) (getD-set-same b d y 0 hb)))
 
 -- ---- written over the front
@@ -40,7 +51,8 @@ pairs-back (x ∷ l) =
 pub pairs-over : (l : List Pair) (a b : List ℕ) → pairsOf (length l) (over (firstOf l) a) (over (lastOf l) b) ≡ l
 unfolding pairsOf
 pairs-over l a b =
-    listed-cong (length l) (λ i. (getD (over (firstOf l) a) i 0, getD (over (lastOf l) b) i 0)) (λ i. (getD (firstOf l) i 0, getD (lastOf l) i 0))
+    listed-cong (length l) (λ i. (getD (over (firstOf l) a) i 0, getD (over (lastOf l) b) i 0))
+    (λ i. (getD (firstOf l) i 0, getD (lastOf l) i 0))
     (λ i w.
     ap₂ (λ (x y : ℕ). (x, y)) (over-front (firstOf l) a i (rw (length-map l (λ (r : Pair). r .0)) w))
     (over-front (lastOf l) b i (rw (length-map l (λ (r : Pair). r .1)) w)))
@@ -52,12 +64,15 @@ module _ (r : ℕ) (x x₀ : List ℕ) (e : length x ≡ length x₀) (h : r ≤
   unfolding written
   as-written =
       ext-getD 0 x (written r (λ i. getD x i 0) x₀) (e ∙ sym (length-written r (λ i. getD x i 0) x₀ (omega (arith, e))))
-      (λ i w. ⊎-elim (λ (l : i < r). sym (written-at r (λ k. getD x k 0) x₀ i l)) (λ (l : r ≤ i). kept i l ∙ sym (written-after r (λ k. getD x k 0) x₀ i l)) (lt-or-le i r))
+      (λ i w. ⊎-elim (λ (l : i < r). sym (written-at r (λ k. getD x k 0) x₀ i l))
+      (λ (l : r ≤ i). kept i l ∙ sym (written-after r (λ k. getD x k 0) x₀ i l)) (lt-or-le i r))
 
   pub firsts-over : (b : List ℕ) (w : List Pair) → pairsOf r x b ≡ w → x ≡ over (firstOf w) x₀
   unfolding pairsOf
-  firsts-over b w q = as-written ∙ ap (λ (l : List ℕ). over l x₀) (sym (map-listed (λ (t : Pair). t .0) r (λ i. (getD x i 0, getD b i 0))) ∙ ap firstOf q)
+  firsts-over b w q = as-written ∙ ap (λ (l : List ℕ). over l x₀)
+      (sym (map-listed (λ (t : Pair). t .0) r (λ i. (getD x i 0, getD b i 0))) ∙ ap firstOf q)
 
   pub lasts-over : (a : List ℕ) (w : List Pair) → pairsOf r a x ≡ w → x ≡ over (lastOf w) x₀
   unfolding pairsOf
-  lasts-over a w q = as-written ∙ ap (λ (l : List ℕ). over l x₀) (sym (map-listed (λ (t : Pair). t .1) r (λ i. (getD a i 0, getD x i 0))) ∙ ap lastOf q)
+  lasts-over a w q = as-written ∙ ap (λ (l : List ℕ). over l x₀)
+      (sym (map-listed (λ (t : Pair). t .1) r (λ i. (getD a i 0, getD x i 0))) ∙ ap lastOf q)

@@ -47,9 +47,9 @@ unfolding cell
 keyOf a b c i = (cell a i, (cell b i, cell c i))
 
 -- whether number i comes before number j
-unfoldable pub before : List ℕ → List ℕ → List ℕ → ℕ → ℕ → Bool
+unfoldable pub comesBefore : List ℕ → List ℕ → List ℕ → ℕ → ℕ → Bool
 unfolding rowLt keyOf
-before a b c i j = rowLt (keyOf a b c i) (keyOf a b c j)
+comesBefore a b c i j = rowLt (keyOf a b c i) (keyOf a b c j)
 
 -- numbers in the order of their cells, and as they came where these are equal
 unfoldable pub sortBy : List ℕ → List ℕ → List ℕ → List ℕ → List ℕ

@@ -7,3 +7,5 @@ pub mod Sets
 pub mod Sort
 pub mod Rows
 pub mod Number
+pub mod Lent
+pub mod Limits

@@ -2,19 +2,20 @@
 ghost use mathlib.Core.Path.{_≡_};
 ghost use Prim.Native.Nat.{_≤_, _<_};
 ghost use lib.ListN.{length, getD};
-ghost use Rattle.columns.specs.Columns.{listed, over, cell, zeros, swapped};
+ghost use Rattle.columns.specs.Columns.{listed, over, cell, swapped};
+ghost use Rattle.columns.specs.Lent.{was, is, Cleared};
 
 // One cell, as an index.
 pub fn at(a: &[u16], i: usize) -> usize
     requires { ⌜ i < length (now a) ⌝ }
-    ensures { λ r. ⌜ (r ≡ getD (now (a .entry)) i 0) × (r < 65536) ⌝ }
+    ensures { λ r. ⌜ (r ≡ getD (was a) i 0) × (r < 65536) ⌝ }
 {
     a[i] as usize
 }
 
 // Every cell becomes zero.
 pub fn clear(a: &mut [u16])
-    ensures { λ _. ⌜ now (a .exit) ≡ zeros (length (now (a .entry))) ⌝ }
+    ensures { λ _. ⌜ Cleared a ⌝ }
 {
     let mut i = 0;
     while i < a.len() {
@@ -26,7 +27,7 @@ pub fn clear(a: &mut [u16])
 // The cells of `from` over the first ones of `to`.
 pub fn copy(to: &mut [u16], from: &[u16])
     requires { ⌜ length (now from) ≤ length (now to) ⌝ }
-    ensures { λ _. ⌜ now (to .exit) ≡ over (now (from .entry)) (now (to .entry)) ⌝ }
+    ensures { λ _. ⌜ is to ≡ over (was from) (was to) ⌝ }
 {
     let mut i = 0;
     while i < from.len() {
@@ -38,7 +39,7 @@ pub fn copy(to: &mut [u16], from: &[u16])
 // 0, 1, 2, and so on.
 pub fn count_up(a: &mut [u16])
     requires { ⌜ length (now a) ≤ 65536 ⌝ }
-    ensures { λ _. ⌜ now (a .exit) ≡ listed (length (now (a .entry))) (λ k. k) ⌝ }
+    ensures { λ _. ⌜ is a ≡ listed (length (was a)) (λ k. k) ⌝ }
 {
     let mut i = 0;
     while i < a.len() {
@@ -50,7 +51,7 @@ pub fn count_up(a: &mut [u16])
 // Exchanges the cells i and j.
 pub fn swap_cells(a: &mut [u16], i: usize, j: usize)
     requires { ⌜ (i < length (now a)) × (j < length (now a)) ⌝ }
-    ensures { λ _. ⌜ now (a .exit) ≡ swapped i j (now (a .entry)) ⌝ }
+    ensures { λ _. ⌜ is a ≡ swapped i j (was a) ⌝ }
 {
     let x = a[i];
     let y = a[j];
@@ -60,7 +61,7 @@ pub fn swap_cells(a: &mut [u16], i: usize, j: usize)
 
 // The cell that a number names, or the number itself where the column is too short.
 pub fn cell_of(a: &[u16], i: u16) -> u16
-    ensures { λ r. ⌜ r ≡ cell (now (a .entry)) i ⌝ }
+    ensures { λ r. ⌜ r ≡ cell (was a) i ⌝ }
 {
     let k = i as usize;
     if k < a.len() { a[k] } else { i }

@@ -5,6 +5,7 @@ ghost use Prim.Native.Nat.{_+_, _*_, _/_, _≤_};
 ghost use lib.ListN.{length};
 ghost use Rattle.columns.specs.Columns.{over, wiped, cell};
 ghost use Rattle.columns.specs.Rows.{firstsBy, pickRows, picked, rowSet, firstOf, secondOf, thirdOf};
+ghost use Rattle.columns.specs.Lent.{was, is};
 use crate::cells::cell_of;
 use crate::cells::clear;
 use crate::cells::count_up;
@@ -14,7 +15,7 @@ use crate::sorting::sort;
 // The cells that the numbers of `order` name, over the first ones of `to`.
 pub fn gather(to: &mut [u16], order: &[u16], a: &[u16])
     requires { ⌜ length (now order) ≤ length (now to) ⌝ }
-    ensures { λ _. ⌜ now (to .exit) ≡ over (map (cell (now (a .entry))) (now (order .entry))) (now (to .entry)) ⌝ }
+    ensures { λ _. ⌜ is to ≡ over (map (cell (was a)) (was order)) (was to) ⌝ }
 {
     let mut i = 0;
     while i < order.len() {
@@ -25,8 +26,8 @@ pub fn gather(to: &mut [u16], order: &[u16], a: &[u16])
 
 // Of sorted numbers one for each row, over the first ones. Returns how many.
 pub fn distinct(order: &mut [u16], a: &[u16], b: &[u16], c: &[u16]) -> usize
-    ensures { λ r. ⌜ r ≡ length (firstsBy (now (a .entry)) (now (b .entry)) (now (c .entry)) (now (order .entry))) ⌝ }
-    ensures { λ _. ⌜ now (order .exit) ≡ over (firstsBy (now (a .entry)) (now (b .entry)) (now (c .entry)) (now (order .entry))) (now (order .entry)) ⌝ }
+    ensures { λ r. ⌜ r ≡ length (firstsBy (was a) (was b) (was c) (was order)) ⌝ }
+    ensures { λ _. ⌜ is order ≡ over (firstsBy (was a) (was b) (was c) (was order)) (was order) ⌝ }
 {
     if order.len() == 0 {
         return 0;
@@ -52,9 +53,9 @@ pub fn distinct(order: &mut [u16], a: &[u16], b: &[u16], c: &[u16]) -> usize
 // the first cells of `order`. Returns how many.
 pub fn pick_rows(order: &mut [u16], spare: &mut [u16], a: &[u16], b: &[u16], c: &[u16]) -> usize
     requires { ⌜ (length (now order) ≤ 65536) × (length (now order) ≤ 2 * length (now spare) + 1) ⌝ }
-    ensures { λ r. ⌜ r ≡ length (pickRows (length (now (order .entry))) (now (a .entry)) (now (b .entry)) (now (c .entry))) ⌝ }
-    ensures { λ _. ⌜ now (order .exit) ≡ picked (length (now (order .entry))) (now (a .entry)) (now (b .entry)) (now (c .entry)) ⌝ }
-    ensures { λ _. ⌜ now (spare .exit) ≡ wiped (length (now (order .entry)) / 2) (now (spare .entry)) ⌝ }
+    ensures { λ r. ⌜ r ≡ length (pickRows (length (was order)) (was a) (was b) (was c)) ⌝ }
+    ensures { λ _. ⌜ is order ≡ picked (length (was order)) (was a) (was b) (was c) ⌝ }
+    ensures { λ _. ⌜ is spare ≡ wiped (length (was order) / 2) (was spare) ⌝ }
 {
     count_up(&mut *order);
     sort(&mut *order, spare, a, b, c);
@@ -72,9 +73,9 @@ pub fn write_rows(
     c: &[u16],
 )
     requires { ⌜ (length (now order) ≤ length (now x)) × (length (now order) ≤ length (now y)) × (length (now order) ≤ length (now z)) ⌝ }
-    ensures { λ _. ⌜ now (x .exit) ≡ over (map (cell (now (a .entry))) (now (order .entry))) (now (x .entry)) ⌝ }
-    ensures { λ _. ⌜ now (y .exit) ≡ over (map (cell (now (b .entry))) (now (order .entry))) (now (y .entry)) ⌝ }
-    ensures { λ _. ⌜ now (z .exit) ≡ over (map (cell (now (c .entry))) (now (order .entry))) (now (z .entry)) ⌝ }
+    ensures { λ _. ⌜ is x ≡ over (map (cell (was a)) (was order)) (was x) ⌝ }
+    ensures { λ _. ⌜ is y ≡ over (map (cell (was b)) (was order)) (was y) ⌝ }
+    ensures { λ _. ⌜ is z ≡ over (map (cell (was c)) (was order)) (was z) ⌝ }
 {
     gather(x, order, a);
     gather(y, order, b);
@@ -97,11 +98,11 @@ pub fn row_set(
     requires { ⌜ (m ≤ length (now a)) × (m ≤ length (now b)) × (m ≤ length (now c)) ⌝ }
     requires { ⌜ (m ≤ length (now x)) × (m ≤ length (now y)) × (m ≤ length (now z)) ⌝ }
     requires { ⌜ (m ≤ length (now order)) × (m ≤ 2 * length (now spare) + 1) × (m ≤ 65536) ⌝ }
-    ensures { λ r. ⌜ r ≡ length (rowSet m (now (a .entry)) (now (b .entry)) (now (c .entry))) ⌝ }
-    ensures { λ _. ⌜ now (x .exit) ≡ over (firstOf (rowSet m (now (a .entry)) (now (b .entry)) (now (c .entry)))) (now (x .entry)) ⌝ }
-    ensures { λ _. ⌜ now (y .exit) ≡ over (secondOf (rowSet m (now (a .entry)) (now (b .entry)) (now (c .entry)))) (now (y .entry)) ⌝ }
-    ensures { λ _. ⌜ now (z .exit) ≡ over (thirdOf (rowSet m (now (a .entry)) (now (b .entry)) (now (c .entry)))) (now (z .entry)) ⌝ }
-    ensures { λ _. ⌜ (now (order .exit) ≡ wiped m (now (order .entry))) × (now (spare .exit) ≡ wiped (m / 2) (now (spare .entry))) ⌝ }
+    ensures { λ r. ⌜ r ≡ length (rowSet m (was a) (was b) (was c)) ⌝ }
+    ensures { λ _. ⌜ is x ≡ over (firstOf (rowSet m (was a) (was b) (was c))) (was x) ⌝ }
+    ensures { λ _. ⌜ is y ≡ over (secondOf (rowSet m (was a) (was b) (was c))) (was y) ⌝ }
+    ensures { λ _. ⌜ is z ≡ over (thirdOf (rowSet m (was a) (was b) (was c))) (was z) ⌝ }
+    ensures { λ _. ⌜ (is order ≡ wiped m (was order)) × (is spare ≡ wiped (m / 2) (was spare)) ⌝ }
 {
     let r = pick_rows(&mut order[..m], spare, a, b, c);
     write_rows(x, y, z, &order[..r], a, b, c);

@@ -5,6 +5,7 @@ use mathlib.Core.Path.{_≡_, refl, ap, sym, subst, _∙_}
 use mathlib.Core.List.{List, _++_}
 use lib.ListN.{length, getD, set, take, drop, length-set, getD-replicate, length-replicate}
 use lib.Seq.{length-take-le, getD-set-same}
+use Rattle.columns.specs.Limits.{maxStates}
 use Rattle.columns.specs.Columns.{listed, over, written, wiped, zeros}
 use Rattle.columns.specs.Inverse.{Inverse}
 use Rattle.columns.proofs.Lists.{front-written, wiped-front, written-at, length-written, length-over, listed-const}
@@ -27,7 +28,7 @@ fresh-done p l e o b he ho hb =
       wiped-front (p .n) (p .element-to-block) (p .element-to-block) b (l .element-to-block) hb refl,
     )
 
-module _ (p : Partition) (some : 1 ≤ p .n) (small : p .n ≤ 4096) (l : Long p) (one : p .count ≡ 1) where
+module _ (p : Partition) (some : 1 ≤ p .n) (small : p .n ≤ maxStates) (l : Long p) (one : p .count ≡ 1) where
   straight : (a b : List ℕ) → Inverse (written (p .n) (λ k. k) a) (written (p .n) (λ k. k) b) (p .n)
   straight a b =
       record {
@@ -39,7 +40,8 @@ module _ (p : Partition) (some : 1 ≤ p .n) (small : p .n ≤ 4096) (l : Long p
   block-zero : (s : ℕ) → s < p .n → getD (wiped (p .n) (p .element-to-block)) s 0 ≡ 0
   unfolding wiped over
   block-zero s w =
-      lib.ListN.List·getD-append (zeros (p .n)) (drop (length (zeros (p .n))) (p .element-to-block)) 0 s (omega (arith, length-replicate {A = ℕ} (p .n) 0))
+      lib.ListN.List·getD-append (zeros (p .n)) (drop (length (zeros (p .n))) (p .element-to-block)) 0 s
+      (omega (arith, length-replicate {A = ℕ} (p .n) 0))
       ∙ getD-replicate (p .n) s 0 0 w
 
   at-begin : getD (set (p .begin) 0 0) 0 0 ≡ 0
@@ -51,7 +53,8 @@ module _ (p : Partition) (some : 1 ≤ p .n) (small : p .n ≤ 4096) (l : Long p
   at-end : getD (set (p .end) 0 (p .n)) 0 0 ≡ p .n
   at-end = getD-set-same (p .end) 0 (p .n) 0 (omega (arith, l .end))
 
-  bounds : (b : ℕ) → b < p .count → Within (getD (set (p .begin) 0 0) b 0) (getD (set (p .marked-split) 0 0) b 0) (getD (set (p .end) 0 (p .n)) b 0) (p .n)
+  bounds : (b : ℕ) → b < p .count → Within (getD (set (p .begin) 0 0) b 0) (getD (set (p .marked-split) 0 0) b 0)
+      (getD (set (p .end) 0 (p .n)) b 0) (p .n)
   bounds b w =
       let z : b ≡ 0 = omega (arith, one) in
       let x = ap (λ (k : ℕ). getD (set (p .begin) 0 0) k 0) z ∙ at-begin in

@@ -7,13 +7,30 @@ use mathlib.Core.Path.{_≡_, refl, ap, sym, _∙_}
 use mathlib.Core.List.{List}
 use lib.ListN.{length, getD}
 use lib.Dec.{ltb, leb, eqb}
+use Rattle.columns.specs.Limits.{maxStates}
 use Rattle.partition.specs.declared.block.Block.{Block}
 use Rattle.partition.specs.Block.{soundb}
 use Rattle.columns.specs.Inverse.{inverseb}
 use Rattle.columns.proofs.All.{all-at, all-of}
 use Rattle.columns.proofs.Bools.{and-left, and-right, and-both}
 use Rattle.columns.proofs.Inverses.{inverse-of, of-inverse, other-way}
-use Rattle.partition.specs.Partition.{Partition, Within, Lies, Consistent, Long, withinb, blockAt, blocksb, insideb, lieAt, liesb, lengths, consistentb, longb, sixLong}
+use Rattle.partition.specs.Partition.{
+  Partition,
+  Within,
+  Lies,
+  Consistent,
+  Long,
+  withinb,
+  blockAt,
+  blocksb,
+  insideb,
+  lieAt,
+  liesb,
+  lengths,
+  consistentb,
+  longb,
+  sixLong,
+}
 
 -- a chain of tests taken apart: each one, and the rest
 pub record Both (a b : Bool) : Type 0 where
@@ -130,6 +147,6 @@ module _ (p : Partition) where
       (and-both (le-leb _ _ (h .begin)) (and-both (le-leb _ _ (h .marked-split)) (le-leb _ _ (h .end))))))
 
 -- the bounds of a block given alone
-pub sound-of : (b : Block) → soundb b ≡ true → Within (b .begin) (b .«marked_split») (b .end) 4096
+pub sound-of : (b : Block) → soundb b ≡ true → Within (b .begin) (b .«marked_split») (b .end) maxStates
 unfolding soundb
-sound-of b t = within-of (b .begin) (b .«marked_split») (b .end) 4096 t
+sound-of b t = within-of (b .begin) (b .«marked_split») (b .end) maxStates t

@@ -57,12 +57,14 @@ module _ (p : Partition) (h : Consistent p) (l : Long p) (s : ℕ) (w : s < p .n
     there : getD (p .element-to-block) (getD (p .elements) (m - 1) 0) 0 ≡ b
     there = owned p h b (m - 1) known (omega (arith, from)) (omega (arith, least))
 
-    moved-bounds : (k : ℕ) → k < p .count → Within (getD (p .begin) k 0) (getD (set (p .marked-split) b (m - 1)) k 0) (getD (p .end) k 0) (p .n)
+    moved-bounds : (k : ℕ) → k < p .count → Within (getD (p .begin) k 0) (getD (set (p .marked-split) b (m - 1)) k 0) (getD (p .end) k 0)
+        (p .n)
     moved-bounds k lk =
         let v = h .bounds k lk in
         ⊎-elim
         (λ (e : k ≡ b).
-        let x : getD (set (p .marked-split) b (m - 1)) k 0 ≡ m - 1 = ap (λ (y : ℕ). getD (set (p .marked-split) b (m - 1)) y 0) e ∙ getD-set-same (p .marked-split) b (m - 1) 0 (omega (arith, known, h .most, l .marked-split)) in
+        let x : getD (set (p .marked-split) b (m - 1)) k 0 ≡ m - 1 = ap (λ (y : ℕ). getD (set (p .marked-split) b (m - 1)) y 0) e ∙
+        getD-set-same (p .marked-split) b (m - 1) 0 (omega (arith, known, h .most, l .marked-split)) in
         let f : getD (p .begin) k 0 ≤ o = subst (λ (y : ℕ). getD (p .begin) y 0 ≤ o) (sym e) from in
         let t : m ≤ getD (p .end) k 0 = subst (λ (y : ℕ). m ≤ getD (p .end) y 0) (sym e) least in
         record { some = v .some; from = omega arith; to = omega arith; most = v .most })
@@ -73,7 +75,8 @@ module _ (p : Partition) (h : Consistent p) (l : Long p) (s : ℕ) (w : s < p .n
 
     -- a state of block b that stands at o or m - 1
     at-block : (t k : ℕ) → getD (p .element-to-block) t 0 ≡ b → getD (p .begin) b 0 ≤ k → k < getD (p .end) b 0
-        → (getD (p .element-to-block) t 0 < p .count) × ((getD (p .begin) (getD (p .element-to-block) t 0) 0 ≤ k) × (k < getD (p .end) (getD (p .element-to-block) t 0) 0))
+        → (getD (p .element-to-block) t 0 < p .count) ×
+        ((getD (p .begin) (getD (p .element-to-block) t 0) 0 ≤ k) × (k < getD (p .end) (getD (p .element-to-block) t 0) 0))
     at-block t k e f g =
         (omega (arith, known), (subst (λ (y : ℕ). getD (p .begin) y 0 ≤ k) (sym e) f, subst (λ (y : ℕ). k < getD (p .end) y 0) (sym e) g))
 
@@ -89,17 +92,20 @@ module _ (p : Partition) (h : Consistent p) (l : Long p) (s : ℕ) (w : s < p .n
         let O = swappedInverse o (m - 1) (p .elements) (p .element-offset) in
         ⊎-elim
         (λ (e : t ≡ getD (p .elements) o 0).
-        let z : getD O t 0 ≡ m - 1 = ap (λ (y : ℕ). getD O y 0) e ∙ offset-i (p .elements) (p .element-offset) (p .n) o (m - 1) (h .order) (l .elements) (l .element-offset) oo mm in
+        let z : getD O t 0 ≡ m - 1 = ap (λ (y : ℕ). getD O y 0) e ∙ offset-i (p .elements) (p .element-offset) (p .n) o (m - 1) (h .order)
+        (l .elements) (l .element-offset) oo mm in
         at-block t (getD O t 0) (block-s t (e ∙ here)) (omega (arith, from)) (omega (arith, least)))
         (λ (ne : t ≡ getD (p .elements) o 0 → ⊥).
         ⊎-elim
         (λ (e : t ≡ getD (p .elements) (m - 1) 0).
         let z : getD O t 0 ≡ o
         = ap (λ (y : ℕ). getD O y 0) e
-        ∙ offset-j (p .elements) (p .element-offset) (p .n) o (m - 1) (h .order) (l .elements) (l .element-offset) oo mm (λ r. ne (e ∙ ap (λ (y : ℕ). getD (p .elements) y 0) (sym r))) in
+        ∙ offset-j (p .elements) (p .element-offset) (p .n) o (m - 1) (h .order) (l .elements) (l .element-offset) oo mm
+        (λ r. ne (e ∙ ap (λ (y : ℕ). getD (p .elements) y 0) (sym r))) in
         at-block t (getD O t 0) (ap (λ (y : ℕ). getD (p .element-to-block) y 0) e ∙ there) (omega (arith, from)) (omega (arith, to)))
         (λ (ne' : t ≡ getD (p .elements) (m - 1) 0 → ⊥).
-        let z : getD O t 0 ≡ getD (p .element-offset) t 0 = offset-other (p .elements) (p .element-offset) (p .n) o (m - 1) (h .order) (l .elements) (l .element-offset) oo mm t ne ne' in
+        let z : getD O t 0 ≡ getD (p .element-offset) t 0 =
+        offset-other (p .elements) (p .element-offset) (p .n) o (m - 1) (h .order) (l .elements) (l .element-offset) oo mm t ne ne' in
         let v = h .lies t wt in
         (v .known, (omega (arith, v .from), omega (arith, v .to))))
         (same-or-not t (getD (p .elements) (m - 1) 0)))

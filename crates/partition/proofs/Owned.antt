@@ -8,7 +8,21 @@ use mathlib.Core.List.{List}
 use lib.ListN.{getD}
 use Rattle.columns.specs.Counting.{sum}
 use Rattle.columns.proofs.All.{same-or-not}
-use Rattle.columns.proofs.Sums.{hit, sum-mono, sum-cong, sum-tight, sum-one, sum-swap, hit-same, hit-other, hit-of, hits-one, ins, ins-in, sum-ins}
+use Rattle.columns.proofs.Sums.{
+  hit,
+  sum-mono,
+  sum-cong,
+  sum-tight,
+  sum-one,
+  sum-swap,
+  hit-same,
+  hit-other,
+  hit-of,
+  hits-one,
+  ins,
+  ins-in,
+  sum-ins,
+}
 use Rattle.partition.specs.Partition.{Partition, Consistent, lengths}
 
 pub lengths-sum : (bg en : List ℕ) (m : ℕ) → lengths bg en m ≡ sum (λ b. getD en b 0 - getD bg b 0) m
@@ -46,7 +60,8 @@ module _ (p : Partition) (h : Consistent p) where
       ))
       (λ n. omega (arith, hit-other (home k) b n)) (same-or-not (home k) b)
 
-  stretch-long : (b : ℕ) → b < p .count → sum (ins (getD (p .begin) b 0) (getD (p .end) b 0)) (p .n) ≡ getD (p .end) b 0 - getD (p .begin) b 0
+  stretch-long : (b : ℕ) → b < p .count → sum (ins (getD (p .begin) b 0) (getD (p .end) b 0)) (p .n) ≡ getD (p .end) b 0 - getD (p .begin) b
+      0
   stretch-long b l =
       let w = h .bounds b l in
       omega (arith, sum-ins (getD (p .begin) b 0) (getD (p .end) b 0) (p .n) (omega (arith, w .some)), w .some, w .most)
@@ -65,10 +80,16 @@ module _ (p : Partition) (h : Consistent p) where
   unfolding states
   as-many =
       sum-tight states (λ b. getD (p .end) b 0 - getD (p .begin) b 0) (p .count)
-      (λ b l. omega (arith, stretch-long b l, sum-mono (λ k. hit (home k) b) (ins (getD (p .begin) b 0) (getD (p .end) b 0)) (p .n) (λ k m. inside b k l m)))
+      (λ b l. omega (
+        arith,
+        stretch-long b l,
+        sum-mono (λ k. hit (home k) b) (ins (getD (p .begin) b 0) (getD (p .end) b 0)) (p .n)
+            (λ k m. inside b k l m),
+      ))
       (all-states ∙ sym (h .whole) ∙ lengths-sum (p .begin) (p .end) (p .count))
 
-  pub owned : (b k : ℕ) → b < p .count → getD (p .begin) b 0 ≤ k → k < getD (p .end) b 0 → getD (p .element-to-block) (getD (p .elements) k 0) 0 ≡ b
+  pub owned : (b k : ℕ) → b < p .count → getD (p .begin) b 0 ≤ k → k < getD (p .end) b 0 →
+      getD (p .element-to-block) (getD (p .elements) k 0) 0 ≡ b
   unfolding home states
   owned b k l from to =
       let m : k < p .n = omega (arith, h .bounds b l .most) in

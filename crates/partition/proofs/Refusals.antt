@@ -5,6 +5,7 @@ use borrow.Author.Tests.{ltb-true, leb-true, le-leb, lt-leb}
 use mathlib.Core.Bool.{Bool, true, false, _&&_}
 use mathlib.Core.Path.{_≡_, refl, ap, sym, _∙_}
 use lib.Dec.{ltb, leb}
+use Rattle.columns.specs.Limits.{maxStates, outOfRange, tooShort}
 use Rattle.columns.specs.declared.answers.Refusal.{Refusal}
 use Rattle.columns.specs.Answers.{refusal, none, unless}
 use Rattle.columns.proofs.Bools.{and-left, and-right, and-both, and-no-right}
@@ -18,17 +19,17 @@ pub size-low : (n : ℕ) → n < 1 → sizeb n ≡ false
 unfolding sizeb
 size-low n h = rw (lt-leb 1 n h)
 
-pub size-high : (n : ℕ) → 4096 < n → sizeb n ≡ false
+pub size-high : (n : ℕ) → maxStates < n → sizeb n ≡ false
 unfolding sizeb
-size-high n h = and-no-right (leb 1 n) (leb n 4096) (lt-leb n 4096 h)
+size-high n h = and-no-right (leb 1 n) (leb n maxStates) (lt-leb n maxStates h)
 
-pub size-right : (n : ℕ) → 1 ≤ n → n ≤ 4096 → sizeb n ≡ true
+pub size-right : (n : ℕ) → 1 ≤ n → n ≤ maxStates → sizeb n ≡ true
 unfolding sizeb
-size-right n h l = and-both (le-leb 1 n h) (le-leb n 4096 l)
+size-right n h l = and-both (le-leb 1 n h) (le-leb n maxStates l)
 
-pub size-of : (n : ℕ) → sizeb n ≡ true → (1 ≤ n) × (n ≤ 4096)
+pub size-of : (n : ℕ) → sizeb n ≡ true → (1 ≤ n) × (n ≤ maxStates)
 unfolding sizeb
-size-of n t = (leb-true 1 n (and-left (leb 1 n) (leb n 4096) t), leb-true n 4096 (and-right (leb 1 n) (leb n 4096) t))
+size-of n t = (leb-true 1 n (and-left (leb 1 n) (leb n maxStates) t), leb-true n maxStates (and-right (leb 1 n) (leb n maxStates) t))
 
 -- ---- a chain of three tests: not refused, or refused at one of them
 three : (a b c : Bool) (i j k : ℕ) (next : Refusal) → (i ≡ 0 → ⊥) → (j ≡ 0 → ⊥) → (k ≡ 0 → ⊥)
@@ -106,7 +107,7 @@ pub state-ready : (p : Partition) (s : ℕ) (t : Refusal) → t ≡ stateRefusal
 unfolding stateRefusal
 state-ready p s t e z =
     let f = passed (stateRefusal p s) t e z in
-    let c = checked-of p true (unless (ltb s (p .n)) (refusal 8 s) none) f in
+    let c = checked-of p true (unless (ltb s (p .n)) (refusal outOfRange s) none) f in
     record { sound = c .sound; known = ltb-true _ _ (one (ltb s (p .n)) 8 s none (λ q. omega arith) (c .rest) .0) }
 
 pub record BlockReady (p : Partition) (b : ℕ) : Type 0 where
@@ -117,7 +118,7 @@ pub block-ready : (p : Partition) (b : ℕ) (t : Refusal) → t ≡ blockRefusal
 unfolding blockRefusal
 block-ready p b t e z =
     let f = passed (blockRefusal p b) t e z in
-    let c = checked-of p true (unless (ltb b (p .count)) (refusal 8 b) none) f in
+    let c = checked-of p true (unless (ltb b (p .count)) (refusal outOfRange b) none) f in
     record { sound = c .sound; known = ltb-true _ _ (one (ltb b (p .count)) 8 b none (λ q. omega arith) (c .rest) .0) }
 
 pub record BlocksReady (p : Partition) (l r : ℕ) : Type 0 where
@@ -129,21 +130,22 @@ pub blocks-ready : (p : Partition) (l r : ℕ) (t : Refusal) → t ≡ blocksRef
 unfolding blocksRefusal
 blocks-ready p l r t e z =
     let f = passed (blocksRefusal p l r) t e z in
-    let c = checked-of p true (unless (ltb l (p .count)) (refusal 8 l) (unless (ltb r (p .count)) (refusal 8 r) none)) f in
-    let a = one (ltb l (p .count)) 8 l (unless (ltb r (p .count)) (refusal 8 r) none) (λ q. omega arith) (c .rest) in
+    let c = checked-of p true (unless (ltb l (p .count)) (refusal outOfRange l) (unless (ltb r (p .count)) (refusal outOfRange r) none)) f
+    in
+    let a = one (ltb l (p .count)) 8 l (unless (ltb r (p .count)) (refusal outOfRange r) none) (λ q. omega arith) (c .rest) in
     let d = one (ltb r (p .count)) 8 r none (λ q. omega arith) (a .1) in
     record { sound = c .sound; left = ltb-true _ _ (a .0); right = ltb-true _ _ (d .0) }
 
 pub record NewReady (p : Partition) : Type 0 where
   pub some : 1 ≤ p .n
-  pub small : p .n ≤ 4096
+  pub small : p .n ≤ maxStates
   pub long : Long p
 
 pub new-ready : (p : Partition) (t : Refusal) → t ≡ newRefusal p → t .number ≡ 0 → NewReady p
 unfolding newRefusal
 new-ready p t e z =
     let f = passed (newRefusal p) t e z in
-    let a = one (sizeb (p .n)) 1 0 (unless (longb p) (refusal 7 0) none) (λ q. omega arith) f in
+    let a = one (sizeb (p .n)) 1 0 (unless (longb p) (refusal tooShort 0) none) (λ q. omega arith) f in
     let b = one (longb p) 7 0 none (λ q. omega arith) (a .1) in
     let s = size-of (p .n) (a .0) in
     record { some = s .0; small = s .1; long = long-of p (b .0) }

@@ -15,7 +15,8 @@ module _ (e : List ℕ) (x v : ℕ) (l : List ℕ) where
   unfolding renumbered
   renumbered-none = stores-idle (λ k. leb x k) (λ k. getD e k 0) (λ _. v) x l (λ s w. lt-leb x s w)
 
-  pub renumbered-more : (k : ℕ) (a : List ℕ) (s : ℕ) → x ≤ k → s ≡ getD e k 0 → a ≡ renumbered e x k v l → set a s v ≡ renumbered e x (k + 1) v l
+  pub renumbered-more : (k : ℕ) (a : List ℕ) (s : ℕ) → x ≤ k → s ≡ getD e k 0 → a ≡ renumbered e x k v l →
+      set a s v ≡ renumbered e x (k + 1) v l
   unfolding renumbered
   renumbered-more k a s h q w =
       ap (λ (y : ℕ). set a y v) q ∙ stores-more (λ k. leb x k) (λ k. getD e k 0) (λ _. v) k l a (le-leb x k h) w

@@ -21,7 +21,8 @@ module _ (l r : ℕ) where
       ⊎-elim
       (λ (e : j ≡ l).
       ap (exchange l r) (exchange-left l r j e)
-      ∙ ⊎-elim (λ (q : r ≡ l). exchange-left l r r q ∙ q ∙ sym e) (λ (m : r ≡ l → ⊥). exchange-right l r r m refl ∙ sym e) (same-or-not r l))
+      ∙ ⊎-elim (λ (q : r ≡ l). exchange-left l r r q ∙ q ∙ sym e) (λ (m : r ≡ l → ⊥). exchange-right l r r m refl ∙ sym e)
+      (same-or-not r l))
       (λ (m : j ≡ l → ⊥).
       ⊎-elim (λ (e : j ≡ r). ap (exchange l r) (exchange-right l r j m e) ∙ exchange-left l r l refl ∙ sym e)
       (λ (m' : j ≡ r → ⊥). ap (exchange l r) (exchange-other l r j m m') ∙ exchange-other l r j m m') (same-or-not j r))
@@ -40,10 +41,12 @@ module _ (l r : ℕ) where
   pub swapped-at : (c : List ℕ) (j : ℕ) → l < length c → r < length c → getD (swapped l r c) j 0 ≡ getD c (exchange l r j) 0
   swapped-at c j hl hr =
       ⊎-elim
-      (λ (e : j ≡ l). ap (λ (x : ℕ). getD (swapped l r c) x 0) e ∙ swapped-i c l r hl hr ∙ ap (λ (x : ℕ). getD c x 0) (sym (exchange-left l r j e)))
+      (λ (e : j ≡ l). ap (λ (x : ℕ). getD (swapped l r c) x 0) e ∙ swapped-i c l r hl hr ∙
+      ap (λ (x : ℕ). getD c x 0) (sym (exchange-left l r j e)))
       (λ (m : j ≡ l → ⊥).
       ⊎-elim
-      (λ (e : j ≡ r). ap (λ (x : ℕ). getD (swapped l r c) x 0) e ∙ swapped-j c l r hl hr ∙ ap (λ (x : ℕ). getD c x 0) (sym (exchange-right l r j m e)))
+      (λ (e : j ≡ r). ap (λ (x : ℕ). getD (swapped l r c) x 0) e ∙ swapped-j c l r hl hr ∙
+      ap (λ (x : ℕ). getD c x 0) (sym (exchange-right l r j m e)))
       (λ (m' : j ≡ r → ⊥). swapped-other c l r hl hr j m m' ∙ ap (λ (x : ℕ). getD c x 0) (sym (exchange-other l r j m m')))
       (same-or-not j r))
       (same-or-not j l)
@@ -83,9 +86,11 @@ module _ (p : Partition) (h : Consistent p) (g : Long p) (l r : ℕ) (hl : l < p
       let B = getD (p .element-to-block) s 0 in
       let e = swap-block s w in
       let x : getD (swap p l r .begin) (getD (swap p l r .element-to-block) s 0) 0 ≡ getD (p .begin) B 0
-      = ap (λ (y : ℕ). getD (swap p l r .begin) y 0) e ∙ swap-begin (exchange l r B) ∙ ap (λ (y : ℕ). getD (p .begin) y 0) (exchange-twice l r B) in
+      = ap (λ (y : ℕ). getD (swap p l r .begin) y 0) e ∙ swap-begin (exchange l r B) ∙
+      ap (λ (y : ℕ). getD (p .begin) y 0) (exchange-twice l r B) in
       let z : getD (swap p l r .end) (getD (swap p l r .element-to-block) s 0) 0 ≡ getD (p .end) B 0
-      = ap (λ (y : ℕ). getD (swap p l r .end) y 0) e ∙ swap-end (exchange l r B) ∙ ap (λ (y : ℕ). getD (p .end) y 0) (exchange-twice l r B) in
+      = ap (λ (y : ℕ). getD (swap p l r .end) y 0) e ∙ swap-end (exchange l r B) ∙
+      ap (λ (y : ℕ). getD (p .end) y 0) (exchange-twice l r B) in
       record {
         known = omega (arith, e, exchange-below l r (p .count) B hl hr (i .known));
         from = omega (arith, x, i .from);
@@ -120,7 +125,12 @@ module _ (p : Partition) (h : Consistent p) (g : Long p) (l r : ℕ) (hl : l < p
       record {
         elements = g .elements;
         element-offset = g .element-offset;
-        element-to-block = omega (arith, g .element-to-block, length-written (p .n) (λ s. exchange l r (getD (p .element-to-block) s 0)) (p .element-to-block) (g .element-to-block));
+        element-to-block = omega (
+          arith,
+          g .element-to-block,
+          length-written (p .n) (λ s. exchange l r (getD (p .element-to-block) s 0))
+              (p .element-to-block) (g .element-to-block),
+        );
         begin = omega (arith, g .begin, length-swapped l r (p .begin));
         marked-split = omega (arith, g .marked-split, length-swapped l r (p .marked-split));
         end = omega (arith, g .end, length-swapped l r (p .end));

@@ -12,8 +12,8 @@ use lib.Dec.{eqb, ltb}
 use Rattle.columns.specs.Columns.{swapped, written}
 use Rattle.columns.proofs.All.{same-or-not, lt-or-le}
 use Rattle.columns.proofs.Lists.{length-written, written-at, written-after}
-use Rattle.partition.specs.Partition.{Partition, Consistent, Long, parts, Sound}
-use Rattle.partition.specs.SwapBlocks.{exchange, renumbered, swap}
+use Rattle.partition.specs.Partition.{Partition, Consistent, Long, Sound}
+use Rattle.partition.specs.SwapBlocks.{Blocks, blocks, blocksOf, withBlocks, exchange, renumbered, swap, swapIn, Swappable}
 use Rattle.partition.proofs.Owned.{owned}
 use Rattle.partition.proofs.Renumbering.{length-renumbered, renumbered-in, renumbered-out}
 
@@ -32,12 +32,14 @@ module _ (l r b : ℕ) where
 
 module _ (p : Partition) (h : Consistent p) where
   -- a state of another block stands at none of a block's places
-  pub not-there : (j s k : ℕ) → j < p .count → (getD (p .element-to-block) s 0 ≡ j → ⊥) → getD (p .begin) j 0 ≤ k → k < getD (p .end) j 0 → getD (p .elements) k 0 ≡ s → ⊥
+  pub not-there : (j s k : ℕ) → j < p .count → (getD (p .element-to-block) s 0 ≡ j → ⊥) → getD (p .begin) j 0 ≤ k → k < getD (p .end) j 0 →
+      getD (p .elements) k 0 ≡ s → ⊥
   not-there j s k w m a z q = m (ap (λ (x : ℕ). getD (p .element-to-block) x 0) (sym q) ∙ owned p h j k w a z)
 
   -- a state of block j stands at its offset, in the stretch
   pub there : (j s : ℕ) → s < p .n → getD (p .element-to-block) s 0 ≡ j
-      → (getD (p .begin) j 0 ≤ getD (p .element-offset) s 0) × ((getD (p .element-offset) s 0 < getD (p .end) j 0) × (getD (p .elements) (getD (p .element-offset) s 0) 0 ≡ s))
+      → (getD (p .begin) j 0 ≤ getD (p .element-offset) s 0) ×
+      ((getD (p .element-offset) s 0 < getD (p .end) j 0) × (getD (p .elements) (getD (p .element-offset) s 0) 0 ≡ s))
   there j s w e =
       let v = h .lies s w in (
         subst (λ (x : ℕ). getD (p .begin) x 0 ≤ getD (p .element-offset) s 0) e (v .from),
@@ -59,11 +61,13 @@ module _ (p : Partition) (h : Consistent p) (g : Long p) (l r : ℕ) (hl : l < p
   unfolding twice
   lt = length-renumbered (p .elements) (getD (p .begin) l 0) r once (getD (p .end) l 0)
 
-  once-out : (s : ℕ) → ((k : ℕ) → getD (p .begin) r 0 ≤ k → k < getD (p .end) r 0 → getD (p .elements) k 0 ≡ s → ⊥) → getD once s 0 ≡ getD (p .element-to-block) s 0
+  once-out : (s : ℕ) → ((k : ℕ) → getD (p .begin) r 0 ≤ k → k < getD (p .end) r 0 → getD (p .elements) k 0 ≡ s → ⊥) →
+      getD once s 0 ≡ getD (p .element-to-block) s 0
   unfolding once
   once-out s = renumbered-out (p .elements) (getD (p .begin) r 0) l (p .element-to-block) (getD (p .end) r 0) s
 
-  twice-out : (s : ℕ) → ((k : ℕ) → getD (p .begin) l 0 ≤ k → k < getD (p .end) l 0 → getD (p .elements) k 0 ≡ s → ⊥) → getD twice s 0 ≡ getD once s 0
+  twice-out : (s : ℕ) → ((k : ℕ) → getD (p .begin) l 0 ≤ k → k < getD (p .end) l 0 → getD (p .elements) k 0 ≡ s → ⊥) →
+      getD twice s 0 ≡ getD once s 0
   unfolding twice
   twice-out s = renumbered-out (p .elements) (getD (p .begin) l 0) r once (getD (p .end) l 0) s
 
@@ -76,14 +80,16 @@ module _ (p : Partition) (h : Consistent p) (g : Long p) (l r : ℕ) (hl : l < p
       ⊎-elim
       (λ (e : getD (p .element-to-block) s 0 ≡ l).
       let t = there p h l s w e in
-      renumbered-in (p .elements) (getD (p .begin) l 0) r once (getD (p .end) l 0) (getD (p .element-offset) s 0) s (t .0) (t .1 .0) (t .1 .1) (omega (arith, lo, g .element-to-block))
+      renumbered-in (p .elements) (getD (p .begin) l 0) r once (getD (p .end) l 0) (getD (p .element-offset) s 0) s (t .0) (t .1 .0)
+      (t .1 .1) (omega (arith, lo, g .element-to-block))
       ∙ sym (exchange-left l r (getD (p .element-to-block) s 0) e))
       (λ (m : getD (p .element-to-block) s 0 ≡ l → ⊥).
       twice-out s (λ k a z q. not-there p h l s k hl m a z q)
       ∙ ⊎-elim
       (λ (e : getD (p .element-to-block) s 0 ≡ r).
       let t = there p h r s w e in
-      renumbered-in (p .elements) (getD (p .begin) r 0) l (p .element-to-block) (getD (p .end) r 0) (getD (p .element-offset) s 0) s (t .0) (t .1 .0) (t .1 .1) (omega (arith, g .element-to-block))
+      renumbered-in (p .elements) (getD (p .begin) r 0) l (p .element-to-block) (getD (p .end) r 0) (getD (p .element-offset) s 0) s (t .0)
+      (t .1 .0) (t .1 .1) (omega (arith, g .element-to-block))
       ∙ sym (exchange-right l r (getD (p .element-to-block) s 0) m e))
       (λ (m' : getD (p .element-to-block) s 0 ≡ r → ⊥).
       once-out s (λ k a z q. not-there p h r s k hr m' a z q) ∙ sym (exchange-other l r (getD (p .element-to-block) s 0) m m'))
@@ -102,32 +108,52 @@ module _ (p : Partition) (h : Consistent p) (g : Long p) (l r : ℕ) (hl : l < p
       (λ (w : p .n ≤ s). high s w ∙ sym (written-after (p .n) to (p .element-to-block) s w)) (lt-or-le s (p .n))
 
   pub renumbers :
-      renumbered (p .elements) (getD (p .begin) l 0) (getD (p .end) l 0) r (renumbered (p .elements) (getD (p .begin) r 0) (getD (p .end) r 0) l (p .element-to-block))
+      renumbered (p .elements) (getD (p .begin) l 0) (getD (p .end) l 0) r
+      (renumbered (p .elements) (getD (p .begin) r 0) (getD (p .end) r 0) l (p .element-to-block))
       ≡ written (p .n) (λ s. exchange l r (getD (p .element-to-block) s 0)) (p .element-to-block)
   unfolding once twice to
-  renumbers = ext-getD 0 twice (written (p .n) to (p .element-to-block)) (lt ∙ lo ∙ sym (length-written (p .n) to (p .element-to-block) (g .element-to-block))) (λ s w. cell s)
+  renumbers = ext-getD 0 twice (written (p .n) to (p .element-to-block))
+      (lt ∙ lo ∙ sym (length-written (p .n) to (p .element-to-block) (g .element-to-block))) (λ s w. cell s)
 
--- what the code has read and left is the definition
-pub swap-done :
-    (p : Partition) → Sound p → (l r : ℕ) → l < p .count → r < p .count
-    → (xl zl xr zr : ℕ) → xl ≡ getD (p .begin) l 0 → zl ≡ getD (p .end) l 0 → xr ≡ getD (p .begin) r 0 → zr ≡ getD (p .end) r 0
-    → (bg sp en b1 b2 : List ℕ) → bg ≡ swapped l r (p .begin) → sp ≡ swapped l r (p .marked-split) → en ≡ swapped l r (p .end)
-    → b1 ≡ renumbered (p .elements) xr zr l (p .element-to-block) → b2 ≡ renumbered (p .elements) xl zl r b1
-    → parts (p .elements) (p .element-offset) b2 bg sp en (p .n) (p .count) ≡ swap p l r
-unfolding swap
-swap-done p s l r hl hr xl zl xr zr e1 e2 e3 e4 bg sp en b1 b2 q1 q2 q3 q4 q5 =
-    let q : b2 ≡ written (p .n) (λ s. exchange l r (getD (p .element-to-block) s 0)) (p .element-to-block) = rw (q5, q4, e1, e2, e3, e4) (renumbers p (s .consistent) (s .long) l r hl hr) in
-    rw (q, q1, q2, q3)
-
--- what `renumber` asks of a block's stretch
-pub swap-reads :
-    (p : Partition) → Sound p → (b v x z : ℕ) → b < p .count → v < p .count → x ≡ getD (p .begin) b 0 → z ≡ getD (p .end) b 0
-    → (l : List ℕ) → length l ≡ length (p .element-to-block)
-    → ((x ≤ z) × (z ≤ length (p .elements)) × (v < 65536)) × ((k : ℕ) → k < z → getD (p .elements) k 0 < length l)
-swap-reads p s b v x z w wv ex ez l el =
+-- two blocks of a sound partition can be exchanged
+pub swappable : (p : Partition) → Sound p → (b : ℕ) → b < p .count → Swappable (p .elements) (blocksOf p) b
+swappable p s b w =
     let h = s .consistent in
     let g = s .long in
-    let i = h .bounds b w in (
-      (omega (arith, i .some), omega (arith, i .most, g .elements), omega (arith, h .most, s .small)),
-      λ k m. omega (arith, h .order .below k (omega (arith, i .most)), g .element-to-block),
-    )
+    let i = h .bounds b w in
+    record {
+      begin = omega (arith, h .most, g .begin);
+      marked-split = omega (arith, h .most, g .marked-split);
+      end = omega (arith, h .most, g .end);
+      small = omega (arith, h .most, s .small);
+      from = omega (arith, i .some);
+      to = omega (arith, i .most, g .elements);
+      states = λ k m. omega (arith, h .order .below k (omega (arith, m, i .most)), g .element-to-block);
+    }
+
+-- a partition's columns with two blocks exchanged are the partition with the two exchanged
+pub swap-done : (p : Partition) → Sound p → (l r : ℕ) → l < p .count → r < p .count
+    → (c : Blocks) → c ≡ swapIn (p .elements) (blocksOf p) l r → withBlocks p c ≡ swap p l r
+unfolding swap swapIn
+swap-done p s l r hl hr c e =
+    ap (withBlocks p) e ∙
+    ap (λ (x : List ℕ). withBlocks p (blocks x (swapped l r (p .begin)) (swapped l r (p .marked-split)) (swapped l r (p .end))))
+    (renumbers p (s .consistent) (s .long) l r hl hr)
+
+-- ---- the exchange, by what the code has read and left
+module _ (e : List ℕ) (c : Blocks) where
+  pub swap-columns :
+      (l r xl zl xr zr : ℕ)
+      → xl ≡ getD (c .begin) l 0 → zl ≡ getD (c .end) l 0 → xr ≡ getD (c .begin) r 0 → zr ≡ getD (c .end) r 0
+      → (bg sp en b1 b2 : List ℕ) → bg ≡ swapped l r (c .begin) → sp ≡ swapped l r (c .marked-split) → en ≡ swapped l r (c .end)
+      → b1 ≡ renumbered e xr zr l (c .element-to-block) → b2 ≡ renumbered e xl zl r b1 → blocks b2 bg sp en ≡ swapIn e c l r
+  unfolding swapIn
+  swap-columns l r xl zl xr zr e1 e2 e3 e4 bg sp en b1 b2 q1 q2 q3 q4 q5 = rw (q5, q4, q3, q2, q1, e1, e2, e3, e4)
+
+  -- what `renumber` asks of a block's stretch
+  pub swap-reads :
+      (b v x z : ℕ) → Swappable e c b → v < 65536 → x ≡ getD (c .begin) b 0 → z ≡ getD (c .end) b 0
+      → (l : List ℕ) → length l ≡ length (c .element-to-block)
+      → ((x ≤ z) × (z ≤ length e) × (v < 65536)) × ((k : ℕ) → k < z → getD e k 0 < length l)
+  swap-reads b v x z s w ex ez l el =
+      ((omega (arith, s .from), omega (arith, s .to), w), λ k m. omega (arith, s .states k (omega (arith, m)), el))

@@ -8,14 +8,29 @@ use lib.ListN.{getD}
 use Rattle.columns.specs.Counting.{sum}
 use Rattle.columns.specs.Inverse.{Inverse}
 use Rattle.columns.proofs.All.{lt-or-le, top-or-below}
-use Rattle.columns.proofs.Sums.{hit, sum-mono, sum-cong, sum-one, sum-swap, hit-same, hit-other, hits-one, ins, ins-in, ins-before, ins-after, sum-ins}
+use Rattle.columns.proofs.Sums.{
+  hit,
+  sum-mono,
+  sum-cong,
+  sum-one,
+  sum-swap,
+  hit-same,
+  hit-other,
+  hits-one,
+  ins,
+  ins-in,
+  ins-before,
+  ins-after,
+  sum-ins,
+}
 use Rattle.partition.specs.Partition.{Partition, Consistent, Within, Lies, lengths}
 use Rattle.partition.proofs.Owned.{lengths-sum}
 
 module _ (q : Partition) (order : Inverse (q .elements) (q .element-offset) (q .n))
     (bounds : (b : ℕ) → b < q .count → Within (getD (q .begin) b 0) (getD (q .marked-split) b 0) (getD (q .end) b 0) (q .n))
     (lies : (s : ℕ) → s < q .n → Lies q s)
-    (own : (b k : ℕ) → b < q .count → getD (q .begin) b 0 ≤ k → k < getD (q .end) b 0 → getD (q .element-to-block) (getD (q .elements) k 0) 0 ≡ b) where
+    (own : (b k : ℕ) → b < q .count → getD (q .begin) b 0 ≤ k → k < getD (q .end) b 0 →
+    getD (q .element-to-block) (getD (q .elements) k 0) 0 ≡ b) where
   at : ℕ → ℕ
   at k = getD (q .element-to-block) (getD (q .elements) k 0) 0
 

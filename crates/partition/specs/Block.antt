@@ -4,6 +4,7 @@ use mathlib.Core.Bool.{Bool, _&&_}
 use mathlib.Core.List.{List, [], _∷_}
 use lib.ListN.{getD}
 use lib.Dec.{ltb, leb}
+use Rattle.columns.specs.Limits.{inconsistent, maxStates, outOfRange}
 use Rattle.columns.specs.declared.answers.Refusal.{Refusal}
 use Rattle.columns.specs.Answers.{Said, done, refused, bit, refusal, none, unless, answering}
 use Rattle.partition.specs.Partition.{withinb}
@@ -28,17 +29,18 @@ saidBlock a = saidBlockOutcome (a .outcome)
 
 -- a new block from begin to end with this split; 8 at end where the bounds are broken
 unfoldable pub newBlock : ℕ → ℕ → ℕ → Said
-unfolding answering
-newBlock begin split end = answering (unless (ltb begin end && leb end 4096) (refusal 8 end) none) (begin ∷ split ∷ end ∷ [])
+unfolding answering withinb
+newBlock begin split end =
+    answering (unless (withinb begin split end maxStates) (refusal outOfRange end) none) (begin ∷ split ∷ end ∷ [])
 
 -- 14 where the bounds of a block given alone are broken
 unfoldable pub soundb : Block → Bool
 unfolding withinb
-soundb b = withinb (b .begin) (b .«marked_split») (b .end) 4096
+soundb b = withinb (b .begin) (b .«marked_split») (b .end) maxStates
 
 unfoldable pub brokenBlock : Block → Refusal
 unfolding soundb
-brokenBlock b = unless (soundb b) (refusal 14 0) none
+brokenBlock b = unless (soundb b) (refusal inconsistent 0) none
 
 unfoldable pub len : Block → Said
 unfolding answering brokenBlock

@@ -2,6 +2,7 @@
 use Prim.Native.Nat.{ℕ}
 use mathlib.Core.List.{List, [], _∷_}
 use lib.ListN.{set}
+use Rattle.columns.specs.Limits.{tooShort, wrongStates}
 use Rattle.columns.specs.declared.answers.Refusal.{Refusal}
 use Rattle.columns.specs.Answers.{Said, refusal, none, unless, leaving}
 use Rattle.columns.specs.Columns.{written, wiped}
@@ -25,7 +26,7 @@ fresh p =
 -- 1, 7
 unfoldable pub newRefusal : Partition → Refusal
 unfolding sizeb longb
-newRefusal p = unless (sizeb (p .n)) (refusal 1 0) (unless (longb p) (refusal 7 0) none)
+newRefusal p = unless (sizeb (p .n)) (refusal wrongStates 0) (unless (longb p) (refusal tooShort 0) none)
 
 unfoldable pub newPartition : Partition → Said × Partition
 unfolding leaving newRefusal fresh

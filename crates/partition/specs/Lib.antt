@@ -5,3 +5,4 @@ pub mod Readers
 pub mod Mark
 pub mod SwapBlocks
 pub mod Fresh
+pub mod Lent

@@ -1,34 +1,60 @@
 -- What `mark_element` says and leaves.
-use Prim.Native.Nat.{ℕ, _-_}
+use Prim.Native.Nat.{ℕ, _-_, _≤_, _<_}
 use mathlib.Core.Bool.{cond}
-use mathlib.Core.List.{[]}
-use lib.ListN.{getD, set}
+use mathlib.Core.List.{List, []}
+use lib.Dec.{ltb}
+use lib.ListN.{length, getD, set}
 use Rattle.columns.specs.Answers.{Said, leaving}
 use Rattle.columns.specs.Columns.{swapped}
 use Rattle.columns.specs.Inverse.{swappedInverse}
-use Rattle.partition.specs.Partition.{Partition}
+use Rattle.partition.specs.Partition.{Partition, parts}
 use Rattle.partition.specs.Checks.{stateRefusal}
 use Rattle.partition.specs.Readers.{unmarkedb}
 
--- state s, unmarked, swaps places with the state at marked_split - 1, and marked_split falls by one
-unfoldable pub moved : Partition → ℕ → Partition
+-- the columns that marking a state changes
+pub record Marks : Type 0 where
+  pub elements : List ℕ
+  pub element-offset : List ℕ
+  pub marked-split : List ℕ
+
+abbrev pub marks : List ℕ → List ℕ → List ℕ → Marks
+marks e o m = record { elements = e; element-offset = o; marked-split = m }
+
+-- state s, unmarked, swaps places with the state at marked_split - 1, and marked_split falls by one; `home` has the block of each state
+unfoldable pub movedIn : List ℕ → Marks → ℕ → Marks
 unfolding swapped swappedInverse
-moved p s =
-    let b = getD (p .element-to-block) s 0 in
-    let o = getD (p .element-offset) s 0 in
-    let m = getD (p .marked-split) b 0 - 1 in
-    record {
-      elements = swapped o m (p .elements);
-      element-offset = swappedInverse o m (p .elements) (p .element-offset);
-      element-to-block = p .element-to-block;
-      begin = p .begin;
-      marked-split = set (p .marked-split) b m;
-      end = p .end;
-      n = p .n;
-      count = p .count;
-    }
+movedIn home c s =
+    let b = getD home s 0 in
+    let o = getD (c .element-offset) s 0 in
+    let m = getD (c .marked-split) b 0 - 1 in
+    marks (swapped o m (c .elements)) (swappedInverse o m (c .elements) (c .element-offset)) (set (c .marked-split) b m)
 
 -- a marked state: no change
+unfoldable pub markIn : List ℕ → Marks → ℕ → Marks
+unfolding movedIn
+markIn home c s = cond (ltb (getD (c .element-offset) s 0) (getD (c .marked-split) (getD home s 0) 0)) (movedIn home c s) c
+
+-- what that asks of the columns
+pub record Markable (home : List ℕ) (c : Marks) (s : ℕ) : Type 0 where
+  pub known : s < length home
+  pub place : s < length (c .element-offset)
+  pub block : getD home s 0 < length (c .marked-split)
+  pub split : getD (c .marked-split) (getD home s 0) 0 ≤ length (c .elements)
+  pub states : (k : ℕ) → k < getD (c .marked-split) (getD home s 0) 0 → getD (c .elements) k 0 < length (c .element-offset)
+
+-- ---- the same of a partition
+abbrev pub marksOf : Partition → Marks
+marksOf p = marks (p .elements) (p .element-offset) (p .marked-split)
+
+-- the partition with other ones
+abbrev pub withMarks : Partition → Marks → Partition
+withMarks p c =
+    parts (c .elements) (c .element-offset) (p .element-to-block) (p .begin) (c .marked-split) (p .end) (p .n) (p .count)
+
+unfoldable pub moved : Partition → ℕ → Partition
+unfolding movedIn
+moved p s = withMarks p (movedIn (p .element-to-block) (marksOf p) s)
+
 unfoldable pub mark : Partition → ℕ → Partition
 unfolding unmarkedb moved
 mark p s = cond (unmarkedb p s) (moved p s) p

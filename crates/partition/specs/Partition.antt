@@ -5,6 +5,7 @@ use mathlib.Core.List.{List}
 use mathlib.Core.Path.{_≡_}
 use lib.ListN.{length, getD}
 use lib.Dec.{ltb, leb, eqb}
+use Rattle.columns.specs.Limits.{maxStates}
 use Rattle.columns.specs.Tests.{all}
 use Rattle.columns.specs.Inverse.{Inverse, inverseb}
 
@@ -63,7 +64,7 @@ pub record Long (p : Partition) : Type 0 where
 
 -- what a call may go by once the columns are checked
 pub record Sound (p : Partition) : Type 0 where
-  pub small : p .n ≤ 4096
+  pub small : p .n ≤ maxStates
   pub long : Long p
   pub consistent : Consistent p
 

@@ -10,6 +10,9 @@ use columns::answers::flag;
 use columns::answers::number;
 use columns::answers::refusing_flag;
 use columns::answers::refusing_number;
+use columns::limits::INCONSISTENT;
+use columns::limits::MAX_STATES;
+use columns::limits::OUT_OF_RANGE;
 
 pub struct Block {
     pub begin: u16,
@@ -31,18 +34,15 @@ pub struct BlockAnswer {
 fn bounded(begin: u16, marked_split: u16, end: u16) -> BlockAnswer
     ensures { λ r. ⌜ saidBlock r ≡ newBlock begin «marked_split» end ⌝ }
 {
-    if end <= begin {
+    if !within(
+        begin as usize,
+        marked_split as usize,
+        end as usize,
+        MAX_STATES,
+    ) {
         return BlockAnswer {
             outcome: BlockOutcome::Refused(Refusal {
-                number: 8,
-                place: end as u64,
-            }),
-        };
-    }
-    if 4096 < end {
-        return BlockAnswer {
-            outcome: BlockOutcome::Refused(Refusal {
-                number: 8,
+                number: OUT_OF_RANGE,
                 place: end as u64,
             }),
         };
@@ -79,7 +79,7 @@ impl Block {
             self.begin as usize,
             self.marked_split as usize,
             self.end as usize,
-            4096,
+            MAX_STATES,
         )
     }
 
@@ -88,7 +88,7 @@ impl Block {
     {
         if !self.sound() {
             return refusing_number(Refusal {
-                number: 14,
+                number: INCONSISTENT,
                 place: 0,
             });
         }
@@ -102,7 +102,7 @@ impl Block {
     {
         if !self.sound() {
             return refusing_number(Refusal {
-                number: 14,
+                number: INCONSISTENT,
                 place: 0,
             });
         }
@@ -116,7 +116,7 @@ impl Block {
     {
         if !self.sound() {
             return refusing_flag(Refusal {
-                number: 14,
+                number: INCONSISTENT,
                 place: 0,
             });
         }
@@ -128,7 +128,7 @@ impl Block {
     {
         if !self.sound() {
             return refusing_flag(Refusal {
-                number: 14,
+                number: INCONSISTENT,
                 place: 0,
             });
         }

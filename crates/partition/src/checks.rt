@@ -6,16 +6,25 @@ ghost use lib.ListN.{length};
 ghost use Rattle.columns.specs.Answers.{refusal, none, unless};
 ghost use Rattle.columns.specs.Inverse.{inverseb};
 ghost use Rattle.partition.specs.Fresh.{newRefusal};
-ghost use Rattle.partition.specs.Partition.{parts, withinb, insideb, blockAt, blocksb, lieAt, liesb, lengths, consistentb, sixLong};
+ghost use Rattle.partition.specs.Partition.{withinb, insideb, blockAt, blocksb, lieAt, liesb, lengths, consistentb, sixLong};
 ghost use Rattle.partition.specs.Checks.{checked, partitionRefusal, stateRefusal, blockRefusal, blocksRefusal};
+ghost use Rattle.columns.specs.Lent.{was};
+ghost use Rattle.partition.specs.Lent.{before};
+ghost use Rattle.columns.specs.Limits.{maxStates};
 use columns::answers::Refusal;
 use columns::answers::refuse;
 use columns::cells::at;
+use columns::limits::INCONSISTENT;
+use columns::limits::MAX_STATES;
+use columns::limits::NONE;
+use columns::limits::OUT_OF_RANGE;
+use columns::limits::TOO_SHORT;
+use columns::limits::WRONG_STATES;
 
 // Whether each of the first n cells of a is below n and has its own place in b.
-fn inverse_ok(a: &[u16], b: &[u16], n: usize) -> bool
+fn inverse_ok(n: usize, a: &[u16], b: &[u16]) -> bool
     requires { ⌜ (n ≤ length (now a)) × (n ≤ length (now b)) ⌝ }
-    ensures { λ r. ⌜ r ≡ inverseb (now (a .entry)) (now (b .entry)) n ⌝ }
+    ensures { λ r. ⌜ r ≡ inverseb (was a) (was b) n ⌝ }
 {
     let mut k = 0;
     while k < n {
@@ -63,20 +72,20 @@ fn inside(x: usize, o: usize, z: usize) -> bool
     true
 }
 
-fn block_at(begin: &[u16], marked_split: &[u16], end: &[u16], n: usize, b: usize) -> bool
+fn block_at(n: usize, begin: &[u16], marked_split: &[u16], end: &[u16], b: usize) -> bool
     requires { ⌜ (b < length (now begin)) × (b < length (now «marked_split»)) × (b < length (now end)) ⌝ }
-    ensures { λ r. ⌜ r ≡ blockAt (now (begin .entry)) (now («marked_split» .entry)) (now (end .entry)) n b ⌝ }
+    ensures { λ r. ⌜ r ≡ blockAt (was begin) (was «marked_split») (was end) n b ⌝ }
 {
     within(at(begin, b), at(marked_split, b), at(end, b), n)
 }
 
-fn blocks_ok(begin: &[u16], marked_split: &[u16], end: &[u16], n: usize, count: usize) -> bool
+fn blocks_ok(n: usize, count: usize, begin: &[u16], marked_split: &[u16], end: &[u16]) -> bool
     requires { ⌜ (count ≤ length (now begin)) × (count ≤ length (now «marked_split»)) × (count ≤ length (now end)) ⌝ }
-    ensures { λ r. ⌜ r ≡ blocksb (now (begin .entry)) (now («marked_split» .entry)) (now (end .entry)) n count ⌝ }
+    ensures { λ r. ⌜ r ≡ blocksb (was begin) (was «marked_split») (was end) n count ⌝ }
 {
     let mut b = 0;
     while b < count {
-        if !block_at(begin, marked_split, end, n, b) {
+        if !block_at(n, begin, marked_split, end, b) {
             return false;
         }
         b += 1;
@@ -86,16 +95,16 @@ fn blocks_ok(begin: &[u16], marked_split: &[u16], end: &[u16], n: usize, count: 
 
 // Whether state s's place lies in its block.
 fn lie_at(
+    count: usize,
     element_offset: &[u16],
     element_to_block: &[u16],
     begin: &[u16],
     end: &[u16],
-    count: usize,
     s: usize,
 ) -> bool
     requires { ⌜ (s < length (now «element_offset»)) × (s < length (now «element_to_block»)) ⌝ }
     requires { ⌜ (count ≤ length (now begin)) × (count ≤ length (now end)) ⌝ }
-    ensures { λ r. ⌜ r ≡ lieAt (now («element_offset» .entry)) (now («element_to_block» .entry)) (now (begin .entry)) (now (end .entry)) count s ⌝ }
+    ensures { λ r. ⌜ r ≡ lieAt (was «element_offset») (was «element_to_block») (was begin) (was end) count s ⌝ }
 {
     let b = at(element_to_block, s);
     if count <= b {
@@ -105,20 +114,20 @@ fn lie_at(
 }
 
 fn lies_ok(
+    n: usize,
+    count: usize,
     element_offset: &[u16],
     element_to_block: &[u16],
     begin: &[u16],
     end: &[u16],
-    n: usize,
-    count: usize,
 ) -> bool
     requires { ⌜ (n ≤ length (now «element_offset»)) × (n ≤ length (now «element_to_block»)) ⌝ }
     requires { ⌜ (count ≤ length (now begin)) × (count ≤ length (now end)) ⌝ }
-    ensures { λ r. ⌜ r ≡ liesb (now («element_offset» .entry)) (now («element_to_block» .entry)) (now (begin .entry)) (now (end .entry)) n count ⌝ }
+    ensures { λ r. ⌜ r ≡ liesb (was «element_offset») (was «element_to_block») (was begin) (was end) n count ⌝ }
 {
     let mut s = 0;
     while s < n {
-        if !lie_at(element_offset, element_to_block, begin, end, count, s) {
+        if !lie_at(count, element_offset, element_to_block, begin, end, s) {
             return false;
         }
         s += 1;
@@ -127,9 +136,9 @@ fn lies_ok(
 }
 
 // The lengths of the first count blocks, added up. Each is as if from 0 where its end is before its begin.
-fn length_sum(begin: &[u16], end: &[u16], count: usize) -> usize
+fn length_sum(count: usize, begin: &[u16], end: &[u16]) -> usize
     requires { ⌜ (count ≤ length (now begin)) × (count ≤ length (now end)) × (count ≤ 65535) ⌝ }
-    ensures { λ r. ⌜ r ≡ lengths (now (begin .entry)) (now (end .entry)) count ⌝ }
+    ensures { λ r. ⌜ r ≡ lengths (was begin) (was end) count ⌝ }
 {
     let mut sum = 0;
     let mut b = 0;
@@ -146,18 +155,18 @@ fn length_sum(begin: &[u16], end: &[u16], count: usize) -> usize
 
 // Whether the six columns hold a partition of n states into count blocks.
 pub fn consistent(
+    n: usize,
+    count: usize,
     elements: &[u16],
     element_offset: &[u16],
     element_to_block: &[u16],
     begin: &[u16],
     marked_split: &[u16],
     end: &[u16],
-    n: usize,
-    count: usize,
 ) -> bool
     requires { ⌜ (n ≤ length (now elements)) × (n ≤ length (now «element_offset»)) × (n ≤ length (now «element_to_block»)) ⌝ }
-    requires { ⌜ (n ≤ length (now begin)) × (n ≤ length (now «marked_split»)) × (n ≤ length (now end)) × (n ≤ 4096) ⌝ }
-    ensures { λ r. ⌜ r ≡ consistentb (parts (now (elements .entry)) (now («element_offset» .entry)) (now («element_to_block» .entry)) (now (begin .entry)) (now («marked_split» .entry)) (now (end .entry)) n count) ⌝ }
+    requires { ⌜ (n ≤ length (now begin)) × (n ≤ length (now «marked_split»)) × (n ≤ length (now end)) × (n ≤ maxStates) ⌝ }
+    ensures { λ r. ⌜ r ≡ consistentb (before elements «element_offset» «element_to_block» begin «marked_split» end n count) ⌝ }
 {
     if count < 1 {
         return false;
@@ -165,16 +174,16 @@ pub fn consistent(
     if n < count {
         return false;
     }
-    if !inverse_ok(elements, element_offset, n) {
+    if !inverse_ok(n, elements, element_offset) {
         return false;
     }
-    if !blocks_ok(begin, marked_split, end, n, count) {
+    if !blocks_ok(n, count, begin, marked_split, end) {
         return false;
     }
-    if !lies_ok(element_offset, element_to_block, begin, end, n, count) {
+    if !lies_ok(n, count, element_offset, element_to_block, begin, end) {
         return false;
     }
-    let sum = length_sum(begin, end, count);
+    let sum = length_sum(count, begin, end);
     if sum == n { true } else { false }
 }
 
@@ -202,21 +211,21 @@ pub fn long(n: usize, a: usize, b: usize, c: usize, d: usize, e: usize, f: usize
 
 // The refusal of a call that makes a partition of n states.
 pub fn new_refusal(
+    n: usize,
     elements: &[u16],
     element_offset: &[u16],
     element_to_block: &[u16],
     begin: &[u16],
     marked_split: &[u16],
     end: &[u16],
-    n: usize,
 ) -> Refusal
-    ensures { λ r. ⌜ r ≡ newRefusal (parts (now (elements .entry)) (now («element_offset» .entry)) (now («element_to_block» .entry)) (now (begin .entry)) (now («marked_split» .entry)) (now (end .entry)) n 1) ⌝ }
+    ensures { λ r. ⌜ r ≡ newRefusal (before elements «element_offset» «element_to_block» begin «marked_split» end n 1) ⌝ }
 {
     if n < 1 {
-        return refuse(1, 0);
+        return refuse(WRONG_STATES, 0);
     }
-    if 4096 < n {
-        return refuse(1, 0);
+    if MAX_STATES < n {
+        return refuse(WRONG_STATES, 0);
     }
     if !long(
         n,
@@ -227,30 +236,30 @@ pub fn new_refusal(
         marked_split.len(),
         end.len(),
     ) {
-        return refuse(7, 0);
+        return refuse(TOO_SHORT, 0);
     }
-    refuse(0, 0)
+    refuse(NONE, 0)
 }
 
 // 1, 7 or 14, the first that is due; `room` says whether the call's other slices are long enough.
 pub fn check(
+    n: usize,
+    count: usize,
     elements: &[u16],
     element_offset: &[u16],
     element_to_block: &[u16],
     begin: &[u16],
     marked_split: &[u16],
     end: &[u16],
-    n: usize,
-    count: usize,
     room: bool,
 ) -> Refusal
-    ensures { λ r. ⌜ r ≡ checked (parts (now (elements .entry)) (now («element_offset» .entry)) (now («element_to_block» .entry)) (now (begin .entry)) (now («marked_split» .entry)) (now (end .entry)) n count) room none ⌝ }
+    ensures { λ r. ⌜ r ≡ checked (before elements «element_offset» «element_to_block» begin «marked_split» end n count) room none ⌝ }
 {
     if n < 1 {
-        return refuse(1, 0);
+        return refuse(WRONG_STATES, 0);
     }
-    if 4096 < n {
-        return refuse(1, 0);
+    if MAX_STATES < n {
+        return refuse(WRONG_STATES, 0);
     }
     if !long(
         n,
@@ -261,49 +270,49 @@ pub fn check(
         marked_split.len(),
         end.len(),
     ) {
-        return refuse(7, 0);
+        return refuse(TOO_SHORT, 0);
     }
     if !room {
-        return refuse(7, 0);
+        return refuse(TOO_SHORT, 0);
     }
     if !consistent(
+        n,
+        count,
         elements,
         element_offset,
         element_to_block,
         begin,
         marked_split,
         end,
-        n,
-        count,
     ) {
-        return refuse(14, 0);
+        return refuse(INCONSISTENT, 0);
     }
-    refuse(0, 0)
+    refuse(NONE, 0)
 }
 
 // The refusal of a call with the partition and a state.
 pub fn state_refusal(
+    n: usize,
+    count: usize,
     elements: &[u16],
     element_offset: &[u16],
     element_to_block: &[u16],
     begin: &[u16],
     marked_split: &[u16],
     end: &[u16],
-    n: usize,
-    count: usize,
     s: usize,
 ) -> Refusal
-    ensures { λ r. ⌜ r ≡ stateRefusal (parts (now (elements .entry)) (now («element_offset» .entry)) (now («element_to_block» .entry)) (now (begin .entry)) (now («marked_split» .entry)) (now (end .entry)) n count) s ⌝ }
+    ensures { λ r. ⌜ r ≡ stateRefusal (before elements «element_offset» «element_to_block» begin «marked_split» end n count) s ⌝ }
 {
     let t = check(
+        n,
+        count,
         elements,
         element_offset,
         element_to_block,
         begin,
         marked_split,
         end,
-        n,
-        count,
         true,
     );
     let number = t.number;
@@ -311,34 +320,34 @@ pub fn state_refusal(
         return t;
     }
     if n <= s {
-        return refuse(8, s as u64);
+        return refuse(OUT_OF_RANGE, s as u64);
     }
-    refuse(0, 0)
+    refuse(NONE, 0)
 }
 
 // The refusal of a call with the partition and a block.
 pub fn block_refusal(
+    n: usize,
+    count: usize,
     elements: &[u16],
     element_offset: &[u16],
     element_to_block: &[u16],
     begin: &[u16],
     marked_split: &[u16],
     end: &[u16],
-    n: usize,
-    count: usize,
     b: usize,
 ) -> Refusal
-    ensures { λ r. ⌜ r ≡ blockRefusal (parts (now (elements .entry)) (now («element_offset» .entry)) (now («element_to_block» .entry)) (now (begin .entry)) (now («marked_split» .entry)) (now (end .entry)) n count) b ⌝ }
+    ensures { λ r. ⌜ r ≡ blockRefusal (before elements «element_offset» «element_to_block» begin «marked_split» end n count) b ⌝ }
 {
     let t = check(
+        n,
+        count,
         elements,
         element_offset,
         element_to_block,
         begin,
         marked_split,
         end,
-        n,
-        count,
         true,
     );
     let number = t.number;
@@ -346,35 +355,35 @@ pub fn block_refusal(
         return t;
     }
     if count <= b {
-        return refuse(8, b as u64);
+        return refuse(OUT_OF_RANGE, b as u64);
     }
-    refuse(0, 0)
+    refuse(NONE, 0)
 }
 
 // The refusal of a call with the partition and two blocks.
 pub fn blocks_refusal(
+    n: usize,
+    count: usize,
     elements: &[u16],
     element_offset: &[u16],
     element_to_block: &[u16],
     begin: &[u16],
     marked_split: &[u16],
     end: &[u16],
-    n: usize,
-    count: usize,
     l: usize,
     r: usize,
 ) -> Refusal
-    ensures { λ t. ⌜ t ≡ blocksRefusal (parts (now (elements .entry)) (now («element_offset» .entry)) (now («element_to_block» .entry)) (now (begin .entry)) (now («marked_split» .entry)) (now (end .entry)) n count) l r ⌝ }
+    ensures { λ t. ⌜ t ≡ blocksRefusal (before elements «element_offset» «element_to_block» begin «marked_split» end n count) l r ⌝ }
 {
     let t = check(
+        n,
+        count,
         elements,
         element_offset,
         element_to_block,
         begin,
         marked_split,
         end,
-        n,
-        count,
         true,
     );
     let number = t.number;
@@ -382,10 +391,10 @@ pub fn blocks_refusal(
         return t;
     }
     if count <= l {
-        return refuse(8, l as u64);
+        return refuse(OUT_OF_RANGE, l as u64);
     }
     if count <= r {
-        return refuse(8, r as u64);
+        return refuse(OUT_OF_RANGE, r as u64);
     }
-    refuse(0, 0)
+    refuse(NONE, 0)
 }

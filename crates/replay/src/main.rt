@@ -1,65 +1,127 @@
 // Reads cases from standard input, one a line, and writes one answer line for each.
-mod division_cases;
-mod split_cases;
+mod answer;
+mod line;
 
-use cases::block_cases;
-use cases::display_cases;
-use cases::partition_cases;
-use host_cases::swapping_cases;
-use host_cases::unmarking_cases;
-use lines::input;
-use lines::input::Buffer;
-use lines::input::Input;
-use lines::lines::Answered;
-use lines::lines::Line;
-use lines::lines::bad_case;
-use lines::lines::next_line;
-use lines::names;
-use lines::output;
-use signature_cases::subset_cases;
-use signature_cases::tau_hat_cases;
-use table_cases::transition_cases;
+use crate::answer::answer;
+use crate::line::next_line;
+use libc::STDERR_FILENO;
+use replay_lines::input;
+use replay_lines::input::Buffer;
+use replay_lines::input::Input;
+use replay_lines::output::flush;
+use replay_slots::case::Bytes;
+use replay_slots::case::Narrow;
+use replay_slots::case::Wide;
+use replay_slots::slots::Slot;
+use replay_slots::slots::Text;
 
-// The rest of a line, and its answer.
-fn replay(line: Line, buffer: &mut Buffer, out: &mut Buffer, used: usize) -> Answered {
-    match names::family(line.operation) {
-        names::BLOCKS => block_cases::replay(line, buffer, out, used),
-        names::PARTITIONS => partition_cases::replay(line, buffer, out, used),
-        names::TEXTS => display_cases::replay(line, buffer, out, used),
-        names::DIVISIONS => division_cases::replay(line, buffer, out, used),
-        names::SPLITS => split_cases::replay(line, buffer, out, used),
-        names::UNMARKINGS => unmarking_cases::replay(line, buffer, out, used),
-        names::SWAPPINGS => swapping_cases::replay(line, buffer, out, used),
-        names::TABLES => table_cases::replay(line, buffer, out, used),
-        names::TRANSITIONS => transition_cases::replay(line, buffer, out, used),
-        names::CLOSURES => closure_cases::replay(line, buffer, out, used),
-        names::ORDERS => order_cases::replay(line, buffer, out, used),
-        names::SIGNATURES => signature_cases::replay(line, buffer, out, used),
-        names::BRANCHINGS => branching_cases::replay(line, buffer, out, used),
-        names::SORTED => sorted_cases::replay(line, buffer, out, used),
-        names::SUBSETS => subset_cases::replay(line, buffer, out, used),
-        names::TAU_HATS => tau_hat_cases::replay(line, buffer, out, used),
-        _ => bad_case(line.input.skip_line(buffer), out, used),
-    }
+// How many bytes are kept before they are written, at the end of a line.
+const MANY: usize = 32768;
+
+// The output at the end of a line.
+struct Output {
+    good: bool,
+    used: usize,
 }
 
-// All lines.
-fn replay_all(buffer: &mut Buffer, out: &mut Buffer) {
+// Writes what is not written yet if it is much.
+fn written(out: &[u8], used: usize) -> Output {
+    if used < MANY {
+        return Output { good: true, used };
+    }
+    let good = flush(out, used);
+    Output { good, used: 0 }
+}
+
+// All lines, as long as the answers can be written; whether they are.
+fn replay_all(
+    buffer: &mut Buffer,
+    out: &mut Buffer,
+    narrow: &mut Narrow,
+    wide: &mut Wide,
+    bytes: &mut Bytes,
+    text: &mut Text,
+    a: &mut Slot,
+    b: &mut Slot,
+    c: &mut Slot,
+    d: &mut Slot,
+    e: &mut Slot,
+    f: &mut Slot,
+    g: &mut Slot,
+    h: &mut Slot,
+    i: &mut Slot,
+) -> bool {
     let first = Input::new(buffer);
     let mut line = next_line(first, buffer);
-    let mut used = 0;
+    let mut output = Output {
+        good: true,
+        used: 0,
+    };
     let mut turns = input::TURNS;
-    while 0 < turns && line.operation != names::END {
-        let answered = replay(line, buffer, out, used);
-        line = next_line(answered.rest, buffer);
-        used = answered.used;
+    while 0 < turns && !line.ended {
         turns -= 1;
+        let answered = answer(
+            line,
+            buffer,
+            narrow,
+            wide,
+            bytes,
+            text,
+            a,
+            b,
+            c,
+            d,
+            e,
+            f,
+            g,
+            h,
+            i,
+            out,
+            output.used,
+        );
+        output = written(&*out, answered.used);
+        if !output.good {
+            return false;
+        }
+        line = next_line(answered.rest, buffer);
     }
-    output::flush(out, used);
+    flush(out, output.used)
 }
 
 fn main() {
     let mut buffer = io::large_buffer();
     let mut out = io::large_buffer();
-    replay_all(&mut buffer, &mut out);
+    let mut narrow = [0u16; 1400000];
+    let mut wide = [0u32; 70000];
+    let mut bytes = [0u8; 140000];
+    let mut text = [0u8; 70000];
+    let mut a = [0u16; 70000];
+    let mut b = [0u16; 70000];
+    let mut c = [0u16; 70000];
+    let mut d = [0u16; 70000];
+    let mut e = [0u16; 70000];
+    let mut f = [0u16; 70000];
+    let mut g = [0u16; 70000];
+    let mut h = [0u16; 70000];
+    let mut i = [0u16; 70000];
+    let good = replay_all(
+        &mut buffer,
+        &mut out,
+        &mut narrow,
+        &mut wide,
+        &mut bytes,
+        &mut text,
+        &mut a,
+        &mut b,
+        &mut c,
+        &mut d,
+        &mut e,
+        &mut f,
+        &mut g,
+        &mut h,
+        &mut i,
+    );
+    if !good {
+        io::write_all(STDERR_FILENO, b"replay: the answers could not be written\n");
+    }
 }

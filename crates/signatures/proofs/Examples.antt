@@ -57,5 +57,6 @@ pub examples :
     ∷ (done (4 ∷ []), ((0 ∷ 1 ∷ 1 ∷ 2 ∷ [], 0 ∷ 0 ∷ 1 ∷ 5 ∷ []), works 0))
     ∷ (done (0 ∷ []), (([], 8 ∷ []), works 0))
     ∷ [])
-unfolding strongBisimSignature branchingBisimSignatureInductive sixLong inverseb all inverseAt blocksb blockAt withinb liesb lieAt insideb lengths
+unfolding strongBisimSignature branchingBisimSignatureInductive sixLong inverseb all inverseAt blocksb blockAt withinb liesb lieAt insideb
+    lengths
 examples = refl

@@ -77,7 +77,8 @@ module _ (t : Lts) (home : List ℕ) (marked : ℕ → Bool) (keys : List ℕ) (
       let f = pushed-out t s (keyedAt t home marked keys (getD home s 0)) given by p (sig-out (inductivePushed t home marked keys s) p m) in
       go (f .label) (f .target) (f .step) (keyed (f .label) (f .target)) refl (f .pair)
     where
-      go : (a u : ℕ) → Step t s a u → (b : Bool) → keyed a u ≡ b → p ≡ cond b (t .labels, getD keys u 0) (a, getD home u 0) → KeyOf p ⊎ StepOf p
+      go : (a u : ℕ) → Step t s a u → (b : Bool) → keyed a u ≡ b → p ≡ cond b (t .labels, getD keys u 0) (a, getD home u 0) →
+          KeyOf p ⊎ StepOf p
       go a u k true e q =
           let i = and-left (eqb a 0 && eqb (getD home u 0) (getD home s 0)) (marked u) e in
           inl (record {

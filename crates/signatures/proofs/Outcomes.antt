@@ -12,13 +12,15 @@ use Rattle.signatures.specs.Pairs.{Columns, signature, fits, pairsOver}
 use Rattle.signatures.specs.Signing.{Left, finishing, signing, cleared}
 
 module _ (r : Refusal) (pushed : List Pair) (out : Columns) (works : List (List ℕ)) where
-  pub signing-refused : (s : Said) → (r .number ≡ 0 → ⊥) → s ≡ refused (r .number) (r .place) → _≡_ {A = Said × Left} (s, (out, works)) (signing r pushed out works)
+  pub signing-refused : (s : Said) → (r .number ≡ 0 → ⊥) → s ≡ refused (r .number) (r .place) →
+      _≡_ {A = Said × Left} (s, (out, works)) (signing r pushed out works)
   unfolding signing
   signing-refused s n e = rw (ne-eqb (r .number) 0 n, e)
 
   -- a call whose checks are passed writes its signature, or has no room
   pub signing-on :
-      (d : ℕ) (pairs : List Pair) (w : List (List ℕ)) → r .number ≡ 0 → d ≡ length pushed → pairs ≡ signature pushed → cleared w ≡ cleared works
+      (d : ℕ) (pairs : List Pair) (w : List (List ℕ)) → r .number ≡ 0 → d ≡ length pushed → pairs ≡ signature pushed →
+      cleared w ≡ cleared works
       → finishing d pairs out w ≡ signing r pushed out works
   unfolding finishing signing
   signing-on d pairs w z e f g = rw (eq-eqb (r .number) 0 z, e, f, g)

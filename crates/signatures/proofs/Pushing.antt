@@ -68,4 +68,5 @@ module _ (l₀ : List Pair) (g : ℕ → Pair) (f : ℕ → Bool) (first end : �
     pub push-done :
         (m : ℕ) → end ≤ i → end ≤ m → ((k : ℕ) → end ≤ k → k < m → f k ≡ false) → pairsOf d a b ≡ l₀ ++ map g (members m f)
     push-done m h w n =
-        p .pairs ∙ ap (λ (l : List ℕ). l₀ ++ map g l) (sym (members-rest f m i (omega (arith, p .high)) (λ k u v. n k (omega (arith, h, u)) v)))
+        p .pairs ∙ ap (λ (l : List ℕ). l₀ ++ map g l) (sym
+        (members-rest f m i (omega (arith, p .high)) (λ k u v. n k (omega (arith, h, u)) v)))

@@ -5,12 +5,13 @@ use borrow.Author.Tests.{ltb-true, lt-ltb}
 use mathlib.Core.Bool.{Bool, true, false}
 use mathlib.Core.Path.{_≡_, ap, sym, _∙_}
 use lib.Dec.{ltb}
+use Rattle.columns.specs.Limits.{outOfRange}
 use Rattle.columns.specs.declared.answers.Refusal.{Refusal}
 use Rattle.columns.specs.Answers.{refusal, none, unless}
 use Rattle.columns.proofs.Chains.{one}
 use Rattle.partition.specs.Partition.{Partition, Sound}
-use Rattle.partitioned.specs.Checks.{checkedBoth}
-use Rattle.partitioned.proofs.Refusals.{both-of, both-on, both-out}
+use Rattle.table_partition.specs.Checks.{checkedBoth}
+use Rattle.table_partition.proofs.Refusals.{both-of, both-on, both-out}
 use Rattle.table.specs.Lts.{Lts, Valid}
 use Rattle.signatures.specs.Signing.{signatureRefusal}
 
@@ -26,7 +27,7 @@ module _ (t : Lts) (p : Partition) (same : p .n ≡ t .n) (s : ℕ) (room : Bool
   pub signature-ready : q ≡ signatureRefusal t p s room next → q .number ≡ 0 → Ready t p s room next
   unfolding signatureRefusal
   signature-ready e z =
-      let c = both-of t p same room (unless (ltb s (t .n)) (refusal 8 s) next) (sym (ap (λ (r : Refusal). r .number) e) ∙ z) in
+      let c = both-of t p same room (unless (ltb s (t .n)) (refusal outOfRange s) next) (sym (ap (λ (r : Refusal). r .number) e) ∙ z) in
       let k = one (ltb s (t .n)) 8 s next (λ i. omega arith) (c .rest) in
       record { valid = c .valid; sound = c .sound; known = ltb-true s (t .n) (k .0); enough = c .enough; rest = k .1 }
 
@@ -36,7 +37,8 @@ module _ (t : Lts) (p : Partition) (s : ℕ) (room : Bool) (next q : Refusal) (e
   unfolding signatureRefusal
   signature-out n = go (ltb s (t .n)) e
     where
-      go : (b : Bool) → q ≡ checkedBoth t p room (unless b (refusal 8 s) none) → q ≡ checkedBoth t p room (unless b (refusal 8 s) next)
+      go : (b : Bool) → q ≡ checkedBoth t p room (unless b (refusal outOfRange s) none) →
+          q ≡ checkedBoth t p room (unless b (refusal outOfRange s) next)
       go true f = both-out t p room next q f n
       go false f = f
 
@@ -45,5 +47,6 @@ module _ (t : Lts) (p : Partition) (s : ℕ) (room : Bool) (next q : Refusal) (e
   unfolding signatureRefusal
   signature-on same z =
       let l = lt-ltb s (t .n) (signature-ready t p same s room none q e z .known) in
-      both-on t p room (unless (ltb s (t .n)) (refusal 8 s) next) q (e ∙ ap (λ (b : Bool). checkedBoth t p room (unless b (refusal 8 s) none)) l) z
-      ∙ ap (λ (b : Bool). unless b (refusal 8 s) next) l
+      both-on t p room (unless (ltb s (t .n)) (refusal outOfRange s) next) q
+      (e ∙ ap (λ (b : Bool). checkedBoth t p room (unless b (refusal outOfRange s) none)) l) z
+      ∙ ap (λ (b : Bool). unless b (refusal outOfRange s) next) l

@@ -32,28 +32,33 @@ module _ (t : Lts) (v : Valid t) (home home' : List ℕ) (to : Alike (t .n) home
             target = g .target;
             step = g .step;
             block =
-                to (g .target) (l .target) (step-fields t v s a (g .target) (g .step) .1 .1) (step-fields t v r a (l .target) (l .step) .1 .1)
+                to (g .target) (l .target) (step-fields t v s a (g .target) (g .step) .1 .1)
+                (step-fields t v r a (l .target) (l .step) .1 .1)
                 (g .block)
                 ∙ l .block;
           }
 
   module _ (from : Alike (t .n) home' home) (marked : ℕ → Bool) (keys : List ℕ) where
     -- a pair of r is one of s
-    module _ (r s : ℕ) (hr : r < t .n) (hs : s < t .n) (e : inductiveSignature t home marked keys r ≡ inductiveSignature t home marked keys s) where
+    module _ (r s : ℕ) (hr : r < t .n) (hs : s < t .n)
+        (e : inductiveSignature t home marked keys r ≡ inductiveSignature t home marked keys s) where
       under : (p : Pair) → Mem p (inductiveSignature t home marked keys r) → KeyOf t home marked keys s p ⊎ StepOf t home marked keys s p
       under p m = inductive-out t home marked keys s p (subst (λ (q : List Pair). Mem p q) e m)
 
       key : (p : Pair) → KeyOf t home' marked keys r p → Mem p (inductiveSignature t home' marked keys s)
       key p k =
           go (under (t .labels, getD keys (k .target) 0)
-          (inductive-key t home marked keys r (k .target) (k .step) (from (k .target) r (step-fields t v r 0 (k .target) (k .step) .1 .1) hr (k .stays))
+          (inductive-key t home marked keys r (k .target) (k .step)
+          (from (k .target) r (step-fields t v r 0 (k .target) (k .step) .1 .1) hr (k .stays))
           (k .is-marked)))
         where
-          go : KeyOf t home marked keys s (t .labels, getD keys (k .target) 0) ⊎ StepOf t home marked keys s (t .labels, getD keys (k .target) 0)
+          go : KeyOf t home marked keys s (t .labels, getD keys (k .target) 0) ⊎ StepOf t home marked keys s
+              (t .labels, getD keys (k .target) 0)
               → Mem p (inductiveSignature t home' marked keys s)
           go (inl j) =
               subst (λ (q : Pair). Mem q (inductiveSignature t home' marked keys s)) (sym (k .pair ∙ j .pair))
-              (inductive-key t home' marked keys s (j .target) (j .step) (to (j .target) s (step-fields t v s 0 (j .target) (j .step) .1 .1) hs (j .stays))
+              (inductive-key t home' marked keys s (j .target) (j .step)
+              (to (j .target) s (step-fields t v s 0 (j .target) (j .step) .1 .1) hs (j .stays))
               (j .is-marked))
           go (inr j) =
               absurd (omega (arith, ap (λ (q : Pair). q .0) (j .pair), step-fields t v s (j .label) (j .target) (j .step) .1 .0))
@@ -67,14 +72,16 @@ module _ (t : Lts) (v : Valid t) (home home' : List ℕ) (to : Alike (t .n) home
           hu : k .target < t .n
           hu = step-fields t v r (k .label) (k .target) (k .step) .1 .1
 
-          go : KeyOf t home marked keys s (k .label, getD home (k .target) 0) ⊎ StepOf t home marked keys s (k .label, getD home (k .target) 0)
+          go : KeyOf t home marked keys s (k .label, getD home (k .target) 0) ⊎ StepOf t home marked keys s
+              (k .label, getD home (k .target) 0)
               → Mem p (inductiveSignature t home' marked keys s)
           go (inl j) =
               absurd (omega (arith, ap (λ (q : Pair). q .0) (j .pair), step-fields t v r (k .label) (k .target) (k .step) .1 .0))
           go (inr j) =
               let hw = step-fields t v s (j .label) (j .target) (j .step) .1 .1 in
               let a : k .label ≡ j .label = ap (λ (q : Pair). q .0) (j .pair) in
-              let b : getD home' (k .target) 0 ≡ getD home' (j .target) 0 = to (k .target) (j .target) hu hw (ap (λ (q : Pair). q .1) (j .pair)) in
+              let b : getD home' (k .target) 0 ≡ getD home' (j .target) 0 =
+              to (k .target) (j .target) hu hw (ap (λ (q : Pair). q .1) (j .pair)) in
               let same : _≡_ {A = Pair} (k .label, getD home' (k .target) 0) (j .label, getD home' (j .target) 0) = λ i. (a i, b i) in
               subst (λ (q : Pair). Mem q (inductiveSignature t home' marked keys s)) (sym (k .pair ∙ same))
               (inductive-other t home' marked keys s (j .label) (j .target) (j .step) (λ z c m. j .other z (from (j .target) s hw hs c) m))
@@ -91,4 +98,5 @@ module _ (t : Lts) (v : Valid t) (home home' : List ℕ) (to : Alike (t .n) home
         → inductiveSignature t home' marked keys r ≡ inductiveSignature t home' marked keys s
     unfolding inductiveSignature
     inductive-alike r s hr hs e =
-        sig-ext (inductivePushed t home' marked keys r) (inductivePushed t home' marked keys s) (carried r s hr hs e) (carried s r hs hr (sym e))
+        sig-ext (inductivePushed t home' marked keys r) (inductivePushed t home' marked keys s) (carried r s hr hs e)
+        (carried s r hs hr (sym e))

@@ -18,7 +18,8 @@ module _ (t : Lts) (s : ℕ) (g : ℕ → Pair) (h : ℕ → ℕ → Pair) (by :
   unfolding ownRows
   pushed-in a u k =
       let r = step-row t s a u k in
-      let e : g (r .row) ≡ h a u = by (r .row) ∙ sym (ap (λ (x : ℕ). h x (getD (t .target) (r .row) 0)) (r .label)) ∙ sym (ap (h a) (r .target)) in
+      let e : g (r .row) ≡ h a u = by (r .row) ∙ sym (ap (λ (x : ℕ). h x (getD (t .target) (r .row) 0)) (r .label)) ∙
+      sym (ap (h a) (r .target)) in
       subst (λ (p : Pair). Mem p (map g (members (t .m) (λ i. eqb (getD (t .source) i 0) s)))) e
       (Memᴰ·map g (members-in (λ i. eqb (getD (t .source) i 0) s) (t .m) (r .row) (r .below) (eq-eqb _ _ (sym (r .source)))))
 
@@ -35,5 +36,6 @@ module _ (t : Lts) (s : ℕ) (g : ℕ → Pair) (h : ℕ → ℕ → Pair) (by :
       let f = Memᴰ·of-map g (members (t .m) (λ i. eqb (getD (t .source) i 0) s)) m in
       let r = members-out (λ i. eqb (getD (t .source) i 0) s) (t .m) (f .0) (f .1) in
       let k : Step t s (getD (t .label) (f .0) 0) (getD (t .target) (f .0) 0)
-      = subst (λ (x : ℕ). Step t x (getD (t .label) (f .0) 0) (getD (t .target) (f .0) 0)) (eqb-true _ _ (r .1)) (row-step t (f .0) (r .0)) in
+      = subst (λ (x : ℕ). Step t x (getD (t .label) (f .0) 0) (getD (t .target) (f .0) 0)) (eqb-true _ _ (r .1)) (row-step t (f .0) (r .0))
+      in
       record { label = getD (t .label) (f .0) 0; target = getD (t .target) (f .0) 0; step = k; pair = sym (f .2) ∙ by (f .0) }

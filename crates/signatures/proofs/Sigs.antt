@@ -17,7 +17,8 @@ module _ (pushed : List Pair) where
 
   pub sig-out : (p : Pair) → Mem p (signature pushed) → Mem p pushed
   unfolding signature
-  sig-out p m = let f = collect-out pairLt pair-order (λ r. true) (λ r. r) pushed p m in subst (λ (q : Pair). Mem q pushed) (sym (f .3)) (f .1)
+  sig-out p m = let f = collect-out pairLt pair-order (λ r. true) (λ r. r) pushed p m in
+      subst (λ (q : Pair). Mem q pushed) (sym (f .3)) (f .1)
 
   pub sig-ascending : Ascending pairLt (signature pushed)
   unfolding signature

@@ -53,7 +53,8 @@ Each p [] (b ∷ before) = ⊥
 Each p (a ∷ works) [] = ⊥
 Each p (a ∷ works) (b ∷ before) = p a b × Each p works before
 
-each-map : {B : Type 0} (f g : List ℕ → B) (works before : List (List ℕ)) → Each (λ a b. f a ≡ g b) works before → map f works ≡ map g before
+each-map : {B : Type 0} (f g : List ℕ → B) (works before : List (List ℕ)) → Each (λ a b. f a ≡ g b) works before →
+    map f works ≡ map g before
 each-map f g [] [] e = refl
 each-map f g [] (b ∷ before) e = absurd e
 each-map f g (a ∷ works) [] e = absurd e

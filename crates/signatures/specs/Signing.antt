@@ -4,12 +4,13 @@ use mathlib.Core.Bool.{Bool, true, _&&_, cond}
 use mathlib.Core.List.{List, [], _∷_, map}
 use lib.Dec.{ltb, leb, eqb}
 use lib.ListN.{length}
+use Rattle.columns.specs.Limits.{outOfRange}
 use Rattle.columns.specs.declared.answers.Refusal.{Refusal}
 use Rattle.columns.specs.Answers.{Said, done, refused, refusal, none, unless}
 use Rattle.columns.specs.Columns.{zeros}
 use Rattle.columns.specs.Sets.{Pair}
 use Rattle.partition.specs.Partition.{Partition}
-use Rattle.partitioned.specs.Checks.{checkedBoth}
+use Rattle.table_partition.specs.Checks.{checkedBoth}
 use Rattle.table.specs.Lts.{Lts}
 use Rattle.signatures.specs.Pairs.{signature, Columns, fits, pairsOver}
 
@@ -46,4 +47,4 @@ signing r pushed out works =
 -- 1, 2, 3, 4, 7 (`room`: the call's other slices are long enough), 5 and 6, 14, 8; then what the call tests next
 unfoldable pub signatureRefusal : Lts → Partition → ℕ → Bool → Refusal → Refusal
 unfolding checkedBoth
-signatureRefusal t p s room next = checkedBoth t p room (unless (ltb s (t .n)) (refusal 8 s) next)
+signatureRefusal t p s room next = checkedBoth t p room (unless (ltb s (t .n)) (refusal outOfRange s) next)

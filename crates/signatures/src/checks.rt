@@ -3,13 +3,15 @@ ghost use mathlib.Core.Path.{_≡_};
 ghost use mathlib.Core.List.{[], _∷_};
 ghost use Prim.Native.Nat.{_+_};
 ghost use Rattle.columns.specs.Answers.{none};
-ghost use Rattle.partition.specs.Partition.{parts};
 ghost use Rattle.signatures.specs.Signing.{allLong, signatureRefusal};
-ghost use Rattle.table.specs.Lts.{lts};
+ghost use Rattle.partition.specs.Lent.{before};
+ghost use Rattle.table.specs.Lent.{ltsOf};
 use columns::answers::Refusal;
 use columns::answers::refuse;
-use partitioned::check;
+use columns::limits::NONE;
+use columns::limits::OUT_OF_RANGE;
 use table::Table;
+use table_partition::check;
 
 // Whether four work slices of these lengths have n + m + 1 cells each.
 pub fn roomy(table: Table, a: usize, b: usize, c: usize, d: usize) -> bool
@@ -44,7 +46,10 @@ pub fn signature_refusal(
     state: usize,
     room: bool,
 ) -> Refusal
-    ensures { λ r. ⌜ r ≡ signatureRefusal (lts table (now (source .entry)) (now (label .entry)) (now (target .entry))) (parts (now (elements .entry)) (now («element_offset» .entry)) (now («element_to_block» .entry)) (now (begin .entry)) (now («marked_split» .entry)) (now (end .entry)) (table .n) count) state room none ⌝ }
+    ensures { λ r.
+        let system = ltsOf table source label target in
+        let given = before elements «element_offset» «element_to_block» begin «marked_split» end (table .n) count in
+        ⌜ r ≡ signatureRefusal system given state room none ⌝ }
 {
     let t = check(
         table,
@@ -65,7 +70,7 @@ pub fn signature_refusal(
         return t;
     }
     if table.n as usize <= state {
-        return refuse(8, state as u64);
+        return refuse(OUT_OF_RANGE, state as u64);
     }
-    refuse(0, 0)
+    refuse(NONE, 0)
 }

@@ -7,7 +7,9 @@ ghost use lib.ListN.{length, getD};
 ghost use Rattle.columns.specs.Rows.{pairsOf};
 ghost use Rattle.signatures.specs.Inductive.{inertb, markedIn, inductivePushed};
 ghost use Rattle.signatures.specs.Strong.{strongPushed};
-ghost use Rattle.table.specs.Lts.{lts, Valid};
+ghost use Rattle.table.specs.Lts.{Valid};
+ghost use Rattle.columns.specs.Lent.{was, is};
+ghost use Rattle.table.specs.Lent.{ltsOf, ltsNow};
 use columns::cells::at;
 use table::Table;
 use table::core::rows_of;
@@ -23,9 +25,11 @@ pub fn push_strong(
     pushed_labels: &mut [u16],
     pushed_blocks: &mut [u16],
 ) -> usize
-    requires { ⌜ Valid (lts table (now source) (now label) (now target)) × (state < table .n) × (table .n ≤ length (now «element_to_block»)) ⌝ }
+    requires { ⌜ Valid (ltsNow table source label target) × (state < table .n) × (table .n ≤ length (now «element_to_block»)) ⌝ }
     requires { ⌜ (table .m ≤ length (now «pushed_labels»)) × (table .m ≤ length (now «pushed_blocks»)) ⌝ }
-    ensures { λ r. ⌜ (pairsOf r (now («pushed_labels» .exit)) (now («pushed_blocks» .exit)) ≡ strongPushed (lts table (now (source .entry)) (now (label .entry)) (now (target .entry))) (now («element_to_block» .entry)) state) × (r ≤ table .m) ⌝ }
+    ensures { λ r.
+        let system = ltsOf table source label target in
+        ⌜ (pairsOf r (is «pushed_labels») (is «pushed_blocks») ≡ strongPushed system (was «element_to_block») state) × (r ≤ table .m) ⌝ }
 {
     let m = table.m as usize;
     let rows = rows_of(source, m, state);
@@ -45,7 +49,7 @@ pub fn push_strong(
 // Whether row i is hidden and leads to block b.
 pub fn inert(label: &[u16], target: &[u16], element_to_block: &[u16], b: usize, i: usize) -> bool
     requires { ⌜ (i < length (now label)) × (i < length (now target)) × (getD (now target) i 0 < length (now «element_to_block»)) ⌝ }
-    ensures { λ r. ⌜ r ≡ inertb (now (label .entry)) (now (target .entry)) (now («element_to_block» .entry)) b i ⌝ }
+    ensures { λ r. ⌜ r ≡ inertb (was label) (was target) (was «element_to_block») b i ⌝ }
 {
     if at(label, i) != 0 {
         return false;
@@ -55,8 +59,9 @@ pub fn inert(label: &[u16], target: &[u16], element_to_block: &[u16], b: usize, 
 
 // Whether state u is marked.
 fn marked(element_offset: &[u16], element_to_block: &[u16], marked_split: &[u16], u: usize) -> bool
-    requires { ⌜ (u < length (now «element_offset»)) × (u < length (now «element_to_block»)) × (getD (now «element_to_block») u 0 < length (now «marked_split»)) ⌝ }
-    ensures { λ r. ⌜ r ≡ markedIn (now («element_offset» .entry)) (now («element_to_block» .entry)) (now («marked_split» .entry)) u ⌝ }
+    requires { ⌜ (u < length (now «element_offset»)) × (u < length (now «element_to_block»))
+        × (getD (now «element_to_block») u 0 < length (now «marked_split»)) ⌝ }
+    ensures { λ r. ⌜ r ≡ markedIn (was «element_offset») (was «element_to_block») (was «marked_split») u ⌝ }
 {
     let split = at(marked_split, at(element_to_block, u));
     if at(element_offset, u) < split {
@@ -88,11 +93,15 @@ pub fn push_inductive(
     pushed_labels: &mut [u16],
     pushed_blocks: &mut [u16],
 ) -> usize
-    requires { ⌜ Valid (lts table (now source) (now label) (now target)) × (state < table .n) × (table .n ≤ length (now «state_to_key»)) ⌝ }
+    requires { ⌜ Valid (ltsNow table source label target) × (state < table .n) × (table .n ≤ length (now «state_to_key»)) ⌝ }
     requires { ⌜ (table .n ≤ length (now «element_offset»)) × (table .n ≤ length (now «element_to_block»)) ⌝ }
     requires { ⌜ ((u : ℕ) → u < table .n → getD (now «element_to_block») u 0 < length (now «marked_split»)) ⌝ }
     requires { ⌜ (table .m ≤ length (now «pushed_labels»)) × (table .m ≤ length (now «pushed_blocks»)) ⌝ }
-    ensures { λ r. ⌜ (pairsOf r (now («pushed_labels» .exit)) (now («pushed_blocks» .exit)) ≡ inductivePushed (lts table (now (source .entry)) (now (label .entry)) (now (target .entry))) (now («element_to_block» .entry)) (markedIn (now («element_offset» .entry)) (now («element_to_block» .entry)) (now («marked_split» .entry))) (now («state_to_key» .entry)) state) × (r ≤ table .m) ⌝ }
+    ensures { λ r.
+        let system = ltsOf table source label target in
+        ⌜ (pairsOf r (is «pushed_labels») (is «pushed_blocks»)
+        ≡ inductivePushed system (was «element_to_block»)
+        (markedIn (was «element_offset») (was «element_to_block») (was «marked_split»)) (was «state_to_key») state) × (r ≤ table .m) ⌝ }
 {
     let m = table.m as usize;
     let tau_hat = table.labels;

@@ -4,15 +4,17 @@ ghost use mathlib.Core.List.{[], _∷_, map};
 ghost use Prim.Native.Nat.{_*_, _+_, _/_, _≤_};
 ghost use lib.ListN.{length};
 ghost use Rattle.columns.specs.Answers.{saidNumber};
-ghost use Rattle.columns.specs.Columns.{over, wiped, zeros, cell};
+ghost use Rattle.columns.specs.Columns.{over, wiped, cell};
 ghost use Rattle.columns.specs.Rows.{pairsOf};
 ghost use Rattle.signatures.specs.Pairs.{signature, pairsOver, roomFor};
 ghost use Rattle.signatures.specs.Signing.{finishing};
+ghost use Rattle.columns.specs.Lent.{was, is, Cleared};
 use columns::answers::NumberAnswer;
 use columns::answers::number;
 use columns::answers::refuse;
 use columns::answers::refusing_number;
 use columns::cells::clear;
+use columns::limits::NO_ROOM;
 use columns::rows::gather;
 use columns::rows::pick_rows;
 
@@ -29,7 +31,7 @@ pub fn has_room(d: usize, labels: usize, blocks: usize) -> bool
 // The pairs that the numbers of `order` name, over the first cells of x and y.
 fn write_pairs(x: &mut [u16], y: &mut [u16], order: &[u16], a: &[u16], b: &[u16])
     requires { ⌜ (length (now order) ≤ length (now x)) × (length (now order) ≤ length (now y)) ⌝ }
-    ensures { λ _. ⌜ (now (x .exit) ≡ over (map (cell (now (a .entry))) (now (order .entry))) (now (x .entry))) × (now (y .exit) ≡ over (map (cell (now (b .entry))) (now (order .entry))) (now (y .entry))) ⌝ }
+    ensures { λ _. ⌜ (is x ≡ over (map (cell (was a)) (was order)) (was x)) × (is y ≡ over (map (cell (was b)) (was order)) (was y)) ⌝ }
 {
     gather(x, order, a);
     gather(y, order, b);
@@ -38,19 +40,22 @@ fn write_pairs(x: &mut [u16], y: &mut [u16], order: &[u16], a: &[u16], b: &[u16]
 // The first d pairs pushed, as a signature over the first cells of `labels` and `blocks`. Returns the number of its pairs.
 // The first d cells of `order` and half as many of `spare` are used, and zero then.
 pub fn flatten(
-    labels: &mut [u16],
-    blocks: &mut [u16],
     d: usize,
     pushed_labels: &[u16],
     pushed_blocks: &[u16],
+    labels: &mut [u16],
+    blocks: &mut [u16],
     order: &mut [u16],
     spare: &mut [u16],
 ) -> usize
-    requires { ⌜ (d ≤ length (now «pushed_labels»)) × (d ≤ length (now «pushed_blocks»)) × (d ≤ length (now labels)) × (d ≤ length (now blocks)) ⌝ }
+    requires { ⌜ (d ≤ length (now «pushed_labels»)) × (d ≤ length (now «pushed_blocks»)) × (d ≤ length (now labels))
+        × (d ≤ length (now blocks)) ⌝ }
     requires { ⌜ (d ≤ length (now order)) × (d ≤ 2 * length (now spare) + 1) × (d ≤ 65536) ⌝ }
-    ensures { λ r. ⌜ r ≡ length (signature (pairsOf d (now («pushed_labels» .entry)) (now («pushed_blocks» .entry)))) ⌝ }
-    ensures { λ _. ⌜ (now (labels .exit), now (blocks .exit)) ≡ pairsOver (signature (pairsOf d (now («pushed_labels» .entry)) (now («pushed_blocks» .entry)))) (now (labels .entry), now (blocks .entry)) ⌝ }
-    ensures { λ _. ⌜ (now (order .exit) ≡ wiped d (now (order .entry))) × (now (spare .exit) ≡ wiped (d / 2) (now (spare .entry))) ⌝ }
+    ensures { λ r. ⌜ r ≡ length (signature (pairsOf d (was «pushed_labels») (was «pushed_blocks»))) ⌝ }
+    ensures { λ _.
+        ⌜ (is labels, is blocks)
+        ≡ pairsOver (signature (pairsOf d (was «pushed_labels») (was «pushed_blocks»))) (was labels, was blocks) ⌝ }
+    ensures { λ _. ⌜ (is order ≡ wiped d (was order)) × (is spare ≡ wiped (d / 2) (was spare)) ⌝ }
 {
     let r = pick_rows(
         &mut order[..d],
@@ -66,8 +71,8 @@ pub fn flatten(
 
 // Every cell of four columns becomes zero.
 pub fn wipe(a: &mut [u16], b: &mut [u16], c: &mut [u16], d: &mut [u16])
-    ensures { λ _. ⌜ (now (a .exit) ≡ zeros (length (now (a .entry)))) × (now (b .exit) ≡ zeros (length (now (b .entry)))) ⌝ }
-    ensures { λ _. ⌜ (now (c .exit) ≡ zeros (length (now (c .entry)))) × (now (d .exit) ≡ zeros (length (now (d .entry)))) ⌝ }
+    ensures { λ _. ⌜ Cleared a × Cleared b ⌝ }
+    ensures { λ _. ⌜ Cleared c × Cleared d ⌝ }
 {
     clear(a);
     clear(b);
@@ -78,9 +83,9 @@ pub fn wipe(a: &mut [u16], b: &mut [u16], c: &mut [u16], d: &mut [u16])
 // The signature of the first d pairs pushed over the first cells of `labels` and `blocks`, or 16 where they have no room for all d.
 // Every cell of the four work slices is zero then.
 pub fn sign(
+    d: usize,
     labels: &mut [u16],
     blocks: &mut [u16],
-    d: usize,
     pushed_labels: &mut [u16],
     pushed_blocks: &mut [u16],
     order: &mut [u16],
@@ -88,18 +93,22 @@ pub fn sign(
 ) -> NumberAnswer
     requires { ⌜ (d ≤ length (now «pushed_labels»)) × (d ≤ length (now «pushed_blocks»)) ⌝ }
     requires { ⌜ (d ≤ length (now order)) × (d ≤ 2 * length (now spare) + 1) × (d ≤ 65536) ⌝ }
-    ensures { λ r. ⌜ (saidNumber r, ((now (labels .exit), now (blocks .exit)), now («pushed_labels» .exit) ∷ now («pushed_blocks» .exit) ∷ now (order .exit) ∷ now (spare .exit) ∷ [])) ≡ finishing d (signature (pairsOf d (now («pushed_labels» .entry)) (now («pushed_blocks» .entry)))) (now (labels .entry), now (blocks .entry)) (now («pushed_labels» .entry) ∷ now («pushed_blocks» .entry) ∷ now (order .entry) ∷ now (spare .entry) ∷ []) ⌝ }
+    ensures { λ r.
+        let work = was «pushed_labels» ∷ was «pushed_blocks» ∷ was order ∷ was spare ∷ [] in
+        let workLeft = is «pushed_labels» ∷ is «pushed_blocks» ∷ is order ∷ is spare ∷ [] in
+        ⌜ (saidNumber r, ((is labels, is blocks), workLeft))
+        ≡ finishing d (signature (pairsOf d (was «pushed_labels») (was «pushed_blocks»))) (was labels, was blocks) work ⌝ }
 {
     if !has_room(d, labels.len(), blocks.len()) {
         wipe(pushed_labels, pushed_blocks, order, spare);
-        return refusing_number(refuse(16, d as u64));
+        return refusing_number(refuse(NO_ROOM, d as u64));
     }
     let r = flatten(
-        labels,
-        blocks,
         d,
         &*pushed_labels,
         &*pushed_blocks,
+        labels,
+        blocks,
         &mut *order,
         &mut *spare,
     );

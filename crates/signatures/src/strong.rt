@@ -2,9 +2,10 @@
 ghost use mathlib.Core.Path.{_≡_};
 ghost use mathlib.Core.List.{[], _∷_};
 ghost use Rattle.columns.specs.Answers.{saidNumber};
-ghost use Rattle.partition.specs.Partition.{parts};
 ghost use Rattle.signatures.specs.Strong.{strongBisimSignature};
-ghost use Rattle.table.specs.Lts.{lts};
+ghost use Rattle.columns.specs.Lent.{was, is};
+ghost use Rattle.partition.specs.Lent.{before};
+ghost use Rattle.table.specs.Lent.{ltsOf};
 use crate::checks::roomy;
 use crate::checks::signature_refusal;
 use crate::core::push_strong;
@@ -19,13 +20,13 @@ pub fn strong_bisim_signature(
     source: &[u16],
     label: &[u16],
     target: &[u16],
+    count: u16,
     elements: &[u16],
     element_offset: &[u16],
     element_to_block: &[u16],
     begin: &[u16],
     marked_split: &[u16],
     end: &[u16],
-    count: u16,
     state: u16,
     labels: &mut [u16],
     blocks: &mut [u16],
@@ -34,7 +35,12 @@ pub fn strong_bisim_signature(
     order: &mut [u16],
     spare: &mut [u16],
 ) -> NumberAnswer
-    ensures { λ r. ⌜ (saidNumber r, ((now (labels .exit), now (blocks .exit)), now («pushed_labels» .exit) ∷ now («pushed_blocks» .exit) ∷ now (order .exit) ∷ now (spare .exit) ∷ [])) ≡ strongBisimSignature (lts table (now (source .entry)) (now (label .entry)) (now (target .entry))) (parts (now (elements .entry)) (now («element_offset» .entry)) (now («element_to_block» .entry)) (now (begin .entry)) (now («marked_split» .entry)) (now (end .entry)) (table .n) count) state (now (labels .entry), now (blocks .entry)) (now («pushed_labels» .entry) ∷ now («pushed_blocks» .entry) ∷ now (order .entry) ∷ now (spare .entry) ∷ []) ⌝ }
+    ensures { λ r.
+        let system = ltsOf table source label target in
+        let given = before elements «element_offset» «element_to_block» begin «marked_split» end (table .n) count in
+        let work = was «pushed_labels» ∷ was «pushed_blocks» ∷ was order ∷ was spare ∷ [] in
+        let workLeft = is «pushed_labels» ∷ is «pushed_blocks» ∷ is order ∷ is spare ∷ [] in
+        ⌜ (saidNumber r, ((is labels, is blocks), workLeft)) ≡ strongBisimSignature system given state (was labels, was blocks) work ⌝ }
 {
     let s = state as usize;
     let room = roomy(
@@ -74,9 +80,9 @@ pub fn strong_bisim_signature(
         &mut *pushed_blocks,
     );
     sign(
+        d,
         labels,
         blocks,
-        d,
         pushed_labels,
         pushed_blocks,
         order,

@@ -10,18 +10,22 @@ use columns::answers::number_of;
 use columns::answers::refuse;
 use columns::answers::refusing_flag;
 use columns::answers::refusing_number;
+use columns::limits::MAX_LABELS;
+use columns::limits::NONE;
+use columns::limits::WRONG_LABELS;
 
 // The refusal of a call with a number of labels.
 fn labels_refusal(labels: u16) -> Refusal
     ensures { λ r. ⌜ r ≡ labelsRefusal labels ⌝ }
 {
-    if labels < 1 {
-        return refuse(2, 0);
+    let count = labels as usize;
+    if count < 1 {
+        return refuse(WRONG_LABELS, 0);
     }
-    if 1024 < labels {
-        return refuse(2, 0);
+    if MAX_LABELS < count {
+        return refuse(WRONG_LABELS, 0);
     }
-    refuse(0, 0)
+    refuse(NONE, 0)
 }
 
 // The label tau_hat of a table with this number of labels.

@@ -44,7 +44,8 @@ incoming-length t =
 
 module _ (t : Lts) (v : Valid t) where
   pub key-back : (i : ℕ) → i < t .m → keyOf (t .target) (t .source) (t .label) i ≡ backRow t i
-  key-back i h = key-row (t .target) (t .source) (t .label) i (omega (arith, h, v .long .target)) (omega (arith, h, v .long .source)) (omega (arith, h, v .long .label))
+  key-back i h = key-row (t .target) (t .source) (t .label) i (omega (arith, h, v .long .target)) (omega (arith, h, v .long .source))
+      (omega (arith, h, v .long .label))
 
   -- no two rows are the same
   pub back-apart : (i j : ℕ) → i < j → j < t .m → backRow t i ≡ backRow t j → ⊥
@@ -65,7 +66,8 @@ module _ (t : Lts) (v : Valid t) where
 
       below : (p : ℕ) → p < t .m → getD (sort rowLt k l) p 0 < t .m
       below p h =
-          let q = listed-out (t .m) (λ k. k) _ (sort-out rowLt k row-order l _ (at-mem (sort rowLt k l) p (omega (arith, h, incoming-length t)))) in
+          let q = listed-out (t .m) (λ k. k) _ (sort-out rowLt k row-order l _
+          (at-mem (sort rowLt k l) p (omega (arith, h, incoming-length t)))) in
           omega (arith, q .below, q .same)
 
       onto : (i : ℕ) → i < t .m → (p : ℕ) × (p < t .m) × (getD (sort rowLt k l) p 0 ≡ i)
@@ -77,7 +79,8 @@ module _ (t : Lts) (v : Valid t) where
       up p q h w =
           sym (ap₂ rowLt (key-back (getD (sort rowLt k l) p 0) (below p (omega arith))) (key-back (getD (sort rowLt k l) q 0) (below q w)))
           ∙ sorted-strictly rowLt k row-order (t .m)
-          (λ i j a b e. back-apart i j a b (sym (key-back i (omega arith)) ∙ (e ∙ key-back j b))) p q h (omega (arith, w, incoming-length t))
+          (λ i j a b e. back-apart i j a b (sym (key-back i (omega arith)) ∙ (e ∙ key-back j b))) p q h
+          (omega (arith, w, incoming-length t))
 
   -- the targets along the list, and the stretch of each
   pub incomingTargets : List ℕ
@@ -95,7 +98,8 @@ module _ (t : Lts) (v : Valid t) where
       let x : Row = backRow t (getD (incomingOrder t) p 0) in
       let y : Row = backRow t (getD (incomingOrder t) q 0) in
       ⊎-elim (λ (e : ltb (x .0) (y .0) ≡ true). omega (arith, ltb-true (x .0) (y .0) e, target-at p (omega arith), target-at q w))
-      (λ e. omega (arith, e .0, target-at p (omega arith), target-at q w)) (lex-split ltb pairLt ltb-order pair-order x y (incoming-law .ascending p q k w)))
+      (λ e. omega (arith, e .0, target-at p (omega arith), target-at q w))
+      (lex-split ltb pairLt ltb-order pair-order x y (incoming-law .ascending p q k w)))
       (eq-or-lt-of-le h)
 
   pub incoming-stretch :
@@ -121,8 +125,10 @@ incoming-ready t result spare e =
 
 -- the sorted numbers come back to the front of the result
 pub incoming-over : (t : Lts) (result x : List ℕ) → t .m ≤ length result
-    → x ≡ sortBy (t .target) (t .source) (t .label) (listed (length (take (t .m) result)) (λ k. k)) → x ++ drop (t .m) result ≡ over (incomingOrder t) result
+    → x ≡ sortBy (t .target) (t .source) (t .label) (listed (length (take (t .m) result)) (λ k. k)) → x ++
+    drop (t .m) result ≡ over (incomingOrder t) result
 unfolding over incomingOrder
 incoming-over t result x h e =
-    ap₂ (λ (a b : List ℕ). a ++ b) (e ∙ ap (λ (k : ℕ). sortBy (t .target) (t .source) (t .label) (listed k (λ k. k))) (length-take-le (t .m) result h))
+    ap₂ (λ (a b : List ℕ). a ++ b) (e ∙ ap (λ (k : ℕ). sortBy (t .target) (t .source) (t .label) (listed k (λ k. k)))
+    (length-take-le (t .m) result h))
     (ap (λ (k : ℕ). drop k result) (sym (incoming-length t)))

@@ -43,17 +43,20 @@ next-row t u from r e =
       next = subst (λ (r : ℕ). Next (t .target) (t .m) u from r) p (next-law (t .target) (t .m) u from f);
     }
 
-pub next-done : (t : Lts) (u from : ℕ) → Valid t → u < t .n → from ≤ t .m → nextIncomingRow t u from ≡ done (nextIncoming (t .target) (t .m) u from ∷ [])
+pub next-done : (t : Lts) (u from : ℕ) → Valid t → u < t .n → from ≤ t .m →
+    nextIncomingRow t u from ≡ done (nextIncoming (t .target) (t .m) u from ∷ [])
 unfolding nextIncomingRow
 next-done t u from v h l =
-    sym (asked-done (stateRefusal t u (fromRefusal (t .m) from)) none (sym (asked-valid t u (fromRefusal (t .m) from) v h ∙ from-most (t .m) from l)) _ refl)
+    sym (asked-done (stateRefusal t u (fromRefusal (t .m) from)) none
+    (sym (asked-valid t u (fromRefusal (t .m) from) v h ∙ from-most (t .m) from l)) _ refl)
 
 -- ---- one after the other
 module _ (target : List ℕ) (m u : ℕ) where
   -- the rows that are met by asking k times, first from `from`, and then each time from the row after the last answer
   unfoldable pub met : ℕ → ℕ → List ℕ
   met zero from = []
-  met (suc k) from = cond (ltb (nextIncoming target m u from) m) (nextIncoming target m u from ∷ met k (suc (nextIncoming target m u from))) []
+  met (suc k) from = cond (ltb (nextIncoming target m u from) m) (nextIncoming target m u from ∷ met k (suc (nextIncoming target m u from)))
+      []
 
   -- a row into u, at or after `from`
   abbrev Into : ℕ → ℕ → Type 0
@@ -77,7 +80,8 @@ module _ (target : List ℕ) (m u : ℕ) where
             let after = later (suc r) l (omega (arith, e, n .low)) i in (
               λ h.
                   ⊎-elim (λ (e : i ≡ r). ((omega (arith, e, n .low), omega (arith, e, l)), ap (λ (j : ℕ). getD target j 0) e ∙ n .hit l))
-                  (λ (h : Mem i (met k (suc r))). let b = after .0 h in ((omega (arith, b .0, n .low), b .0 .1), b .1)) (List·Memᴰ·cases-cons h),
+                  (λ (h : Mem i (met k (suc r))). let b = after .0 h in ((omega (arith, b .0, n .low), b .0 .1), b .1))
+                  (List·Memᴰ·cases-cons h),
               λ b.
                   ⊎-elim (λ (e : r ≡ i). List·Memᴰ·head (sym e)) (λ (h : r < i). List·Memᴰ·tail (after .1 ((h, b .0 .1), b .1)))
                   (eq-or-lt-of-le (not-below (λ h. n .before i (b .0 .0) h (b .1)))),

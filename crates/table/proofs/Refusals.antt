@@ -9,9 +9,10 @@ use mathlib.Core.List.{List}
 use mathlib.Core.Logic.{⊎-elim}
 use lib.Dec.{ltb, leb, eqb}
 use lib.ListN.{length, getD}
+use Rattle.columns.specs.Limits.{maxLabels, maxRows, maxStates, tooShort, wrongInitial, wrongLabels, wrongRows, wrongStates}
 use Rattle.columns.specs.declared.answers.Refusal.{Refusal}
 use Rattle.columns.specs.Answers.{refusal, none, unless}
-use Rattle.columns.specs.Columns.{before}
+use Rattle.columns.specs.Columns.{comesBefore}
 use Rattle.columns.specs.Counting.{first}
 use Rattle.columns.specs.Sets.{rowLt}
 use Rattle.columns.proofs.Bools.{contra, and-left, and-right, and-both, or-left}
@@ -41,8 +42,8 @@ module _ (a b c : List ℕ) where
   unfolding aboveb
   above-row i n = ap (λ (t : Bool). t || rowLt (rowIn a b c (i - 1)) (rowIn a b c i)) (ne-eqb i 0 n)
 
-  pub above-next : (i : ℕ) → (i ≡ 0 → ⊥) → i < length a → i < length b → i < length c → before a b c (i - 1) i ≡ aboveb a b c i
-  unfolding before
+  pub above-next : (i : ℕ) → (i ≡ 0 → ⊥) → i < length a → i < length b → i < length c → comesBefore a b c (i - 1) i ≡ aboveb a b c i
+  unfolding comesBefore
   above-next i n ha hb hc =
       ap₂ rowLt (key-row a b c (i - 1) (omega arith) (omega arith) (omega arith)) (key-row a b c i ha hb hc) ∙ sym (above-row i n)
 
@@ -54,7 +55,12 @@ module _ (t : Lts) where
       let b = leb (t .m) (length (t .label)) in
       let c = leb (t .m) (length (t .target)) in
       let r = and-right a (b && c) e in
-      record { source = leb-true _ _ (and-left a (b && c) e); label = leb-true _ _ (and-left b c r); target = leb-true _ _ (and-right b c r) }
+      record {
+        source = leb-true _ _ (and-left a (b && c) e);
+        label = leb-true _ _ (and-left b c r);
+        target =
+            leb-true _ _ (and-right b c r);
+      }
 
   pub of-long : Long t → longb t ≡ true
   unfolding longb threeLong
@@ -67,7 +73,12 @@ module _ (t : Lts) where
       let b = ltb (getD (t .label) i 0) (t .labels) in
       let c = ltb (getD (t .target) i 0) (t .n) in
       let r = and-right a (b && c) e in
-      record { source = ltb-true _ _ (and-left a (b && c) e); label = ltb-true _ _ (and-left b c r); target = ltb-true _ _ (and-right b c r) }
+      record {
+        source = ltb-true _ _ (and-left a (b && c) e);
+        label = ltb-true _ _ (and-left b c r);
+        target =
+            ltb-true _ _ (and-right b c r);
+      }
 
   pub of-fields : (i : ℕ) → Fields t i → fieldsb t i ≡ true
   unfolding fieldsb
@@ -76,11 +87,13 @@ module _ (t : Lts) where
   above-of : (i j : ℕ) → j ≡ suc i → aboveb (t .source) (t .label) (t .target) j ≡ true → rowLt (rowAt t i) (rowAt t j) ≡ true
   above-of i j e a =
       let q : i ≡ j - 1 = omega arith in
-      ap (λ (k : ℕ). rowLt (rowAt t k) (rowAt t j)) q ∙ (sym (above-row (t .source) (t .label) (t .target) j (λ z. omega (arith, e, z))) ∙ a)
+      ap (λ (k : ℕ). rowLt (rowAt t k) (rowAt t j)) q ∙
+      (sym (above-row (t .source) (t .label) (t .target) j (λ z. omega (arith, e, z))) ∙ a)
 
   of-above : (j : ℕ) → ((i : ℕ) → j ≡ suc i → rowLt (rowAt t i) (rowAt t j) ≡ true) → aboveb (t .source) (t .label) (t .target) j ≡ true
   of-above zero h = sym (above-first (t .source) (t .label) (t .target) 0 refl)
-  of-above (suc i) h = above-row (t .source) (t .label) (t .target) (suc i) (λ z. omega (arith, z)) ∙ (ap (λ (k : ℕ). rowLt (rowAt t k) (rowAt t (suc i))) (back i) ∙ h i refl)
+  of-above (suc i) h = above-row (t .source) (t .label) (t .target) (suc i) (λ z. omega (arith, z)) ∙
+      (ap (λ (k : ℕ). rowLt (rowAt t k) (rowAt t (suc i))) (back i) ∙ h i refl)
     where
       back : (i : ℕ) → suc i - 1 ≡ i
       back i = omega arith
@@ -99,7 +112,8 @@ module _ (t : Lts) where
   unfolding rowFault fault
   of-right i f a = rw (f, a)
 
-  pub fault-at : (i : ℕ) (f a : Bool) (x : ℕ) → f ≡ fieldsb t i → a ≡ aboveb (t .source) (t .label) (t .target) i → x ≡ fault f a → x ≡ rowFault t i
+  pub fault-at : (i : ℕ) (f a : Bool) (x : ℕ) → f ≡ fieldsb t i → a ≡ aboveb (t .source) (t .label) (t .target) i → x ≡ fault f a →
+      x ≡ rowFault t i
   unfolding rowFault
   fault-at i f a x e d h = h ∙ ap₂ fault e d
 
@@ -144,31 +158,33 @@ module _ (t : Lts) where
   ascending-of r i zero h l = absurd (omega arith)
   ascending-of r i (suc j) h l =
       ⊎-elim (λ (e : i ≡ j). above-of i (suc j) (ap suc (sym e)) (right-of (suc j) (r (suc j) l) .1))
-      (λ (k : i < j). row-order .trans (rowAt t i) (rowAt t j) (rowAt t (suc j)) (ascending-of r i j k (omega arith)) (above-of j (suc j) refl (right-of (suc j) (r (suc j) l) .1)))
+      (λ (k : i < j). row-order .trans (rowAt t i) (rowAt t j) (rowAt t (suc j)) (ascending-of r i j k (omega arith))
+      (above-of j (suc j) refl (right-of (suc j) (r (suc j) l) .1)))
       (top-or-below h)
 
 -- ---- a chain of six tests: not refused, or refused at one of them
 front : Bool → Bool → Bool → Bool → Bool → Refusal → Refusal
-front a b c d e next = unless a (refusal 1 0) (unless b (refusal 2 0) (unless c (refusal 3 0) (unless d (refusal 4 0) (unless e (refusal 7 0) next))))
+front a b c d e next = unless a (refusal wrongStates 0) (unless b (refusal wrongLabels 0)
+    (unless c (refusal wrongRows 0) (unless d (refusal wrongInitial 0) (unless e (refusal tooShort 0) next))))
 
 module _ (a b c d e : Bool) (next : Refusal) where
-  front-1 : a ≡ false → refusal 1 0 ≡ front a b c d e next
+  front-1 : a ≡ false → refusal wrongStates 0 ≡ front a b c d e next
   unfolding front
   front-1 p = rw p
 
-  front-2 : a ≡ true → b ≡ false → refusal 2 0 ≡ front a b c d e next
+  front-2 : a ≡ true → b ≡ false → refusal wrongLabels 0 ≡ front a b c d e next
   unfolding front
   front-2 p q = rw (p, q)
 
-  front-3 : a ≡ true → b ≡ true → c ≡ false → refusal 3 0 ≡ front a b c d e next
+  front-3 : a ≡ true → b ≡ true → c ≡ false → refusal wrongRows 0 ≡ front a b c d e next
   unfolding front
   front-3 p q r = rw (p, q, r)
 
-  front-4 : a ≡ true → b ≡ true → c ≡ true → d ≡ false → refusal 4 0 ≡ front a b c d e next
+  front-4 : a ≡ true → b ≡ true → c ≡ true → d ≡ false → refusal wrongInitial 0 ≡ front a b c d e next
   unfolding front
   front-4 p q r s = rw (p, q, r, s)
 
-  front-7 : a ≡ true → b ≡ true → c ≡ true → d ≡ true → e ≡ false → refusal 7 0 ≡ front a b c d e next
+  front-7 : a ≡ true → b ≡ true → c ≡ true → d ≡ true → e ≡ false → refusal tooShort 0 ≡ front a b c d e next
   unfolding front
   front-7 p q r s u = rw (p, q, r, s, u)
 
@@ -190,7 +206,8 @@ record Passed (a b c d e f : Bool) : Type 0 where
 chain-of : (a b c d e f : Bool) (r next : Refusal) → (f ≡ false → r .number ≡ 0 → ⊥) → chain a b c d e f r next .number ≡ 0
     → Passed a b c d e f × (next .number ≡ 0)
 unfolding chain front
-chain-of true true true true true true r next n z = (record { first = refl; second = refl; third = refl; fourth = refl; fifth = refl; sixth = refl }, z)
+chain-of true true true true true true r next n z =
+    (record { first = refl; second = refl; third = refl; fourth = refl; fifth = refl; sixth = refl }, z)
 chain-of true true true true true false r next n z = absurd (n refl z)
 chain-of true true true true false f r next n z = absurd (omega (arith, z))
 chain-of true true true false e f r next n z = absurd (omega (arith, z))
@@ -201,15 +218,17 @@ chain-of false b c d e f r next n z = absurd (omega (arith, z))
 chain-on : (a b c d e f : Bool) (r next : Refusal) → Passed a b c d e f → chain a b c d e f r next ≡ next
 unfolding chain
 chain-on a b c d e f r next p =
-    sym (front-on a b c d e (unless f r next) (p .first) (p .second) (p .third) (p .fourth) (p .fifth)) ∙ ap (λ (b : Bool). unless b r next) (p .sixth)
+    sym (front-on a b c d e (unless f r next) (p .first) (p .second) (p .third) (p .fourth) (p .fifth)) ∙
+    ap (λ (b : Bool). unless b r next) (p .sixth)
 
 chain-out : (a b c d e f : Bool) (r next : Refusal) → (chain a b c d e f r none .number ≡ 0 → ⊥)
     → chain a b c d e f r none ≡ chain a b c d e f r next
 unfolding chain front
 chain-out a b c d e f r next n =
-    refused-more a (refusal 1 0)
-    (refused-more b (refusal 2 0)
-    (refused-more c (refusal 3 0) (refused-more d (refusal 4 0) (refused-more e (refusal 7 0) (refused-more f r (λ m. absurd (m refl)))))))
+    refused-more a (refusal wrongStates 0)
+    (refused-more b (refusal wrongLabels 0)
+    (refused-more c (refusal wrongRows 0) (refused-more d (refusal wrongInitial 0)
+    (refused-more e (refusal tooShort 0) (refused-more f r (λ m. absurd (m refl)))))))
     n
 
 -- what a call goes by whose table is checked
@@ -221,13 +240,13 @@ pub record Checked (t : Lts) (room : Bool) (next : Refusal) : Type 0 where
 -- ---- the tests of a table
 module _ (t : Lts) where
   abbrev statesb : Bool
-  statesb = withinb 1 (t .n) 4096
+  statesb = withinb 1 (t .n) maxStates
 
   abbrev labelsb : Bool
-  labelsb = withinb 1 (t .labels) 1024
+  labelsb = withinb 1 (t .labels) maxLabels
 
   abbrev fewb : Bool
-  fewb = leb (t .m) 8192
+  fewb = leb (t .m) maxRows
 
   abbrev initialb : Bool
   initialb = ltb (t .initial) (t .n)
@@ -240,27 +259,27 @@ module _ (t : Lts) where
 
 -- ---- each place at which a table is refused, and the way past them all
 module _ (t : Lts) (room : Bool) (next : Refusal) where
-  pub due-1 : statesb t ≡ false → refusal 1 0 ≡ checkedTable t room next
+  pub due-1 : statesb t ≡ false → refusal wrongStates 0 ≡ checkedTable t room next
   unfolding checkedTable front
   due-1 p = front-1 (statesb t) (labelsb t) (fewb t) (initialb t) (longb t && room) (rowsRefusal t next) p
 
   module _ (p : statesb t ≡ true) where
-    pub due-2 : labelsb t ≡ false → refusal 2 0 ≡ checkedTable t room next
+    pub due-2 : labelsb t ≡ false → refusal wrongLabels 0 ≡ checkedTable t room next
     unfolding checkedTable front
     due-2 q = front-2 (statesb t) (labelsb t) (fewb t) (initialb t) (longb t && room) (rowsRefusal t next) p q
 
     module _ (q : labelsb t ≡ true) where
-      pub due-3 : fewb t ≡ false → refusal 3 0 ≡ checkedTable t room next
+      pub due-3 : fewb t ≡ false → refusal wrongRows 0 ≡ checkedTable t room next
       unfolding checkedTable front
       due-3 r = front-3 (statesb t) (labelsb t) (fewb t) (initialb t) (longb t && room) (rowsRefusal t next) p q r
 
       module _ (r : fewb t ≡ true) where
-        pub due-4 : initialb t ≡ false → refusal 4 0 ≡ checkedTable t room next
+        pub due-4 : initialb t ≡ false → refusal wrongInitial 0 ≡ checkedTable t room next
         unfolding checkedTable front
         due-4 s = front-4 (statesb t) (labelsb t) (fewb t) (initialb t) (longb t && room) (rowsRefusal t next) p q r s
 
         module _ (s : initialb t ≡ true) where
-          pub due-7 : (longb t && room) ≡ false → refusal 7 0 ≡ checkedTable t room next
+          pub due-7 : (longb t && room) ≡ false → refusal tooShort 0 ≡ checkedTable t room next
           unfolding checkedTable front
           due-7 u = front-7 (statesb t) (labelsb t) (fewb t) (initialb t) (longb t && room) (rowsRefusal t next) p q r s u
 
@@ -279,15 +298,15 @@ module _ (t : Lts) (room : Bool) where
   valid-of : Passes → Valid t
   unfolding Passes
   valid-of p =
-      let n = within-of 1 (t .n) 4096 (p .first) in
-      let l = within-of 1 (t .labels) 1024 (p .second) in
+      let n = within-of 1 (t .n) maxStates (p .first) in
+      let l = within-of 1 (t .labels) maxLabels (p .second) in
       let r = bad-none t (p .sixth) in
       record {
         some-states = n .0;
         few-states = n .1;
         some-labels = l .0;
         few-labels = l .1;
-        few-rows = leb-true (t .m) 8192 (p .third);
+        few-rows = leb-true (t .m) maxRows (p .third);
         initial = ltb-true (t .initial) (t .n) (p .fourth);
         long = long-of t (and-left (longb t) room (p .fifth));
         fields = λ i h. fields-of t i (right-of t i (r i h) .0);
@@ -297,9 +316,9 @@ module _ (t : Lts) (room : Bool) where
   of-valid : Valid t → room ≡ true → Passes
   unfolding Passes
   of-valid v e = record {
-    first = of-within 1 (t .n) 4096 (v .some-states) (v .few-states);
-    second = of-within 1 (t .labels) 1024 (v .some-labels) (v .few-labels);
-    third = le-leb (t .m) 8192 (v .few-rows);
+    first = of-within 1 (t .n) maxStates (v .some-states) (v .few-states);
+    second = of-within 1 (t .labels) maxLabels (v .some-labels) (v .few-labels);
+    third = le-leb (t .m) maxRows (v .few-rows);
     fourth = lt-ltb (t .initial) (t .n) (v .initial);
     fifth = and-both (of-long t (v .long)) e;
     sixth = le-leb (t .m) (badRow t) (omega (arith, bad-is t (t .m) (omega arith) right (λ l. absurd (omega (arith, l)))));
@@ -331,10 +350,13 @@ module _ (t : Lts) (room : Bool) where
     pub checked-out : (q .number ≡ 0 → ⊥) → q ≡ checkedTable t room next
     unfolding checkedTable rowsRefusal chain front
     checked-out n =
-        e ∙ chain-out (statesb t) (labelsb t) (fewb t) (initialb t) (longb t && room) (rowsb t) (bad t) next (λ z. n (ap (λ (r : Refusal). r .number) e ∙ z))
+        e ∙ chain-out (statesb t) (labelsb t) (fewb t) (initialb t) (longb t && room) (rowsb t) (bad t) next
+        (λ z. n (ap (λ (r : Refusal). r .number) e ∙ z))
 
 -- ---- the room of a call
 pub room-of : (n m need result work : ℕ) → roomb n m need result work ≡ true → (need ≤ result) × ((n + m) + 1 ≤ work)
 unfolding roomb
-room-of n m need result work e =
-    (leb-true _ _ (and-left (leb need result) (leb (n + m + 1) work) e), leb-true _ _ (and-right (leb need result) (leb (n + m + 1) work) e))
+room-of n m need result work e = (
+  leb-true _ _ (and-left (leb need result) (leb (n + m + 1) work) e),
+  leb-true _ _ (and-right (leb need result) (leb (n + m + 1) work) e),
+)

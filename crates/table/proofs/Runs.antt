@@ -8,6 +8,7 @@ use native.Mathlib.Omega.{arith}
 use borrow.Author.Tests.{ltb-true, lt-ltb, leb-true, le-leb}
 use lib.Dec.{ltb, leb}
 use lib.ListN.{getD}
+use Rattle.columns.specs.Limits.{outOfRange}
 use Rattle.columns.specs.declared.answers.Refusal.{Refusal}
 use Rattle.columns.specs.Answers.{done, refusal, none, unless}
 use Rattle.columns.specs.Sets.{rowLt, pairLt}
@@ -38,14 +39,15 @@ module _ (t : Lts) (s : ℕ) where
   pub asked-of : (next : Refusal) → stateRefusal t s next .number ≡ 0 → Asked t s next
   unfolding stateRefusal
   asked-of next e =
-      let c = checked-of t true (unless (ltb s (t .n)) (refusal 8 s) next) e in
-      let p = past (ltb s (t .n)) (refusal 8 s) next (λ z. omega (arith, z)) (c .rest) in
+      let c = checked-of t true (unless (ltb s (t .n)) (refusal outOfRange s) next) e in
+      let p = past (ltb s (t .n)) (refusal outOfRange s) next (λ z. omega (arith, z)) (c .rest) in
       record { valid = c .valid; known = ltb-true s (t .n) (p .0); rest = p .1 }
 
   pub asked-valid : (next : Refusal) → Valid t → s < t .n → stateRefusal t s next ≡ next
   unfolding stateRefusal
   asked-valid next v h =
-      checked-valid t true (unless (ltb s (t .n)) (refusal 8 s) next) v refl ∙ ap (λ (b : Bool). unless b (refusal 8 s) next) (lt-ltb s (t .n) h)
+      checked-valid t true (unless (ltb s (t .n)) (refusal outOfRange s) next) v refl ∙
+      ap (λ (b : Bool). unless b (refusal outOfRange s) next) (lt-ltb s (t .n) h)
 
   module _ (next q : Refusal) (e : q ≡ stateRefusal t s none) where
     -- once table and state are checked, the chain goes on
@@ -57,18 +59,19 @@ module _ (t : Lts) (s : ℕ) where
     unfolding stateRefusal
     asked-out n = go (ltb s (t .n)) e
       where
-        go : (b : Bool) → q ≡ checkedTable t true (unless b (refusal 8 s) none) → q ≡ checkedTable t true (unless b (refusal 8 s) next)
+        go : (b : Bool) → q ≡ checkedTable t true (unless b (refusal outOfRange s) none) →
+            q ≡ checkedTable t true (unless b (refusal outOfRange s) next)
         go true e = checked-out t true next q e n
         go false e = e
 
 -- a row that is not above m
 pub from-of : (m from : ℕ) → fromRefusal m from .number ≡ 0 → from ≤ m
 unfolding fromRefusal
-from-of m from e = leb-true from m (past (leb from m) (refusal 8 from) none (λ z. omega (arith, z)) e .0)
+from-of m from e = leb-true from m (past (leb from m) (refusal outOfRange from) none (λ z. omega (arith, z)) e .0)
 
 pub from-most : (m from : ℕ) → from ≤ m → fromRefusal m from ≡ none
 unfolding fromRefusal
-from-most m from h = ap (λ (b : Bool). unless b (refusal 8 from) none) (le-leb from m h)
+from-most m from h = ap (λ (b : Bool). unless b (refusal outOfRange from) none) (le-leb from m h)
 
 -- ---- the run
 -- the rows from x to before z are exactly those of s; they are its steps, by ascending label, then target
@@ -121,7 +124,8 @@ module _ (t : Lts) (v : Valid t) (s : ℕ) where
           let x = own i (omega (arith, h, l)) .1 (a, omega (arith, h, b)) in
           let y = own j l .1 (omega (arith, a, h), b) in
           ⊎-elim
-          (λ (q : ltb (getD (t .source) i 0) (getD (t .source) j 0) ≡ true). absurd (omega (arith, x, y, ltb-true (getD (t .source) i 0) (getD (t .source) j 0) q)))
+          (λ (q : ltb (getD (t .source) i 0) (getD (t .source) j 0) ≡ true). absurd
+          (omega (arith, x, y, ltb-true (getD (t .source) i 0) (getD (t .source) j 0) q)))
           (λ q. q .1)
           (lex-split ltb pairLt ltb-order pair-order (rowAt t i) (rowAt t j) (v .ascending i j h l))
 

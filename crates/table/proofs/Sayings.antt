@@ -30,6 +30,7 @@ pub said-done : (r : Refusal) (values l : List ℕ) → answering r values ≡ d
 unfolding answering
 said-done r values l e = go (eqb (r .number) 0) refl e
   where
-    go : (b : Bool) → eqb (r .number) 0 ≡ b → cond b (done values) (refused (r .number) (r .place)) ≡ done l → (r .number ≡ 0) × (values ≡ l)
+    go : (b : Bool) → eqb (r .number) 0 ≡ b → cond b (done values) (refused (r .number) (r .place)) ≡ done l → (r .number ≡ 0) ×
+        (values ≡ l)
     go true q e = let h : values ≡ l = cc in (eqb-true (r .number) 0 q, h)
     go false q e = absurd (apart _ _ _ (sym e))

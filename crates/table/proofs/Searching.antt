@@ -9,6 +9,7 @@ use borrow.Author.Tests.{eqb-true, eqb-false, eq-eqb, ne-eqb, ltb-true}
 use lib.Dec.{eqb, ltb}
 use lib.ListN.{length, getD, set, length-set, length-replicate}
 use lib.Seq.{getD-set-same, getD-set-other, ext-getD}
+use Rattle.columns.specs.Limits.{outOfRange}
 use Rattle.columns.specs.Answers.{bit, refusal, none, unless}
 use Rattle.columns.specs.Columns.{listed, zeros}
 use Rattle.columns.specs.Counting.{many}
@@ -60,7 +61,8 @@ module _ (edge : ℕ → ℕ → Bool) (n : ℕ) where
       flags = λ u. ⊎-elim (λ (q : u ≡ s). omega (arith, mark-here u q)) (λ (o : u ≡ s → ⊥). omega (arith, mark-else u o)) (same-or-not u s);
       counted =
           sym
-          (many-one-more n s (λ _. false) (λ u. eqb (getD marks₀ u 0) 1) h refl (eq-eqb _ _ (mark-here s refl)) (λ k o. ne-eqb _ _ (λ e. o (mark-only k e)))
+          (many-one-more n s (λ _. false) (λ u. eqb (getD marks₀ u 0) 1) h refl (eq-eqb _ _ (mark-here s refl))
+          (λ k o. ne-eqb _ _ (λ e. o (mark-only k e)))
           ∙ ap suc (many-nothing n (λ _. false) (λ k w. refl)));
       state = λ k w. omega (arith, queue-first k w, h);
       once = λ i j a c e. omega (arith, a, c);
@@ -92,7 +94,8 @@ module _ (edge : ℕ → ℕ → Bool) (n : ℕ) where
 
       counts : many n (λ k. eqb (getD marks′ k 0) 1) ≡ suc tail
       counts =
-          many-one-more n u (λ k. eqb (getD marks k 0) 1) (λ k. eqb (getD marks′ k 0) 1) h (ne-eqb (getD marks u 0) 1 (λ e. omega (arith, e, z)))
+          many-one-more n u (λ k. eqb (getD marks k 0) 1) (λ k. eqb (getD marks′ k 0) 1) h
+          (ne-eqb (getD marks u 0) 1 (λ e. omega (arith, e, z)))
           (eq-eqb _ _ (new-here u refl)) (λ k o. ap (λ (x : ℕ). eqb x 1) (new-else k o))
           ∙ ap suc (sym (s .counted))
 
@@ -117,23 +120,27 @@ module _ (edge : ℕ → ℕ → Bool) (n : ℕ) where
         some = omega arith;
         low = omega (arith, s .low);
         first = old-queue 0 (s .some) ∙ s .first;
-        flags = λ k. ⊎-elim (λ (q : k ≡ u). omega (arith, new-here k q)) (λ (o : k ≡ u → ⊥). omega (arith, new-else k o, s .flags k)) (same-or-not k u);
+        flags = λ k. ⊎-elim (λ (q : k ≡ u). omega (arith, new-here k q)) (λ (o : k ≡ u → ⊥). omega (arith, new-else k o, s .flags k))
+            (same-or-not k u);
         counted = omega (arith, counts);
         state = λ k l.
-            ⊎-elim (λ (q : k ≡ tail). omega (arith, set-here queue tail u k fits q, h)) (λ (m : k < tail). omega (arith, old-queue k m, s .state k m))
+            ⊎-elim (λ (q : k ≡ tail). omega (arith, set-here queue tail u k fits q, h))
+            (λ (m : k < tail). omega (arith, old-queue k m, s .state k m))
             (top-or-below (omega (arith, l)));
         once = λ i j a c e.
             ⊎-elim
             (λ (p : i ≡ tail).
             ⊎-elim (λ (q : j ≡ tail). p ∙ sym q)
-            (λ (q : j < tail). absurd (unseen j q (sym (old-queue j q) ∙ sym e ∙ set-here queue tail u i fits p))) (top-or-below (omega (arith, c))))
+            (λ (q : j < tail). absurd (unseen j q (sym (old-queue j q) ∙ sym e ∙ set-here queue tail u i fits p)))
+            (top-or-below (omega (arith, c))))
             (λ (p : i < tail).
             ⊎-elim (λ (q : j ≡ tail). absurd (unseen i p (sym (old-queue i p) ∙ e ∙ set-here queue tail u j fits q)))
             (λ (q : j < tail). s .once i j p q (sym (old-queue i p) ∙ e ∙ old-queue j q)) (top-or-below (omega (arith, c))))
             (top-or-below (omega (arith, a)));
         marked = λ k l.
             ⊎-elim (λ (q : k ≡ tail). new-here (getD (set queue tail u) k 0) (set-here queue tail u k fits q))
-            (λ (m : k < tail). ap (λ (x : ℕ). getD marks′ x 0) (old-queue k m) ∙ grows (getD queue k 0) (s .marked k m)) (top-or-below (omega (arith, l)));
+            (λ (m : k < tail). ap (λ (x : ℕ). getD marks′ x 0) (old-queue k m) ∙ grows (getD queue k 0) (s .marked k m))
+            (top-or-below (omega (arith, l)));
         queued = λ k e. have k (same-or-not k u) e;
         sound = λ k e.
             ⊎-elim (λ (q : k ≡ u). subst (λ (x : ℕ). Walk edge start x) (sym q) w)
@@ -184,7 +191,8 @@ module _ (t : Lts) (hidden : Bool) (v : Valid t) (start : ℕ) (marks queue : Li
   marked-is : (u : ℕ) → eqb (getD marks u 0) 1 ≡ reaches t hidden start u
   marked-is u =
       let f = search-found (edge t hidden) (t .n) start marks queue head tail s e u in
-      bool-ext _ _ (λ m. reaches-walk t hidden v start u .1 (f .0 (eqb-true _ _ m))) (λ r. eq-eqb _ _ (f .1 (reaches-walk t hidden v start u .0 r)))
+      bool-ext _ _ (λ m. reaches-walk t hidden v start u .1 (f .0 (eqb-true _ _ m)))
+      (λ r. eq-eqb _ _ (f .1 (reaches-walk t hidden v start u .0 r)))
 
   mark-bit : (x : ℕ) (b : Bool) → x ≤ 1 → eqb x 1 ≡ b → x ≡ bit b
   mark-bit x true h q = eqb-true x 1 q
@@ -195,7 +203,8 @@ module _ (t : Lts) (hidden : Bool) (v : Valid t) (start : ℕ) (marks queue : Li
 
   pub search-marks : marks ≡ listed (t .n) (λ u. bit (reaches t hidden start u))
   search-marks =
-      ext-getD 0 marks (listed (t .n) (λ u. bit (reaches t hidden start u))) (s .size ∙ sym (length-listed (t .n) (λ u. bit (reaches t hidden start u))))
+      ext-getD 0 marks (listed (t .n) (λ u. bit (reaches t hidden start u)))
+      (s .size ∙ sym (length-listed (t .n) (λ u. bit (reaches t hidden start u))))
       (λ u l. mark-bit (getD marks u 0) (reaches t hidden start u) (s .flags u) (marked-is u)
       ∙ sym (listed-at (t .n) (λ u. bit (reaches t hidden start u)) u (omega (arith, l, s .size))))
 
@@ -217,7 +226,8 @@ module _ (n m : ℕ) (source target : List ℕ) (w : ℕ → Bool) where
 
   module _ (up : Rising source m) (to : (i : ℕ) → i < m → getD target i 0 < n) (start x : ℕ) (queue₀ : List ℕ) (tail₀ head : ℕ) where
     pub visit-start :
-        (marks : List ℕ) (i : ℕ) → i ≡ firstRow source m x → Search (someRow m source target w) n start marks queue₀ head tail₀ → head < tail₀
+        (marks : List ℕ) (i : ℕ) → i ≡ firstRow source m x → Search (someRow m source target w) n start marks queue₀ head tail₀ →
+        head < tail₀
         → getD queue₀ head 0 ≡ x → Visit start x queue₀ tail₀ marks queue₀ head tail₀ i
     visit-start marks i e s h q = record {
       search = s;
@@ -256,11 +266,13 @@ module _ (n m : ℕ) (source target : List ℕ) (w : ℕ → Bool) where
 
         module _ (new : getD marks (getD target i 0) 0 ≡ 0) where
           pub visit-room : tail < n
-          visit-room = search-room (someRow m source target w) n start marks queue head tail (c .search) (getD target i 0) (to i l) new walk-to
+          visit-room = search-room (someRow m source target w) n start marks queue head tail (c .search) (getD target i 0) (to i l) new
+              walk-to
 
           visit-take : Visit start x queue₀ tail₀ (set marks (getD target i 0) 1) (set queue tail (getD target i 0)) head (tail + 1) (i + 1)
           visit-take = record {
-            search = search-add (someRow m source target w) n start marks queue head tail (c .search) (getD target i 0) (to i l) new walk-to;
+            search = search-add (someRow m source target w) n start marks queue head tail (c .search) (getD target i 0) (to i l) new
+                walk-to;
             ahead = c .ahead;
             more = omega (arith, c .more);
             long = length-set queue tail (getD target i 0) ∙ c .long;
@@ -282,7 +294,8 @@ module _ (n m : ℕ) (source target : List ℕ) (w : ℕ → Bool) where
 
         -- a row that passes: its target is appended, if it is new
         pub visit-append :
-            (r : ℕ) (ms qs : List ℕ) → (r, (ms, qs)) ≡ appended (getD target i 0) marks queue tail → Visit start x queue₀ tail₀ ms qs head r (i + 1)
+            (r : ℕ) (ms qs : List ℕ) → (r, (ms, qs)) ≡ appended (getD target i 0) marks queue tail →
+            Visit start x queue₀ tail₀ ms qs head r (i + 1)
         unfolding appended
         visit-append r ms qs e = go (eqb (getD marks (getD target i 0) 0) 0) refl e
           where
@@ -319,10 +332,10 @@ pub record Ready (t : Lts) (s result work : ℕ) : Type 0 where
 pub reach-ready : (t : Lts) (s result work : ℕ) → reachRefusal t s result work .number ≡ 0 → Ready t s result work
 unfolding reachRefusal
 reach-ready t s result work e =
-    let c = checked-of t (roomb (t .n) (t .m) (t .n) result work) (unless (ltb s (t .n)) (refusal 8 s) none) e in
+    let c = checked-of t (roomb (t .n) (t .m) (t .n) result work) (unless (ltb s (t .n)) (refusal outOfRange s) none) e in
     let r = room-of (t .n) (t .m) (t .n) result work (c .enough) in
     record { valid = c .valid; known = below (ltb s (t .n)) refl (c .rest); long = r .0; wide = r .1 }
   where
-    below : (b : Bool) → ltb s (t .n) ≡ b → unless b (refusal 8 s) none .number ≡ 0 → s < t .n
+    below : (b : Bool) → ltb s (t .n) ≡ b → unless b (refusal outOfRange s) none .number ≡ 0 → s < t .n
     below true q z = ltb-true s (t .n) q
     below false q z = absurd (omega (arith, z))

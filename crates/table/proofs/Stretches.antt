@@ -21,7 +21,8 @@ use Rattle.table.specs.Stretch.{firstRow, nextIncoming}
 -- ---- the first row of a state
 module _ (source : List ℕ) (m : ℕ) where
   pub first-row-is :
-      (s r : ℕ) → r ≤ m → ((i : ℕ) → i < r → getD source i 0 < s) → ((i : ℕ) → r ≤ i → i < m → s ≤ getD source i 0) → r ≡ firstRow source m s
+      (s r : ℕ) → r ≤ m → ((i : ℕ) → i < r → getD source i 0 < s) → ((i : ℕ) → r ≤ i → i < m → s ≤ getD source i 0) →
+      r ≡ firstRow source m s
   unfolding firstRow
   first-row-is s r h y n = many-front (λ i. ltb (getD source i 0) s) m r h (λ i l. lt-ltb _ _ (y i l)) (λ i a b. le-ltb _ _ (n i a b))
 
@@ -35,7 +36,12 @@ module _ (source : List ℕ) (m : ℕ) where
     unfolding firstRow
     before-row s i h l =
         let f : ℕ → Bool = λ i. ltb (getD source i 0) s in
-        omega (arith, many-up (suc i) m f h, many-all (suc i) f (λ j k. lt-ltb (getD source j 0) s (omega (arith, l, up j i (omega arith) h))))
+        omega (
+          arith,
+          many-up (suc i) m f h,
+          many-all (suc i) f
+              (λ j k. lt-ltb (getD source j 0) s (omega (arith, l, up j i (omega arith) h))),
+        )
 
     pub from-row : (s i : ℕ) → i < m → s ≤ getD source i 0 → firstRow source m s ≤ i
     unfolding firstRow
@@ -47,7 +53,8 @@ module _ (source : List ℕ) (m : ℕ) where
     pub stretch : (s i : ℕ) → i < m → (getD source i 0 ≡ s) ↔ ((firstRow source m s ≤ i) × (i < firstRow source m (s + 1)))
     stretch s i h = (
       λ e. (from-row s i h (omega (arith, e)), before-row (s + 1) i h (omega (arith, e))),
-      λ b. equal (not-below (λ l. omega (arith, b .0, before-row s i h l))) (not-below (λ l. omega (arith, b .1, from-row (s + 1) i h (omega (arith, l))))),
+      λ b. equal (not-below (λ l. omega (arith, b .0, before-row s i h l)))
+          (not-below (λ l. omega (arith, b .1, from-row (s + 1) i h (omega (arith, l))))),
     )
       where
         equal : {x y : ℕ} → y ≤ x → x ≤ y → x ≡ y
@@ -57,7 +64,8 @@ module _ (source : List ℕ) (m : ℕ) where
     pub first-row-up : (s : ℕ) → firstRow source m s ≤ firstRow source m (s + 1)
     unfolding firstRow
     first-row-up s =
-        many-mono m (λ i. ltb (getD source i 0) s) (λ i. ltb (getD source i 0) (s + 1)) (λ i h e. lt-ltb (getD source i 0) (s + 1) (omega (arith, ltb-true (getD source i 0) s e)))
+        many-mono m (λ i. ltb (getD source i 0) s) (λ i. ltb (getD source i 0) (s + 1))
+        (λ i h e. lt-ltb (getD source i 0) (s + 1) (omega (arith, ltb-true (getD source i 0) s e)))
 
 -- the sources of a checked table never fall
 pub rising : (t : Lts) → Valid t → Rising (t .source) (t .m)
@@ -65,7 +73,8 @@ unfolding rowIn rowLt
 rising t v i j h l =
     ⊎-elim (λ (e : i ≡ j). omega (arith, ap (λ (k : ℕ). getD (t .source) k 0) e))
     (λ (k : i < j).
-    ⊎-elim (λ (q : ltb (getD (t .source) i 0) (getD (t .source) j 0) ≡ true). omega (arith, ltb-true (getD (t .source) i 0) (getD (t .source) j 0) q))
+    ⊎-elim (λ (q : ltb (getD (t .source) i 0) (getD (t .source) j 0) ≡ true). omega
+    (arith, ltb-true (getD (t .source) i 0) (getD (t .source) j 0) q))
     (λ q. omega (arith, q .0)) (lex-split ltb pairLt ltb-order pair-order (rowAt t i) (rowAt t j) (v .ascending i j k l)))
     (eq-or-lt-of-le h)
 
@@ -86,7 +95,8 @@ module _ (target : List ℕ) (m u from : ℕ) (fits : from ≤ m) where
       record {
         low = omega arith;
         most = omega (arith, q .bound);
-        before = λ i a b e. contra (eq-eqb _ _ (ap (λ (k : ℕ). getD target k 0) (whole a) ∙ e)) (q .before (i - from) (omega (arith, a, b)));
+        before = λ i a b e. contra (eq-eqb _ _ (ap (λ (k : ℕ). getD target k 0) (whole a) ∙ e))
+            (q .before (i - from) (omega (arith, a, b)));
         hit = λ h. eqb-true _ _ (q .hit (omega (arith, h)));
       }
     where
@@ -118,14 +128,17 @@ incoming-up t v i j h l e =
 
 -- and the rows of a state by ascending label: the hidden ones come first
 pub label-up :
-    (t : Lts) → Valid t → (i j : ℕ) → i ≤ j → j < t .m → getD (t .source) i 0 ≡ getD (t .source) j 0 → getD (t .label) i 0 ≤ getD (t .label) j 0
+    (t : Lts) → Valid t → (i j : ℕ) → i ≤ j → j < t .m → getD (t .source) i 0 ≡ getD (t .source) j 0 →
+    getD (t .label) i 0 ≤ getD (t .label) j 0
 unfolding rowIn rowLt pairLt
 label-up t v i j h l e =
     ⊎-elim (λ (q : i ≡ j). omega (arith, ap (λ (k : ℕ). getD (t .label) k 0) q))
     (λ (w : i < j).
-    ⊎-elim (λ (q : ltb (getD (t .source) i 0) (getD (t .source) j 0) ≡ true). absurd (omega (arith, ltb-true (getD (t .source) i 0) (getD (t .source) j 0) q, e)))
+    ⊎-elim (λ (q : ltb (getD (t .source) i 0) (getD (t .source) j 0) ≡ true). absurd
+    (omega (arith, ltb-true (getD (t .source) i 0) (getD (t .source) j 0) q, e)))
     (λ q.
-    ⊎-elim (λ (k : ltb (getD (t .label) i 0) (getD (t .label) j 0) ≡ true). omega (arith, ltb-true (getD (t .label) i 0) (getD (t .label) j 0) k))
+    ⊎-elim (λ (k : ltb (getD (t .label) i 0) (getD (t .label) j 0) ≡ true). omega
+    (arith, ltb-true (getD (t .label) i 0) (getD (t .label) j 0) k))
     (λ k. let z : getD (t .label) i 0 ≡ getD (t .label) j 0 = k .0 in omega (arith, z))
     (lex-split ltb ltb ltb-order ltb-order (rowAt t i .1) (rowAt t j .1) (q .1)))
     (lex-split ltb pairLt ltb-order pair-order (rowAt t i) (rowAt t j) (v .ascending i j w l)))

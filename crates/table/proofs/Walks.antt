@@ -29,7 +29,8 @@ module _ (edge : ℕ → ℕ → Bool) where
       go : (eqb s t ≡ true) ⊎ (edge s t ≡ true) → Walk edge s t
       go (inl e) = subst (λ (x : ℕ). Walk edge s x) (eqb-true s t e) stop
       go (inr e) = along e stop
-  via-walk (suc k) s t h = go (via-walk k s t) (via-walk k s k) (via-walk k k t) (or-split (via edge k s t) (via edge k s k && via edge k k t) h)
+  via-walk (suc k) s t h = go (via-walk k s t) (via-walk k s k) (via-walk k k t)
+      (or-split (via edge k s t) (via edge k s k && via edge k k t) h)
     where
       go : (via edge k s t ≡ true → Walk edge s t) → (via edge k s k ≡ true → Walk edge s k) → (via edge k k t ≡ true → Walk edge k t)
           → (via edge k s t ≡ true) ⊎ ((via edge k s k && via edge k k t) ≡ true) → Walk edge s t
@@ -59,7 +60,8 @@ module _ (edge : ℕ → ℕ → Bool) where
   unfolding via
   via-split k s t h = go (or-split (via edge k s t) (via edge k s k && via edge k k t) h)
     where
-      go : (via edge k s t ≡ true) ⊎ ((via edge k s k && via edge k k t) ≡ true) → (via edge k s t ≡ true) ⊎ ((via edge k s k ≡ true) × (via edge k k t ≡ true))
+      go : (via edge k s t ≡ true) ⊎ ((via edge k s k && via edge k k t) ≡ true) →
+          (via edge k s t ≡ true) ⊎ ((via edge k s k ≡ true) × (via edge k k t ≡ true))
       go (inl e) = inl e
       go (inr e) = inr (and-left (via edge k s k) (via edge k k t) e, and-right (via edge k s k) (via edge k k t) e)
 
@@ -145,11 +147,13 @@ module _ (t : Lts) (hidden : Bool) where
           getD (t .label) (r .row) 0,
           r .passes,
           subst (λ (x : ℕ). Step t x (getD (t .label) (r .row) 0) u) (r .from)
-              (subst (λ (y : ℕ). Step t (getD (t .source) (r .row) 0) (getD (t .label) (r .row) 0) y) (r .to) (row-step t (r .row) (r .below))),
+              (subst (λ (y : ℕ). Step t (getD (t .source) (r .row) 0) (getD (t .label) (r .row) 0) y) (r .to)
+              (row-step t (r .row) (r .below))),
         ),
     λ p.
         let r = step-row t s (p .0) u (p .2) in
-        row-edge (t .m) (t .source) (t .target) (λ i. takes hidden (getD (t .label) i 0)) s u (r .row) (r .below) (sym (r .source)) (sym (r .target)) (subst (λ (a : ℕ). takes hidden a ≡ true) (r .label) (p .1)),
+        row-edge (t .m) (t .source) (t .target) (λ i. takes hidden (getD (t .label) i 0)) s u (r .row) (r .below) (sym (r .source))
+        (sym (r .target)) (subst (λ (a : ℕ). takes hidden a ≡ true) (r .label) (p .1)),
   )
 
   module _ (v : Valid t) where

@@ -4,6 +4,18 @@ use mathlib.Core.Bool.{Bool, not, cond, _&&_, _||_}
 use mathlib.Core.List.{List}
 use lib.Dec.{ltb, leb, eqb}
 use lib.ListN.{length, getD}
+use Rattle.columns.specs.Limits.{
+  maxLabels,
+  maxRows,
+  maxStates,
+  notAbove,
+  tooShort,
+  wrongField,
+  wrongInitial,
+  wrongLabels,
+  wrongRows,
+  wrongStates,
+}
 use Rattle.columns.specs.declared.answers.Refusal.{Refusal}
 use Rattle.columns.specs.Answers.{refusal, unless}
 use Rattle.columns.specs.Counting.{first}
@@ -34,7 +46,7 @@ aboveb source label target i = eqb i 0 || rowLt (rowIn source label target (i - 
 
 -- what is wrong with a row: 5 for its fields, else 6 for its order, else 0
 unfoldable pub fault : Bool → Bool → ℕ
-fault fields above = cond fields (cond above 0 6) 5
+fault fields above = cond fields (cond above 0 notAbove) wrongField
 
 unfoldable pub rowFault : Lts → ℕ → ℕ
 unfolding fault fieldsb aboveb
@@ -53,11 +65,11 @@ rowsRefusal t next = unless (leb (t .m) (badRow t)) (refusal (rowFault t (badRow
 unfoldable pub checkedTable : Lts → Bool → Refusal → Refusal
 unfolding withinb longb rowsRefusal
 checkedTable t room next =
-    unless (withinb 1 (t .n) 4096) (refusal 1 0)
-    (unless (withinb 1 (t .labels) 1024) (refusal 2 0)
-    (unless (leb (t .m) 8192) (refusal 3 0)
-    (unless (ltb (t .initial) (t .n)) (refusal 4 0)
-    (unless (longb t && room) (refusal 7 0)
+    unless (withinb 1 (t .n) maxStates) (refusal wrongStates 0)
+    (unless (withinb 1 (t .labels) maxLabels) (refusal wrongLabels 0)
+    (unless (leb (t .m) maxRows) (refusal wrongRows 0)
+    (unless (ltb (t .initial) (t .n)) (refusal wrongInitial 0)
+    (unless (longb t && room) (refusal tooShort 0)
     (rowsRefusal t next)))))
 
 -- the room of a call with one result column and one work slice: `need` cells, and n + m + 1

@@ -5,3 +5,4 @@ pub mod Transitions
 pub mod Incoming
 pub mod Reach
 pub mod Search
+pub mod Lent

@@ -4,6 +4,7 @@ use mathlib.Core.Bool.{true}
 use mathlib.Core.List.{List}
 use Prim.Native.Nat.{ℕ, _≤_, _<_}
 use lib.ListN.{length, getD}
+use Rattle.columns.specs.Limits.{maxLabels, maxRows, maxStates}
 use Rattle.columns.specs.Rows.{rowsOf}
 use Rattle.columns.specs.Sets.{Mem, Row, rowLt}
 use Rattle.table.specs.declared.Table.{Table}
@@ -52,10 +53,10 @@ pub record Fields (t : Lts) (i : ℕ) : Type 0 where
 -- what a call may go by once the table is checked
 pub record Valid (t : Lts) : Type 0 where
   pub some-states : 1 ≤ t .n
-  pub few-states : t .n ≤ 4096
+  pub few-states : t .n ≤ maxStates
   pub some-labels : 1 ≤ t .labels
-  pub few-labels : t .labels ≤ 1024
-  pub few-rows : t .m ≤ 8192
+  pub few-labels : t .labels ≤ maxLabels
+  pub few-rows : t .m ≤ maxRows
   pub initial : t .initial < t .n
   pub long : Long t
   pub fields : (i : ℕ) → i < t .m → Fields t i

@@ -5,6 +5,7 @@ use mathlib.Core.List.{List, [], _∷_}
 use Prim.Native.Nat.{ℕ, zero, suc}
 use lib.Dec.{ltb, eqb}
 use lib.ListN.{length, getD}
+use Rattle.columns.specs.Limits.{outOfRange}
 use Rattle.columns.specs.declared.answers.Refusal.{Refusal}
 use Rattle.columns.specs.Answers.{Said, refusal, none, unless, bit, leaving}
 use Rattle.columns.specs.Columns.{written, zeros}
@@ -44,7 +45,7 @@ reaches t hidden s u = via (edge t hidden) (t .n) s u
 unfoldable pub reachRefusal : Lts → ℕ → ℕ → ℕ → Refusal
 unfolding checkedTable roomb
 reachRefusal t s result work =
-    checkedTable t (roomb (t .n) (t .m) (t .n) result work) (unless (ltb s (t .n)) (refusal 8 s) none)
+    checkedTable t (roomb (t .n) (t .m) (t .n) result work) (unless (ltb s (t .n)) (refusal outOfRange s) none)
 
 -- 1 for each state that is reached and 0 for each other, over the first n cells; how many; and the work slice is zero
 unfoldable pub reachable : Lts → Bool → ℕ → List ℕ → List ℕ → Said × (List ℕ × List ℕ)

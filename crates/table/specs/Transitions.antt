@@ -3,6 +3,7 @@ use Prim.Native.Nat.{ℕ, _+_}
 use mathlib.Core.Bool.{true}
 use mathlib.Core.List.{[], _∷_}
 use lib.Dec.{ltb, leb}
+use Rattle.columns.specs.Limits.{outOfRange}
 use Rattle.columns.specs.declared.answers.Refusal.{Refusal}
 use Rattle.columns.specs.Answers.{Said, done, refused, refusal, none, unless, answering}
 use Rattle.table.specs.declared.transitions.StretchAnswer.{StretchAnswer}
@@ -23,11 +24,11 @@ saidStretch a = saidStretchOutcome (a .outcome)
 -- the table's refusals, then 8 for a state that is not below n; then what the call tests next
 unfoldable pub stateRefusal : Lts → ℕ → Refusal → Refusal
 unfolding checkedTable
-stateRefusal t s next = checkedTable t true (unless (ltb s (t .n)) (refusal 8 s) next)
+stateRefusal t s next = checkedTable t true (unless (ltb s (t .n)) (refusal outOfRange s) next)
 
 -- 8 for a row above m
 unfoldable pub fromRefusal : ℕ → ℕ → Refusal
-fromRefusal m from = unless (leb from m) (refusal 8 from) none
+fromRefusal m from = unless (leb from m) (refusal outOfRange from) none
 
 -- the rows of s are those from the first whose source is s or above to before the first whose source is above s
 unfoldable pub outgoingTransitions : Lts → ℕ → Said

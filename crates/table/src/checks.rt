@@ -3,12 +3,24 @@ ghost use mathlib.Core.Path.{_≡_};
 ghost use Prim.Native.Nat.{_≤_, _<_};
 ghost use lib.ListN.{length};
 ghost use Rattle.columns.specs.Answers.{none};
-ghost use Rattle.table.specs.Lts.{lts};
 ghost use Rattle.table.specs.Checks.{withinb, threeLong, fieldsb, aboveb, fault, rowsRefusal, checkedTable, roomb};
+ghost use Rattle.columns.specs.Lent.{was};
+ghost use Rattle.table.specs.Lent.{ltsOf};
 use crate::Table;
 use columns::answers::Refusal;
 use columns::answers::refuse;
 use columns::cells::at;
+use columns::limits::MAX_LABELS;
+use columns::limits::MAX_ROWS;
+use columns::limits::MAX_STATES;
+use columns::limits::NONE;
+use columns::limits::NOT_ABOVE;
+use columns::limits::TOO_SHORT;
+use columns::limits::WRONG_FIELD;
+use columns::limits::WRONG_INITIAL;
+use columns::limits::WRONG_LABELS;
+use columns::limits::WRONG_ROWS;
+use columns::limits::WRONG_STATES;
 use columns::sorting::comes_before;
 
 // Whether x is from low to high.
@@ -37,7 +49,7 @@ fn long(m: usize, a: usize, b: usize, c: usize) -> bool
 // Whether the fields of row i are in range.
 fn fields_ok(table: Table, source: &[u16], label: &[u16], target: &[u16], i: usize) -> bool
     requires { ⌜ (i < length (now source)) × (i < length (now label)) × (i < length (now target)) ⌝ }
-    ensures { λ r. ⌜ r ≡ fieldsb (lts table (now (source .entry)) (now (label .entry)) (now (target .entry))) i ⌝ }
+    ensures { λ r. ⌜ r ≡ fieldsb (ltsOf table source label target) i ⌝ }
 {
     let n = table.n as usize;
     if n <= at(source, i) {
@@ -52,7 +64,7 @@ fn fields_ok(table: Table, source: &[u16], label: &[u16], target: &[u16], i: usi
 // Whether row i is above the one before.
 fn above_ok(source: &[u16], label: &[u16], target: &[u16], i: usize) -> bool
     requires { ⌜ (i < length (now source)) × (i < length (now label)) × (i < length (now target)) × (i < 65536) ⌝ }
-    ensures { λ r. ⌜ r ≡ aboveb (now (source .entry)) (now (label .entry)) (now (target .entry)) i ⌝ }
+    ensures { λ r. ⌜ r ≡ aboveb (was source) (was label) (was target) i ⌝ }
 {
     if i == 0 {
         return true;
@@ -67,15 +79,15 @@ fn row_fault(fields: bool, above: bool) -> u64
     ensures { λ r. ⌜ r ≡ fault fields above ⌝ }
 {
     if !fields {
-        return 5;
+        return WRONG_FIELD;
     }
-    if above { 0 } else { 6 }
+    if above { NONE } else { NOT_ABOVE }
 }
 
 // 5 or 6 for the lowest row that is wrong.
 fn rows_refusal(table: Table, source: &[u16], label: &[u16], target: &[u16]) -> Refusal
     requires { ⌜ (table .m ≤ length (now source)) × (table .m ≤ length (now label)) × (table .m ≤ length (now target)) ⌝ }
-    ensures { λ r. ⌜ r ≡ rowsRefusal (lts table (now (source .entry)) (now (label .entry)) (now (target .entry))) none ⌝ }
+    ensures { λ r. ⌜ r ≡ rowsRefusal (ltsOf table source label target) none ⌝ }
 {
     let m = table.m as usize;
     let mut i = 0;
@@ -88,32 +100,32 @@ fn rows_refusal(table: Table, source: &[u16], label: &[u16], target: &[u16]) -> 
         }
         i += 1;
     }
-    refuse(0, 0)
+    refuse(NONE, 0)
 }
 
 // 1, 2, 3, 4, 7, 5 or 6, the first that is due; `room` says whether the call's other slices are long enough.
 pub fn check(table: Table, source: &[u16], label: &[u16], target: &[u16], room: bool) -> Refusal
-    ensures { λ r. ⌜ r ≡ checkedTable (lts table (now (source .entry)) (now (label .entry)) (now (target .entry))) room none ⌝ }
+    ensures { λ r. ⌜ r ≡ checkedTable (ltsOf table source label target) room none ⌝ }
 {
     let n = table.n as usize;
     let m = table.m as usize;
-    if !within(1, n, 4096) {
-        return refuse(1, 0);
+    if !within(1, n, MAX_STATES) {
+        return refuse(WRONG_STATES, 0);
     }
-    if !within(1, table.labels as usize, 1024) {
-        return refuse(2, 0);
+    if !within(1, table.labels as usize, MAX_LABELS) {
+        return refuse(WRONG_LABELS, 0);
     }
-    if 8192 < m {
-        return refuse(3, 0);
+    if MAX_ROWS < m {
+        return refuse(WRONG_ROWS, 0);
     }
     if n <= table.initial as usize {
-        return refuse(4, 0);
+        return refuse(WRONG_INITIAL, 0);
     }
     if !long(m, source.len(), label.len(), target.len()) {
-        return refuse(7, 0);
+        return refuse(TOO_SHORT, 0);
     }
     if !room {
-        return refuse(7, 0);
+        return refuse(TOO_SHORT, 0);
     }
     rows_refusal(table, source, label, target)
 }

@@ -5,10 +5,12 @@ ghost use lib.ListN.{length, getD};
 ghost use Rattle.columns.specs.Answers.{bit};
 ghost use Rattle.columns.specs.Columns.{listed, sortBy, wiped};
 ghost use Rattle.columns.specs.Counting.{many};
-ghost use Rattle.table.specs.Lts.{lts, Valid, Rising};
+ghost use Rattle.table.specs.Lts.{Valid, Rising};
 ghost use Rattle.table.specs.Reach.{takes, edge, reaches};
 ghost use Rattle.table.specs.Search.{Search, appended};
 ghost use Rattle.table.specs.Stretch.{firstRow, nextIncoming};
+ghost use Rattle.columns.specs.Lent.{was, is};
+ghost use Rattle.table.specs.Lent.{ltsOf, ltsNow};
 use crate::Table;
 use columns::cells::at;
 use columns::cells::clear;
@@ -18,7 +20,7 @@ use columns::sorting::sort;
 // Where the rows of s begin: how many of the first m rows have a source below s.
 fn first_row(source: &[u16], m: usize, s: usize) -> usize
     requires { ⌜ (m ≤ length (now source)) × Rising (now source) m ⌝ }
-    ensures { λ r. ⌜ r ≡ firstRow (now (source .entry)) m s ⌝ }
+    ensures { λ r. ⌜ r ≡ firstRow (was source) m s ⌝ }
 {
     let mut low = 0;
     let mut high = m;
@@ -33,19 +35,34 @@ fn first_row(source: &[u16], m: usize, s: usize) -> usize
     low
 }
 
+// Where the rows of s end, found from a row at or before that: the next row whose source is above s, or m.
+fn run_end(source: &[u16], m: usize, s: usize, from: usize) -> usize
+    requires { ⌜ (m ≤ length (now source)) × Rising (now source) m × (from ≤ firstRow (now source) m (s + 1)) ⌝ }
+    ensures { λ r. ⌜ r ≡ firstRow (was source) m (s + 1) ⌝ }
+{
+    let mut i = from;
+    while i < m {
+        if s < at(source, i) {
+            return i;
+        }
+        i += 1;
+    }
+    i
+}
+
 // A run of rows: those from `first` to before `end`.
 pub struct Stretch {
     pub first: usize,
     pub end: usize,
 }
 
-// The rows of s among the first m.
+// The rows of s among the first m: their beginning is searched for, and the end found by walking them.
 pub fn rows_of(source: &[u16], m: usize, s: usize) -> Stretch
     requires { ⌜ (m ≤ length (now source)) × Rising (now source) m × (s < 65536) ⌝ }
-    ensures { λ r. ⌜ (r .first ≡ firstRow (now (source .entry)) m s) × (r .end ≡ firstRow (now (source .entry)) m (s + 1)) ⌝ }
+    ensures { λ r. ⌜ (r .first ≡ firstRow (was source) m s) × (r .end ≡ firstRow (was source) m (s + 1)) ⌝ }
 {
     let first = first_row(source, m, s);
-    let end = first_row(source, m, s + 1);
+    let end = run_end(source, m, s, first);
     Stretch { first, end }
 }
 
@@ -53,7 +70,7 @@ pub fn rows_of(source: &[u16], m: usize, s: usize) -> Stretch
 // come by ascending source, then label.
 pub fn next_incoming(target: &[u16], m: usize, u: usize, from: usize) -> usize
     requires { ⌜ (m ≤ length (now target)) × (from ≤ m) ⌝ }
-    ensures { λ r. ⌜ r ≡ nextIncoming (now (target .entry)) m u from ⌝ }
+    ensures { λ r. ⌜ r ≡ nextIncoming (was target) m u from ⌝ }
 {
     let mut i = from;
     while i < m {
@@ -68,15 +85,15 @@ pub fn next_incoming(target: &[u16], m: usize, u: usize, from: usize) -> usize
 // The numbers of the first rows, as many as `order` has cells, by target, then source, then label. The first half as many
 // cells of `spare` are used, and zero then.
 pub fn sort_incoming(
-    order: &mut [u16],
-    spare: &mut [u16],
     source: &[u16],
     label: &[u16],
     target: &[u16],
+    order: &mut [u16],
+    spare: &mut [u16],
 )
     requires { ⌜ (length (now order) ≤ 65536) × (length (now order) ≤ 2 * length (now spare) + 1) ⌝ }
-    ensures { λ _. ⌜ now (order .exit) ≡ sortBy (now (target .entry)) (now (source .entry)) (now (label .entry)) (listed (length (now (order .entry))) (λ k. k)) ⌝ }
-    ensures { λ _. ⌜ now (spare .exit) ≡ wiped (length (now (order .entry)) / 2) (now (spare .entry)) ⌝ }
+    ensures { λ _. ⌜ is order ≡ sortBy (was target) (was source) (was label) (listed (length (was order)) (λ k. k)) ⌝ }
+    ensures { λ _. ⌜ is spare ≡ wiped (length (was order) / 2) (was spare) ⌝ }
 {
     count_up(&mut *order);
     sort(order, spare, target, source, label);
@@ -85,7 +102,7 @@ pub fn sort_incoming(
 // Whether row i is taken: any row, or a hidden one only.
 pub fn taken(label: &[u16], hidden: bool, i: usize) -> bool
     requires { ⌜ i < length (now label) ⌝ }
-    ensures { λ r. ⌜ r ≡ takes hidden (getD (now (label .entry)) i 0) ⌝ }
+    ensures { λ r. ⌜ r ≡ takes hidden (getD (was label) i 0) ⌝ }
 {
     if !hidden {
         return true;
@@ -97,7 +114,7 @@ pub fn taken(label: &[u16], hidden: bool, i: usize) -> bool
 // length.
 pub fn append(marks: &mut [u16], queue: &mut [u16], tail: usize, u: usize) -> usize
     requires { ⌜ (u < length (now marks)) × (u < 65536) × (tail < 65536) × (getD (now marks) u 0 ≡ 0 → tail < length (now queue)) ⌝ }
-    ensures { λ r. ⌜ (r, (now (marks .exit), now (queue .exit))) ≡ appended u (now (marks .entry)) (now (queue .entry)) tail ⌝ }
+    ensures { λ r. ⌜ (r, (is marks, is queue)) ≡ appended u (was marks) (was queue) tail ⌝ }
 {
     if at(&*marks, u) != 0 {
         return tail;
@@ -119,9 +136,12 @@ fn visit(
     head: usize,
     tail: usize,
 ) -> usize
-    requires { ⌜ Valid (lts table (now source) (now label) (now target)) × (head < tail) ⌝ }
-    requires { ⌜ Search (edge (lts table (now source) (now label) (now target)) hidden) (table .n) (getD (now queue) 0 0) (now marks) (now queue) head tail ⌝ }
-    ensures { λ r. ⌜ Search (edge (lts table (now (source .entry)) (now (label .entry)) (now (target .entry))) hidden) (table .n) (getD (now (queue .entry)) 0 0) (now (marks .exit)) (now (queue .exit)) (head + 1) r ⌝ }
+    requires { ⌜ Valid (ltsNow table source label target) × (head < tail) ⌝ }
+    requires { let system = ltsNow table source label target in
+        ⌜ Search (edge system hidden) (table .n) (getD (now queue) 0 0) (now marks) (now queue) head tail ⌝ }
+    ensures { λ r.
+        let system = ltsOf table source label target in
+        ⌜ Search (edge system hidden) (table .n) (getD (was queue) 0 0) (is marks) (is queue) (head + 1) r ⌝ }
 {
     let m = table.m as usize;
     let s = at(&*queue, head);
@@ -153,10 +173,10 @@ pub fn reach(
     marks: &mut [u16],
     queue: &mut [u16],
 ) -> usize
-    requires { ⌜ Valid (lts table (now source) (now label) (now target)) × (state < table .n) ⌝ }
+    requires { ⌜ Valid (ltsNow table source label target) × (state < table .n) ⌝ }
     requires { ⌜ (length (now marks) ≡ table .n) × (table .n ≤ length (now queue)) ⌝ }
-    ensures { λ r. ⌜ r ≡ many (table .n) (reaches (lts table (now (source .entry)) (now (label .entry)) (now (target .entry))) hidden state) ⌝ }
-    ensures { λ _. ⌜ now (marks .exit) ≡ listed (table .n) (λ u. bit (reaches (lts table (now (source .entry)) (now (label .entry)) (now (target .entry))) hidden state u)) ⌝ }
+    ensures { λ r. ⌜ r ≡ many (table .n) (reaches (ltsOf table source label target) hidden state) ⌝ }
+    ensures { λ _. ⌜ is marks ≡ listed (table .n) (λ u. bit (reaches (ltsOf table source label target) hidden state u)) ⌝ }
 {
     clear(&mut *marks);
     marks[state] = 1;

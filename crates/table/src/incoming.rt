@@ -2,7 +2,8 @@
 ghost use mathlib.Core.Path.{_≡_};
 ghost use Rattle.columns.specs.Answers.{saidNumber};
 ghost use Rattle.table.specs.Incoming.{incomingRows};
-ghost use Rattle.table.specs.Lts.{lts};
+ghost use Rattle.columns.specs.Lent.{was, is};
+ghost use Rattle.table.specs.Lent.{ltsOf};
 use crate::Table;
 use crate::checks::check;
 use crate::checks::room;
@@ -21,7 +22,7 @@ pub fn incoming(
     incoming: &mut [u16],
     spare: &mut [u16],
 ) -> NumberAnswer
-    ensures { λ r. ⌜ (saidNumber r, (now (incoming .exit), now (spare .exit))) ≡ incomingRows (lts table (now (source .entry)) (now (label .entry)) (now (target .entry))) (now (incoming .entry)) (now (spare .entry)) ⌝ }
+    ensures { λ r. ⌜ (saidNumber r, (is incoming, is spare)) ≡ incomingRows (ltsOf table source label target) (was incoming) (was spare) ⌝ }
 {
     let m = table.m as usize;
     let enough = room(table, m, incoming.len(), spare.len());
@@ -31,6 +32,6 @@ pub fn incoming(
         return refusing_number(t);
     }
     clear(&mut *spare);
-    sort_incoming(&mut incoming[..m], &mut *spare, source, label, target);
+    sort_incoming(source, label, target, &mut incoming[..m], &mut *spare);
     number_of(table.m)
 }

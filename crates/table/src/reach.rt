@@ -1,8 +1,9 @@
 // Which states a state reaches, along all rows or along hidden rows only.
 ghost use mathlib.Core.Path.{_≡_};
 ghost use Rattle.columns.specs.Answers.{saidNumber};
-ghost use Rattle.table.specs.Lts.{lts};
 ghost use Rattle.table.specs.Reach.{reachRefusal, reachable};
+ghost use Rattle.columns.specs.Lent.{was, is};
+ghost use Rattle.table.specs.Lent.{ltsOf};
 use crate::Table;
 use crate::checks::check;
 use crate::checks::room;
@@ -13,6 +14,8 @@ use columns::answers::number;
 use columns::answers::refuse;
 use columns::answers::refusing_number;
 use columns::cells::clear;
+use columns::limits::NONE;
+use columns::limits::OUT_OF_RANGE;
 
 // The refusal of a call with the table and a state, a result column of n cells and a work slice, given by their lengths.
 fn reach_refusal(
@@ -24,7 +27,7 @@ fn reach_refusal(
     result: usize,
     work: usize,
 ) -> Refusal
-    ensures { λ r. ⌜ r ≡ reachRefusal (lts table (now (source .entry)) (now (label .entry)) (now (target .entry))) state result work ⌝ }
+    ensures { λ r. ⌜ r ≡ reachRefusal (ltsOf table source label target) state result work ⌝ }
 {
     let n = table.n as usize;
     let enough = room(table, n, result, work);
@@ -34,9 +37,9 @@ fn reach_refusal(
         return t;
     }
     if n <= state {
-        return refuse(8, state as u64);
+        return refuse(OUT_OF_RANGE, state as u64);
     }
-    refuse(0, 0)
+    refuse(NONE, 0)
 }
 
 // The states that a state reaches by a walk of rows, perhaps of none: over the first n cells of `reached`, 1 for each and 0
@@ -51,7 +54,9 @@ pub fn reachable(
     reached: &mut [u16],
     queue: &mut [u16],
 ) -> NumberAnswer
-    ensures { λ r. ⌜ (saidNumber r, (now (reached .exit), now (queue .exit))) ≡ reachable (lts table (now (source .entry)) (now (label .entry)) (now (target .entry))) hidden state (now (reached .entry)) (now (queue .entry)) ⌝ }
+    ensures { λ r.
+        let system = ltsOf table source label target in
+        ⌜ (saidNumber r, (is reached, is queue)) ≡ reachable system hidden state (was reached) (was queue) ⌝ }
 {
     let n = table.n as usize;
     let s = state as usize;

@@ -1,8 +1,8 @@
 // The rows of a state: those that leave it, as a run of row numbers, and those that lead to it, one after the other.
 ghost use mathlib.Core.Path.{_≡_};
 ghost use Rattle.columns.specs.Answers.{none, saidNumber};
-ghost use Rattle.table.specs.Lts.{lts};
 ghost use Rattle.table.specs.Transitions.{saidStretch, stateRefusal, fromRefusal, outgoingTransitions, nextIncomingRow};
+ghost use Rattle.table.specs.Lent.{ltsOf};
 use crate::Table;
 use crate::checks::check;
 use crate::core::rows_of;
@@ -11,6 +11,8 @@ use columns::answers::Refusal;
 use columns::answers::number;
 use columns::answers::refuse;
 use columns::answers::refusing_number;
+use columns::limits::NONE;
+use columns::limits::OUT_OF_RANGE;
 
 // The outcome: the rows from `first` to before `end`.
 pub enum StretchOutcome {
@@ -30,7 +32,7 @@ fn state_refusal(
     target: &[u16],
     state: usize,
 ) -> Refusal
-    ensures { λ r. ⌜ r ≡ stateRefusal (lts table (now (source .entry)) (now (label .entry)) (now (target .entry))) state none ⌝ }
+    ensures { λ r. ⌜ r ≡ stateRefusal (ltsOf table source label target) state none ⌝ }
 {
     let t = check(table, source, label, target, true);
     let refused = t.number;
@@ -38,9 +40,9 @@ fn state_refusal(
         return t;
     }
     if table.n as usize <= state {
-        return refuse(8, state as u64);
+        return refuse(OUT_OF_RANGE, state as u64);
     }
-    refuse(0, 0)
+    refuse(NONE, 0)
 }
 
 // The refusal of a call with the table, a state, and the row from which another one is sought.
@@ -52,7 +54,7 @@ fn next_refusal(
     state: usize,
     from: usize,
 ) -> Refusal
-    ensures { λ r. ⌜ r ≡ stateRefusal (lts table (now (source .entry)) (now (label .entry)) (now (target .entry))) state (fromRefusal (table .m) from) ⌝ }
+    ensures { λ r. ⌜ r ≡ stateRefusal (ltsOf table source label target) state (fromRefusal (table .m) from) ⌝ }
 {
     let t = state_refusal(table, source, label, target, state);
     let refused = t.number;
@@ -60,9 +62,9 @@ fn next_refusal(
         return t;
     }
     if (table.m as usize) < from {
-        return refuse(8, from as u64);
+        return refuse(OUT_OF_RANGE, from as u64);
     }
-    refuse(0, 0)
+    refuse(NONE, 0)
 }
 
 // The run of the state's rows: their first, and the row after their last.
@@ -73,7 +75,7 @@ pub fn outgoing_transitions(
     target: &[u16],
     state: u16,
 ) -> StretchAnswer
-    ensures { λ r. ⌜ saidStretch r ≡ outgoingTransitions (lts table (now (source .entry)) (now (label .entry)) (now (target .entry))) state ⌝ }
+    ensures { λ r. ⌜ saidStretch r ≡ outgoingTransitions (ltsOf table source label target) state ⌝ }
 {
     let s = state as usize;
     let t = state_refusal(table, source, label, target, s);
@@ -102,7 +104,7 @@ pub fn next_incoming(
     state: u16,
     from: u16,
 ) -> NumberAnswer
-    ensures { λ r. ⌜ saidNumber r ≡ nextIncomingRow (lts table (now (source .entry)) (now (label .entry)) (now (target .entry))) state from ⌝ }
+    ensures { λ r. ⌜ saidNumber r ≡ nextIncomingRow (ltsOf table source label target) state from ⌝ }
 {
     let s = state as usize;
     let i = from as usize;

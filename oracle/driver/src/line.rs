@@ -13,17 +13,10 @@ pub enum Stop {
     Panicked,
 }
 
-/// Cells of the longest column that may be lent, with a cell for each state or block, and for each row.
-const COLUMN_ROOM: usize = 5_000;
-const ROWS_ROOM: usize = 8_400;
+/// Cells of the longest slice that may be lent.
+const ROOM: usize = 70_000;
 /// Records of the longest list of blocks that may be lent.
 const RECORDS_ROOM: usize = 4_096;
-/// Cells of the longest work slice of an operation on a table.
-const WORK_ROOM: usize = 12_600;
-/// Cells of the longest column of given lists, and of a result that takes them in.
-const LISTS_ROOM: usize = 70_000;
-/// Bytes of the longest text that may be lent.
-const TEXT_ROOM: usize = 70_000;
 
 /// What is left of a line: words with one blank between.
 pub struct Line<'a>(std::str::Split<'a, char>);
@@ -55,14 +48,14 @@ impl<'a> Line<'a> {
         self.up_to(u16::MAX.into())
     }
 
-    fn slice(&mut self, room: usize, largest: usize) -> Result<Vec<usize>, Stop> {
-        let length = self.up_to(room)?;
+    fn slice(&mut self, largest: usize) -> Result<Vec<usize>, Stop> {
+        let length = self.up_to(ROOM)?;
         (0..length).map(|_| self.up_to(largest)).collect()
     }
 
     /// A slice of numbers: its length and its cells.
     pub fn column(&mut self) -> Result<Vec<usize>, Stop> {
-        self.slice(COLUMN_ROOM, u16::MAX.into())
+        self.slice(u16::MAX.into())
     }
 
     /// A list of block records: its length and the three fields of each.
@@ -71,24 +64,9 @@ impl<'a> Line<'a> {
         (0..length).map(|_| Ok([self.number()?, self.number()?, self.number()?])).collect()
     }
 
-    /// A slice with a number for each row of a table.
-    pub fn rows(&mut self) -> Result<Vec<usize>, Stop> {
-        self.slice(ROWS_ROOM, u16::MAX.into())
-    }
-
-    /// A work slice of an operation on a table.
-    pub fn work(&mut self) -> Result<Vec<usize>, Stop> {
-        self.slice(WORK_ROOM, u16::MAX.into())
-    }
-
-    /// A column of given lists, or of a result that takes them in.
-    pub fn lists(&mut self) -> Result<Vec<usize>, Stop> {
-        self.slice(LISTS_ROOM, u16::MAX.into())
-    }
-
     /// The starts of given lists, each u32.
     pub fn starts(&mut self) -> Result<Vec<usize>, Stop> {
-        self.slice(COLUMN_ROOM, u32::MAX as usize)
+        self.slice(u32::MAX as usize)
     }
 
     /// A flag, 0 or 1.
@@ -96,14 +74,9 @@ impl<'a> Line<'a> {
         Ok(self.up_to(1)? == 1)
     }
 
-    /// A byte for each state: the length and the bytes as numbers.
-    pub fn byte_column(&mut self) -> Result<Vec<usize>, Stop> {
-        self.slice(COLUMN_ROOM, u8::MAX.into())
-    }
-
     /// A slice of bytes: its length and its bytes as numbers.
-    pub fn text(&mut self) -> Result<Vec<usize>, Stop> {
-        self.slice(TEXT_ROOM, u8::MAX.into())
+    pub fn bytes(&mut self) -> Result<Vec<usize>, Stop> {
+        self.slice(u8::MAX.into())
     }
 
     /// The line has no further word.

@@ -102,7 +102,7 @@ fn iter_block(line: &mut Line) -> Result<String, Stop> {
 }
 
 fn display(line: &mut Line) -> Result<String, Stop> {
-    let (lent, mut text) = (Lent::read(line)?, line.text()?);
+    let (lent, mut text) = (Lent::read(line)?, line.bytes()?);
     line.end()?;
     lent.accept()?;
     let partition = lent.partition();

@@ -27,7 +27,7 @@ fn pair((label, block): (usize, usize)) -> (LabelIndex, BlockIndex) {
 
 /// A list of pairs in two columns; it ends with the shorter one.
 fn read_pairs(line: &mut Line) -> Result<Vec<(usize, usize)>, Stop> {
-    let (labels, blocks) = (line.rows()?, line.rows()?);
+    let (labels, blocks) = (line.column()?, line.column()?);
     Ok(labels.into_iter().zip(blocks).collect())
 }
 
@@ -124,7 +124,7 @@ struct Lists {
 
 impl Lists {
     fn read(line: &mut Line) -> Result<Lists, Stop> {
-        let (starts, labels, blocks) = (line.starts()?, line.lists()?, line.lists()?);
+        let (starts, labels, blocks) = (line.starts()?, line.column()?, line.column()?);
         Ok(Lists { starts, pairs: labels.into_iter().zip(blocks).map(pair).collect() })
     }
 
@@ -149,12 +149,12 @@ impl Lists {
 impl Slices {
     /// Two result columns, and so many work slices.
     fn read(line: &mut Line, works: usize) -> Result<Slices, Stop> {
-        let result = [line.rows()?, line.rows()?];
+        let result = [line.column()?, line.column()?];
         Slices::with_work(result, line, works)
     }
 
     fn with_work(result: [Vec<usize>; 2], line: &mut Line, works: usize) -> Result<Slices, Stop> {
-        let work = (0..works).map(|_| line.work()).collect::<Result<_, _>>()?;
+        let work = (0..works).map(|_| line.column()).collect::<Result<_, _>>()?;
         Ok(Slices { result, work })
     }
 
@@ -192,7 +192,7 @@ fn strong_bisim_signature(line: &mut Line) -> Result<String, Stop> {
 }
 
 fn branching_bisim_signature_inductive(line: &mut Line) -> Result<String, Stop> {
-    let (given, keys, slices) = (Given::read(line)?, line.rows()?, Slices::read(line, 4)?);
+    let (given, keys, slices) = (Given::read(line)?, line.column()?, Slices::read(line, 4)?);
     line.end()?;
     accept(keys.len() >= given.table.n)?;
     let keys: Vec<_> = keys.into_iter().map(BlockIndex::new).collect();
@@ -211,7 +211,7 @@ fn branching_bisim_signature(line: &mut Line) -> Result<String, Stop> {
 }
 
 fn branching_bisim_signature_sorted(line: &mut Line) -> Result<String, Stop> {
-    let (given, lists, result) = (Given::read(line)?, Lists::read(line)?, [line.lists()?, line.lists()?]);
+    let (given, lists, result) = (Given::read(line)?, Lists::read(line)?, [line.column()?, line.column()?]);
     let slices = Slices::with_work(result, line, 7)?;
     line.end()?;
     lists.accept(given.table.n)?;

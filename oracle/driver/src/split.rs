@@ -51,7 +51,7 @@ fn partition_marked_with(line: &mut Line) -> Result<String, Stop> {
 }
 
 fn split_marked(line: &mut Line) -> Result<String, Stop> {
-    let (lent, block, choice) = (Lent::read(line)?, line.number()?, line.byte_column()?);
+    let (lent, block, choice) = (Lent::read(line)?, line.number()?, line.bytes()?);
     line.end()?;
     lent.accept()?;
     accept(choice.len() >= lent.n)?;

@@ -32,7 +32,7 @@ fn mark_backward_closure(line: &mut Line) -> Result<String, Stop> {
     let (table, columns) = (Table::read(line)?, Columns::read(line)?);
     let lent = Lent { n: table.n, count: line.number()?, columns };
     let block = line.number()?;
-    let mut work = [line.work()?, line.work()?];
+    let mut work = [line.column()?, line.column()?];
     line.end()?;
     table.accept()?;
     work.iter().try_for_each(|slice| table.accept_work(slice))?;
@@ -49,8 +49,8 @@ fn mark_backward_closure(line: &mut Line) -> Result<String, Stop> {
 
 fn sort_topological(line: &mut Line) -> Result<String, Stop> {
     let (table, hidden, reversed) = (Table::read(line)?, line.flag()?, line.flag()?);
-    let mut places = line.rows()?;
-    let mut work = [line.work()?, line.work()?];
+    let mut places = line.column()?;
+    let mut work = [line.column()?, line.column()?];
     line.end()?;
     table.accept()?;
     accept(places.len() >= table.n)?;

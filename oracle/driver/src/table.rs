@@ -37,9 +37,9 @@ impl Table {
             labels: line.number()?,
             m: line.number()?,
             initial: line.number()?,
-            source: line.rows()?,
-            label: line.rows()?,
-            target: line.rows()?,
+            source: line.column()?,
+            label: line.column()?,
+            target: line.column()?,
         })
     }
 

@@ -5,7 +5,7 @@ use mathlib.Core.Path.{_≡_, refl, sym, _∙_}
 use mathlib.Core.List.{List}
 use lib.ListN.{length}
 use Rattle.columns.specs.Sets.{rowLt}
-use Rattle.columns.specs.Columns.{keyOf, before}
+use Rattle.columns.specs.Columns.{keyOf, comesBefore}
 use Rattle.columns.specs.Rows.{firstsBy}
 use Rattle.columns.proofs.Picking.{Picking, pick-none, pick-none-over, pick-start, pick-more, pick-less, pick-count, pick-over}
 use Rattle.columns.proofs.rows.distinct.Statement.{statement}
@@ -19,13 +19,22 @@ abbrev μ-loop : tie.MeasureT-loop
 
 returns : tie.Need-returns Inv-loop μ-loop
 unfolding firstsBy
-returns c = (pick-none rowLt (keyOf (c .before .before .before .before .before .args .a .now) (c .before .before .before .before .before .args .b .now) (c .before .before .before .before .before .args .c .now)) (c .before .before .before .before .before .args .order .now) (c .if1 .taken), pick-none-over rowLt (keyOf (c .before .before .before .before .before .args .a .now) (c .before .before .before .before .before .args .b .now) (c .before .before .before .before .before .args .c .now)) (c .before .before .before .before .before .args .order .now) (c .if1 .taken))
+returns c = (
+  pick-none rowLt (keyOf (c .before .before .before .before .before .args .a .now)
+      (c .before .before .before .before .before .args .b .now) (c .before .before .before .before .before .args .c .now))
+      (c .before .before .before .before .before .args .order .now) (c .if1 .taken),
+  pick-none-over rowLt (keyOf (c .before .before .before .before .before .args .a .now)
+      (c .before .before .before .before .before .args .b .now) (c .before .before .before .before .before .args .c .now))
+      (c .before .before .before .before .before .args .order .now) (c .if1 .taken),
+)
 
 slice-read-last : tie.Need-slice-read-last Inv-loop μ-loop
 slice-read-last c = omega arith
 
 loop-holds : tie.Need-loop-holds Inv-loop μ-loop
-loop-holds c = pick-start rowLt (keyOf (c .before .before .before .before .before .before .args .a .now) (c .before .before .before .before .before .before .args .b .now) (c .before .before .before .before .before .before .args .c .now)) (c .before .before .before .before .before .before .args .order .now) (omega arith)
+loop-holds c = pick-start rowLt (keyOf (c .before .before .before .before .before .before .args .a .now)
+    (c .before .before .before .before .before .before .args .b .now) (c .before .before .before .before .before .before .args .c .now))
+    (c .before .before .before .before .before .before .args .order .now) (omega arith)
 
 mul-x : tie.Need-mul-x Inv-loop μ-loop
 mul-x c = search needs
@@ -52,8 +61,12 @@ loop-less : tie.Need-loop-less Inv-loop μ-loop
 loop-less c = search needs
 
 loop-again : tie.Need-loop-again Inv-loop μ-loop
-unfolding before
-loop-again c = pick-more rowLt (keyOf (c .before .before .before .before .before .before .before .before .before .before .before .args .a .now) (c .before .before .before .before .before .before .before .before .before .before .before .args .b .now) (c .before .before .before .before .before .before .before .before .before .before .before .args .c .now)) _ _ _ _ _ (c .before .before .before .before .loop .inv) (omega arith) (sym (c .before .comes-before .ensures) ∙ c .if2 .taken)
+unfolding comesBefore
+loop-again c =
+    pick-more rowLt (keyOf (c .before .before .before .before .before .before .before .before .before .before .before .args .a .now)
+    (c .before .before .before .before .before .before .before .before .before .before .before .args .b .now)
+    (c .before .before .before .before .before .before .before .before .before .before .before .args .c .now)) _ _ _ _ _
+    (c .before .before .before .before .loop .inv) (omega arith) (sym (c .before .comes-before .ensures) ∙ c .if2 .taken)
 
 add-i-2 : tie.Need-add-i-2 Inv-loop μ-loop
 add-i-2 c = search needs
@@ -62,15 +75,28 @@ loop-less-2 : tie.Need-loop-less-2 Inv-loop μ-loop
 loop-less-2 c = search needs
 
 loop-again-2 : tie.Need-loop-again-2 Inv-loop μ-loop
-unfolding before
-loop-again-2 c = pick-less rowLt (keyOf (c .before .before .before .before .before .before .before .before .before .before .before .args .a .now) (c .before .before .before .before .before .before .before .before .before .before .before .args .b .now) (c .before .before .before .before .before .before .before .before .before .before .before .args .c .now)) _ _ _ _ _ (c .before .before .before .before .loop .inv) (omega arith) (sym (c .before .comes-before .ensures) ∙ c .if2 .left)
+unfolding comesBefore
+loop-again-2 c =
+    pick-less rowLt (keyOf (c .before .before .before .before .before .before .before .before .before .before .before .args .a .now)
+    (c .before .before .before .before .before .before .before .before .before .before .before .args .b .now)
+    (c .before .before .before .before .before .before .before .before .before .before .before .args .c .now)) _ _ _ _ _
+    (c .before .before .before .before .loop .inv) (omega arith) (sym (c .before .comes-before .ensures) ∙ c .if2 .left)
 
 same-length : tie.Need-same-length Inv-loop μ-loop
 same-length c = c .before .loop .inv .long
 
 returns-2 : tie.Need-returns-2 Inv-loop μ-loop
 unfolding firstsBy
-returns-2 c = (pick-count rowLt (keyOf (c .before .before .before .before .before .before .before .before .args .a .now) (c .before .before .before .before .before .before .before .before .args .b .now) (c .before .before .before .before .before .before .before .before .args .c .now)) _ _ _ _ _ (c .before .loop .inv) (c .loop-test .left), pick-over rowLt (keyOf (c .before .before .before .before .before .before .before .before .args .a .now) (c .before .before .before .before .before .before .before .before .args .b .now) (c .before .before .before .before .before .before .before .before .args .c .now)) _ _ _ _ _ (c .before .loop .inv) (c .loop-test .left))
+returns-2 c = (
+  pick-count rowLt (keyOf (c .before .before .before .before .before .before .before .before .args .a .now)
+      (c .before .before .before .before .before .before .before .before .args .b .now)
+      (c .before .before .before .before .before .before .before .before .args .c .now)) _ _ _ _ _ (c .before .loop .inv)
+      (c .loop-test .left),
+  pick-over rowLt (keyOf (c .before .before .before .before .before .before .before .before .args .a .now)
+      (c .before .before .before .before .before .before .before .before .args .b .now)
+      (c .before .before .before .before .before .before .before .before .args .c .now)) _ _ _ _ _ (c .before .loop .inv)
+      (c .loop-test .left),
+)
 
 pub distinct-spec : {M : Type 1} → statement M
 distinct-spec =

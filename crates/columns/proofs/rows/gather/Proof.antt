@@ -46,7 +46,9 @@ same-length : tie.Need-same-length Inv-loop μ-loop
 same-length c = c .before .loop .inv .1 .1
 
 returns : tie.Need-returns Inv-loop μ-loop
-returns c = painted-done _ _ _ _ _ _ (c .before .loop .inv) (omega arith) (listed-map (cell (c .before .before .before .before .before .args .a .now)) (c .before .before .before .before .before .args .order .now))
+returns c = painted-done _ _ _ _ _ _ (c .before .loop .inv) (omega arith)
+    (listed-map (cell (c .before .before .before .before .before .args .a .now))
+    (c .before .before .before .before .before .args .order .now))
 
 pub gather-spec : {M : Type 1} → statement M
 gather-spec =

@@ -27,14 +27,27 @@ same-length-2 c = search needs
 returns : tie.Need-returns
 unfolding pickRows picked
 returns c =
-    let a = c .before .before .before .before .before .before .before .before .before .before .before .before .before .before .before .before .before .before .before .before .args .a .now in
-    let b = c .before .before .before .before .before .before .before .before .before .before .before .before .before .before .before .before .before .before .before .before .args .b .now in
-    let d = c .before .before .before .before .before .before .before .before .before .before .before .before .before .before .before .before .before .before .before .before .args .c .now in
-    let e : c .before .before .before .before .before .before .before .before .sort .last .0 ≡ sortBy a b d (listed (length (c .before .before .before .before .before .before .before .before .before .before .before .before .before .before .before .before .before .before .before .before .args .order .now)) (λ k. k)) = c .before .before .before .before .before .before .before .before .sort .ensures .0 ∙ ap (sortBy a b d) (c .before .before .before .before .before .before .before .before .before .before .before .before .before .count-up .ensures) in (
+    let a = c .before .before .before .before .before .before .before .before .before .before .before .before .before .before .before
+    .before .before .before .before .before .args .a .now in
+    let b = c .before .before .before .before .before .before .before .before .before .before .before .before .before .before .before
+    .before .before .before .before .before .args .b .now in
+    let d = c .before .before .before .before .before .before .before .before .before .before .before .before .before .before .before
+    .before .before .before .before .before .args .c .now in
+    let e : c .before .before .before .before .before .before .before .before .sort .last .0 ≡ sortBy a b d
+    (listed (length
+    (c .before .before .before .before .before .before .before .before .before .before .before .before .before .before .before .before
+    .before .before .before .before .args .order .now)) (λ k. k)) =
+    c .before .before .before .before .before .before .before .before .sort .ensures .0 ∙
+    ap (sortBy a b d)
+    (c .before .before .before .before .before .before .before .before .before .before .before .before .before .count-up .ensures) in (
       c .before .before .distinct .ensures .0 ∙ ap (λ (l : List ℕ). length (firstsBy a b d l)) e,
       (
         c .before .before .distinct .ensures .1 ∙ ap (λ (l : List ℕ). over (firstsBy a b d l) l) e,
-        c .before .before .before .before .before .before .before .before .sort .ensures .1 ∙ ap (λ (n : ℕ). wiped (n / 2) (c .before .before .before .before .before .before .before .before .before .before .before .before .before .before .before .before .before .before .before .before .args .spare .now)) (c .before .before .before .before .before .before .before .before .before .before .before .before .before .count-up .kept .0),
+        c .before .before .before .before .before .before .before .before .sort .ensures .1 ∙
+            ap (λ (n : ℕ). wiped (n / 2)
+            (c .before .before .before .before .before .before .before .before .before .before .before .before .before .before .before
+            .before .before .before .before .before .args .spare .now))
+            (c .before .before .before .before .before .before .before .before .before .before .before .before .before .count-up .kept .0),
       ),
     )
 

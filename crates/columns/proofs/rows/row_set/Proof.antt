@@ -16,32 +16,56 @@ slice-relend-prefix-pick-rows : tie.Need-slice-relend-prefix-pick-rows
 slice-relend-prefix-pick-rows c = search needs
 
 slice-aggregate-pick-rows : tie.Need-slice-aggregate-pick-rows
-slice-aggregate-pick-rows c = sym (length-take-le (c .before .before .before .before .before .before .before .before .before .args .m) (c .before .before .before .before .before .before .before .before .before .args .order .now) (omega arith))
+slice-aggregate-pick-rows c = sym (length-take-le (c .before .before .before .before .before .before .before .before .before .args .m)
+    (c .before .before .before .before .before .before .before .before .before .args .order .now) (omega arith))
 
 pick-rows-requires : tie.Need-pick-rows-requires
-pick-rows-requires c κs = (omega (arith, length-take-le (c .before .before .before .before .before .before .before .before .before .before .args .m) (c .before .before .before .before .before .before .before .before .before .before .args .order .now) (c .before .before .before .before .before .before .before .before .before .before .pre .1 .1 .0)), omega (arith, length-take-le (c .before .before .before .before .before .before .before .before .before .before .args .m) (c .before .before .before .before .before .before .before .before .before .before .args .order .now) (c .before .before .before .before .before .before .before .before .before .before .pre .1 .1 .0)))
+pick-rows-requires c κs = (
+  omega (
+    arith,
+    length-take-le (c .before .before .before .before .before .before .before .before .before .before .args .m)
+        (c .before .before .before .before .before .before .before .before .before .before .args .order .now)
+        (c .before .before .before .before .before .before .before .before .before .before .pre .1 .1 .0),
+  ),
+  omega (
+    arith,
+    length-take-le (c .before .before .before .before .before .before .before .before .before .before .args .m)
+        (c .before .before .before .before .before .before .before .before .before .before .args .order .now)
+        (c .before .before .before .before .before .before .before .before .before .before .pre .1 .1 .0),
+  ),
+)
 
 slice-reshare-prefix-write-rows : tie.Need-slice-reshare-prefix-write-rows
 slice-reshare-prefix-write-rows c =
-    let g = c .before .before .before .before .before .before .before .before .before .before .before .before .before .before .before .before .before .before .args in
+    let g = c .before .before .before .before .before .before .before .before .before .before .before .before .before .before .before
+    .before .before .before .args in
     let q = c .before .before .before .before .before .before .before .pick-rows in
-    let k = lent (g .m) (q .result) (g .a .now) (g .b .now) (g .c .now) (g .order .now) (q .last .0) (c .before .before .before .before .before .before .before .before .before .before .before .before .before .before .before .before .before .before .pre .1 .1 .0) (q .ensures .0) (q .ensures .1 .0) (q .kept .0) in
+    let k = lent (g .m) (q .result) (g .a .now) (g .b .now) (g .c .now) (g .order .now) (q .last .0)
+    (c .before .before .before .before .before .before .before .before .before .before .before .before .before .before .before .before
+    .before .before .pre .1 .1 .0) (q .ensures .0) (q .ensures .1 .0) (q .kept .0) in
     omega (arith, k .few, k .wide)
 
 slice-aggregate-write-rows : tie.Need-slice-aggregate-write-rows
 slice-aggregate-write-rows c =
-    let g = c .before .before .before .before .before .before .before .before .before .before .before .before .before .before .before .before .before .before .before .args in
+    let g = c .before .before .before .before .before .before .before .before .before .before .before .before .before .before .before
+    .before .before .before .before .args in
     let q = c .before .before .before .before .before .before .before .before .pick-rows in
-    let k = lent (g .m) (q .result) (g .a .now) (g .b .now) (g .c .now) (g .order .now) (q .last .0) (c .before .before .before .before .before .before .before .before .before .before .before .before .before .before .before .before .before .before .before .pre .1 .1 .0) (q .ensures .0) (q .ensures .1 .0) (q .kept .0) in
+    let k = lent (g .m) (q .result) (g .a .now) (g .b .now) (g .c .now) (g .order .now) (q .last .0)
+    (c .before .before .before .before .before .before .before .before .before .before .before .before .before .before .before .before
+    .before .before .before .pre .1 .1 .0) (q .ensures .0) (q .ensures .1 .0) (q .kept .0) in
     sym (length-take-le (q .result) (q .last .0 ++ drop (g .m) (g .order .now)) (omega (arith, k .few, k .wide)))
 
 write-rows-requires : tie.Need-write-rows-requires
 write-rows-requires c κs =
-    let g = c .before .before .before .before .before .before .before .before .before .before .before .before .before .before .before .before .before .before .before .args in
+    let g = c .before .before .before .before .before .before .before .before .before .before .before .before .before .before .before
+    .before .before .before .before .args in
     let q = c .before .before .before .before .before .before .before .before .pick-rows in
-    let k = lent (g .m) (q .result) (g .a .now) (g .b .now) (g .c .now) (g .order .now) (q .last .0) (c .before .before .before .before .before .before .before .before .before .before .before .before .before .before .before .before .before .before .before .pre .1 .1 .0) (q .ensures .0) (q .ensures .1 .0) (q .kept .0) in
+    let k = lent (g .m) (q .result) (g .a .now) (g .b .now) (g .c .now) (g .order .now) (q .last .0)
+    (c .before .before .before .before .before .before .before .before .before .before .before .before .before .before .before .before
+    .before .before .before .pre .1 .1 .0) (q .ensures .0) (q .ensures .1 .0) (q .kept .0) in
     let n = length-take-le (q .result) (q .last .0 ++ drop (g .m) (g .order .now)) (omega (arith, k .few, k .wide)) in
-    let v = c .before .before .before .before .before .before .before .before .before .before .before .before .before .before .before .before .before .before .before .pre .1 .0 in
+    let v = c .before .before .before .before .before .before .before .before .before .before .before .before .before .before .before
+    .before .before .before .before .pre .1 .0 in
     (omega (arith, n, k .few, v .0), omega (arith, n, k .few, v .1), omega (arith, n, k .few, v .2))
 
 slice-relend-prefix-clear : tie.Need-slice-relend-prefix-clear
@@ -49,9 +73,14 @@ slice-relend-prefix-clear c = search needs
 
 slice-aggregate-clear : tie.Need-slice-aggregate-clear
 slice-aggregate-clear c =
-    let g = c .before .before .before .before .before .before .before .before .before .before .before .before .before .before .before .before .before .before .before .before .before .before .before .before .before .before .before .args in
-    let q = c .before .before .before .before .before .before .before .before .before .before .before .before .before .before .before .before .pick-rows in
-    let k = lent (g .m) (q .result) (g .a .now) (g .b .now) (g .c .now) (g .order .now) (q .last .0) (c .before .before .before .before .before .before .before .before .before .before .before .before .before .before .before .before .before .before .before .before .before .before .before .before .before .before .before .pre .1 .1 .0) (q .ensures .0) (q .ensures .1 .0) (q .kept .0) in
+    let g = c .before .before .before .before .before .before .before .before .before .before .before .before .before .before .before
+    .before .before .before .before .before .before .before .before .before .before .before .before .args in
+    let q = c .before .before .before .before .before .before .before .before .before .before .before .before .before .before .before
+    .before .pick-rows in
+    let k = lent (g .m) (q .result) (g .a .now) (g .b .now) (g .c .now) (g .order .now) (q .last .0)
+    (c .before .before .before .before .before .before .before .before .before .before .before .before .before .before .before .before
+    .before .before .before .before .before .before .before .before .before .before .before .pre .1 .1 .0) (q .ensures .0)
+    (q .ensures .1 .0) (q .kept .0) in
     sym (length-take-le (g .m) (q .last .0 ++ drop (g .m) (g .order .now)) (k .wide))
 
 clear-requires : tie.Need-clear-requires
@@ -74,21 +103,35 @@ same-length-5 c = search needs
 
 returns : tie.Need-returns
 returns c =
-    let g = c .before .before .before .before .before .before .before .before .before .before .before .before .before .before .before .before .before .before .before .before .before .before .before .before .before .before .before .before .before .before .args in
-    let q = c .before .before .before .before .before .before .before .before .before .before .before .before .before .before .before .before .before .before .before .pick-rows in
-    let k = lent (g .m) (q .result) (g .a .now) (g .b .now) (g .c .now) (g .order .now) (q .last .0) (c .before .before .before .before .before .before .before .before .before .before .before .before .before .before .before .before .before .before .before .before .before .before .before .before .before .before .before .before .before .before .pre .1 .1 .0) (q .ensures .0) (q .ensures .1 .0) (q .kept .0) in
-    let h = c .before .before .before .before .before .before .before .before .before .before .before .before .before .before .before .before .before .before .before .before .before .before .before .before .before .before .before .before .before .before .pre .0 in
+    let g = c .before .before .before .before .before .before .before .before .before .before .before .before .before .before .before
+    .before .before .before .before .before .before .before .before .before .before .before .before .before .before .before .args in
+    let q = c .before .before .before .before .before .before .before .before .before .before .before .before .before .before .before
+    .before .before .before .before .pick-rows in
+    let k = lent (g .m) (q .result) (g .a .now) (g .b .now) (g .c .now) (g .order .now) (q .last .0)
+    (c .before .before .before .before .before .before .before .before .before .before .before .before .before .before .before .before
+    .before .before .before .before .before .before .before .before .before .before .before .before .before .before .pre .1 .1 .0)
+    (q .ensures .0) (q .ensures .1 .0) (q .kept .0) in
+    let h = c .before .before .before .before .before .before .before .before .before .before .before .before .before .before .before
+    .before .before .before .before .before .before .before .before .before .before .before .before .before .before .before .pre .0 in
     let w = c .before .before .before .before .before .before .before .before .before .before .write-rows .ensures in (
       k .count ∙ count-rows (g .m) (g .a .now) (g .b .now) (g .c .now) (h .0) (h .1) (h .2),
       (
-        w .0 ∙ ap (λ (t : List ℕ). over (map (cell (g .a .now)) t) (g .x .now)) (k .front) ∙ ap (λ (t : List ℕ). over t (g .x .now)) (first-column (g .m) (g .a .now) (g .b .now) (g .c .now) (h .0) (h .1) (h .2)),
+        w .0 ∙ ap (λ (t : List ℕ). over (map (cell (g .a .now)) t) (g .x .now)) (k .front) ∙
+            ap (λ (t : List ℕ). over t (g .x .now)) (first-column (g .m) (g .a .now) (g .b .now) (g .c .now) (h .0) (h .1) (h .2)),
         (
-          w .1 .0 ∙ ap (λ (t : List ℕ). over (map (cell (g .b .now)) t) (g .y .now)) (k .front) ∙ ap (λ (t : List ℕ). over t (g .y .now)) (second-column (g .m) (g .a .now) (g .b .now) (g .c .now) (h .0) (h .1) (h .2)),
+          w .1 .0 ∙ ap (λ (t : List ℕ). over (map (cell (g .b .now)) t) (g .y .now)) (k .front) ∙
+              ap (λ (t : List ℕ). over t (g .y .now)) (second-column (g .m) (g .a .now) (g .b .now) (g .c .now) (h .0) (h .1) (h .2)),
           (
-            w .1 .1 ∙ ap (λ (t : List ℕ). over (map (cell (g .c .now)) t) (g .z .now)) (k .front) ∙ ap (λ (t : List ℕ). over t (g .z .now)) (third-column (g .m) (g .a .now) (g .b .now) (g .c .now) (h .0) (h .1) (h .2)),
+            w .1 .1 ∙ ap (λ (t : List ℕ). over (map (cell (g .c .now)) t) (g .z .now)) (k .front) ∙
+                ap (λ (t : List ℕ). over t (g .z .now)) (third-column (g .m) (g .a .now) (g .b .now) (g .c .now) (h .0) (h .1) (h .2)),
             (
-              wiped-front (g .m) (g .order .now) (q .last .0 ++ drop (g .m) (g .order .now)) (c .before .before .clear .last .0) (k .wide) (c .before .before .clear .ensures) (k .rest),
-              q .ensures .1 .1 ∙ ap (λ (i : ℕ). wiped (i / 2) (g .spare .now)) (length-take-le (g .m) (g .order .now) (c .before .before .before .before .before .before .before .before .before .before .before .before .before .before .before .before .before .before .before .before .before .before .before .before .before .before .before .before .before .before .pre .1 .1 .0)),
+              wiped-front (g .m) (g .order .now) (q .last .0 ++ drop (g .m) (g .order .now)) (c .before .before .clear .last .0) (k .wide)
+                  (c .before .before .clear .ensures) (k .rest),
+              q .ensures .1 .1 ∙ ap (λ (i : ℕ). wiped (i / 2) (g .spare .now))
+                  (length-take-le (g .m) (g .order .now)
+                  (c .before .before .before .before .before .before .before .before .before .before .before .before .before .before .before
+                  .before .before .before .before .before .before .before .before .before .before .before .before .before .before .before
+                  .pre .1 .1 .0)),
             ),
           ),
         ),

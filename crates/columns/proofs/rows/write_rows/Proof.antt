@@ -22,7 +22,10 @@ same-length-3 : tie.Need-same-length-3
 same-length-3 c = search needs
 
 returns : tie.Need-returns
-returns c = (c .before .before .before .before .before .before .before .before .before .before .gather .ensures, (c .before .before .before .before .before .before .gather2 .ensures, c .before .before .gather3 .ensures))
+returns c = (
+  c .before .before .before .before .before .before .before .before .before .before .gather .ensures,
+  (c .before .before .before .before .before .before .gather2 .ensures, c .before .before .gather3 .ensures),
+)
 
 pub write-rows-spec : {M : Type 1} → statement M
 write-rows-spec =

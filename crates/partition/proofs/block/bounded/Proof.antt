@@ -1,26 +1,21 @@
 -- `block.bounded` meets its contract.
 use borrow.Author.Needs.{needs}
-use borrow.Author.Tests.{lt-ltb, le-ltb, le-leb, lt-leb, not-true, not-false}
+use borrow.Author.Tests.{not-true, not-false}
+use mathlib.Core.Path.{sym, _∙_}
 use Rattle.partition.specs.Block.{newBlock}
 use Rattle.partition.proofs.block.bounded.Statement.{statement}
 use Rattle.partition.proofs.block.bounded.Tie as tie
 
+within-requires : tie.Need-within-requires
+within-requires c κs = search needs
+
 returns : tie.Need-returns
 unfolding newBlock
-returns c = simp (le-ltb _ _ (c .if1 .taken))
+returns c = simp (sym (c .before .within .ensures) ∙ not-true _ (c .if1 .taken))
 
 returns-2 : tie.Need-returns-2
 unfolding newBlock
-returns-2 c = simp (lt-ltb _ _ (c .before .if1 .left), lt-leb _ _ (c .if2 .taken))
-
-returns-3 : tie.Need-returns-3
-unfolding newBlock
-returns-3 c = simp (lt-ltb _ _ (c .before .if1 .left), le-leb _ _ (c .if2 .left))
+returns-2 c = simp (sym (c .before .within .ensures) ∙ not-false _ (c .if1 .left))
 
 pub bounded-spec : {M : Type 1} → statement M
-bounded-spec =
-    tie.close
-    (tie.spec
-    returns
-    returns-2
-    returns-3)
+bounded-spec = tie.close (tie.spec within-requires returns returns-2)

@@ -4,6 +4,7 @@ use borrow.Author.Tests.{lt-ltb, le-ltb, le-leb, lt-leb, not-true, not-false}
 use mathlib.Core.Path.{_≡_, refl, sym, ap, _∙_}
 use mathlib.Core.Bool.{true}
 use lib.Dec.{ltb}
+use Rattle.columns.specs.Limits.{outOfRange}
 use Rattle.partition.specs.Checks.{blockRefusal}
 use Rattle.partition.specs.Partition.{Partition, parts}
 use Rattle.columns.specs.Answers.{refusal, none, unless}
@@ -22,21 +23,28 @@ check-requires c κs = search needs
 
 returns : tie.Need-returns
 unfolding blockRefusal
-returns c = let a = c .before .before .before .before .before .before .before .before in checked-out (P a) true (unless (ltb (a .args .b) (a .args .count)) (refusal 8 (a .args .b)) (none)) _ (c .before .check .ensures) (c .if1 .taken)
+returns c = let a = c .before .before .before .before .before .before .before .before in
+    checked-out (P a) true (unless (ltb (a .args .b) (a .args .count)) (refusal outOfRange (a .args .b)) (none)) _
+    (c .before .check .ensures)
+    (c .if1 .taken)
 
 refuse-requires : tie.Need-refuse-requires
 refuse-requires c κs = search needs
 
 returns-2 : tie.Need-returns-2
 unfolding blockRefusal
-returns-2 c = let a = c .before .before .before .before .before .before .before .before .before .before in c .refuse .ensures ∙ sym (checked-on (P a) true (unless (ltb (a .args .b) (a .args .count)) (refusal 8 (a .args .b)) (none)) _ (c .before .before .before .check .ensures) (c .before .before .if1 .left) ∙ simp (le-ltb _ _ (c .before .if2 .taken)))
+returns-2 c = let a = c .before .before .before .before .before .before .before .before .before .before in c .refuse .ensures ∙
+    sym (checked-on (P a) true (unless (ltb (a .args .b) (a .args .count)) (refusal outOfRange (a .args .b)) (none)) _
+    (c .before .before .before .check .ensures) (c .before .before .if1 .left) ∙ simp (le-ltb _ _ (c .before .if2 .taken)))
 
 refuse-requires-2 : tie.Need-refuse-requires-2
 refuse-requires-2 c κs = search needs
 
 returns-3 : tie.Need-returns-3
 unfolding blockRefusal
-returns-3 c = let a = c .before .before .before .before .before .before .before .before .before .before in c .refuse2 .ensures ∙ sym (checked-on (P a) true (unless (ltb (a .args .b) (a .args .count)) (refusal 8 (a .args .b)) (none)) _ (c .before .before .before .check .ensures) (c .before .before .if1 .left) ∙ simp (lt-ltb _ _ (c .before .if2 .left)))
+returns-3 c = let a = c .before .before .before .before .before .before .before .before .before .before in c .refuse2 .ensures ∙
+    sym (checked-on (P a) true (unless (ltb (a .args .b) (a .args .count)) (refusal outOfRange (a .args .b)) (none)) _
+    (c .before .before .before .check .ensures) (c .before .before .if1 .left) ∙ simp (lt-ltb _ _ (c .before .if2 .left)))
 
 pub block-refusal-spec : {M : Type 1} → statement M
 block-refusal-spec =

@@ -11,10 +11,10 @@ use Rattle.partition.proofs.checks.blocks_ok.Statement.{statement}
 use Rattle.partition.proofs.checks.blocks_ok.Tie as tie
 
 abbrev Inv-loop : tie.InvT-loop
-Inv-loop begin split end n count b₀ b = (b ≤ count) × (all b (blockAt begin split end n) ≡ true)
+Inv-loop n count begin split end b₀ b = (b ≤ count) × (all b (blockAt begin split end n) ≡ true)
 
 abbrev μ-loop : tie.MeasureT-loop
-μ-loop begin split end n count b₀ b = count - b
+μ-loop n count begin split end b₀ b = count - b
 
 loop-holds : tie.Need-loop-holds Inv-loop μ-loop
 loop-holds c = (omega arith, all-none _)
@@ -33,7 +33,11 @@ loop-less : tie.Need-loop-less Inv-loop μ-loop
 loop-less c = omega arith
 
 loop-again : tie.Need-loop-again Inv-loop μ-loop
-loop-again c = (omega arith, all-more _ _ (c .before .before .before .loop .inv .1) (sym (c .before .block-at .ensures) ∙ not-false _ (c .if1 .left)))
+loop-again c = (
+  omega arith,
+  all-more _ _ (c .before .before .before .loop .inv .1)
+      (sym (c .before .block-at .ensures) ∙ not-false _ (c .if1 .left)),
+)
 
 returns-2 : tie.Need-returns-2 Inv-loop μ-loop
 unfolding blocksb

@@ -38,32 +38,63 @@ refuse-requires-3 c κs = search needs
 
 returns-3 : tie.Need-returns-3
 unfolding checked longb
-returns-3 c = c .refuse3 .ensures ∙ simp (size-right _ (c .before .before .before .before .if1 .left) (c .before .before .before .if2 .left), sym (c .before .before .long .ensures) ∙ not-true _ (c .before .if3 .taken))
+returns-3 c = c .refuse3 .ensures ∙ simp (
+  size-right _ (c .before .before .before .before .if1 .left)
+      (c .before .before .before .if2 .left),
+  sym (c .before .before .long .ensures) ∙ not-true _ (c .before .if3 .taken),
+)
 
 refuse-requires-4 : tie.Need-refuse-requires-4
 refuse-requires-4 c κs = search needs
 
 returns-4 : tie.Need-returns-4
 unfolding checked longb
-returns-4 c = c .refuse4 .ensures ∙ simp (size-right _ (c .before .before .before .before .before .if1 .left) (c .before .before .before .before .if2 .left), sym (c .before .before .before .long .ensures) ∙ not-false _ (c .before .before .if3 .left), not-true (c .before .before .before .before .before .before .before .before .before .before .before .before .args .room) (c .before .if4 .taken))
+returns-4 c = c .refuse4 .ensures ∙ simp (
+  size-right _ (c .before .before .before .before .before .if1 .left)
+      (c .before .before .before .before .if2 .left),
+  sym (c .before .before .before .long .ensures) ∙
+      not-false _ (c .before .before .if3 .left),
+  not-true
+      (c .before .before .before .before .before .before .before .before .before .before .before .before .args .room)
+      (c .before .if4 .taken),
+)
 
 consistent-requires : tie.Need-consistent-requires
 unfolding longb
-consistent-requires c κs = let l = long-of (P (c .before .before .before .before .before .before .before .before .before .before .before)) (sym (c .before .before .long .ensures) ∙ not-false _ (c .before .if3 .left)) in omega (arith, l, c .before .before .before .if2 .left)
+consistent-requires c κs = let l = long-of (P (c .before .before .before .before .before .before .before .before .before .before .before))
+    (sym (c .before .before .long .ensures) ∙ not-false _ (c .before .if3 .left)) in omega (arith, l, c .before .before .before .if2 .left)
 
 refuse-requires-5 : tie.Need-refuse-requires-5
 refuse-requires-5 c κs = search needs
 
 returns-5 : tie.Need-returns-5
 unfolding checked longb
-returns-5 c = c .refuse5 .ensures ∙ simp (size-right _ (c .before .before .before .before .before .before .before .if1 .left) (c .before .before .before .before .before .before .if2 .left), sym (c .before .before .before .before .before .long .ensures) ∙ not-false _ (c .before .before .before .before .if3 .left), not-false (c .before .before .before .before .before .before .before .before .before .before .before .before .before .before .args .room) (c .before .before .before .if4 .left), sym (c .before .before .consistent .ensures) ∙ not-true _ (c .before .if5 .taken))
+returns-5 c = c .refuse5 .ensures ∙ simp (
+  size-right _ (c .before .before .before .before .before .before .before .if1 .left)
+      (c .before .before .before .before .before .before .if2 .left),
+  sym (c .before .before .before .before .before .long .ensures) ∙
+      not-false _ (c .before .before .before .before .if3 .left),
+  not-false
+      (c .before .before .before .before .before .before .before .before .before .before .before .before .before .before .args .room)
+      (c .before .before .before .if4 .left),
+  sym (c .before .before .consistent .ensures) ∙ not-true _ (c .before .if5 .taken),
+)
 
 refuse-requires-6 : tie.Need-refuse-requires-6
 refuse-requires-6 c κs = search needs
 
 returns-6 : tie.Need-returns-6
 unfolding checked longb
-returns-6 c = c .refuse6 .ensures ∙ simp (size-right _ (c .before .before .before .before .before .before .before .if1 .left) (c .before .before .before .before .before .before .if2 .left), sym (c .before .before .before .before .before .long .ensures) ∙ not-false _ (c .before .before .before .before .if3 .left), not-false (c .before .before .before .before .before .before .before .before .before .before .before .before .before .before .args .room) (c .before .before .before .if4 .left), sym (c .before .before .consistent .ensures) ∙ not-false _ (c .before .if5 .left))
+returns-6 c = c .refuse6 .ensures ∙ simp (
+  size-right _ (c .before .before .before .before .before .before .before .if1 .left)
+      (c .before .before .before .before .before .before .if2 .left),
+  sym (c .before .before .before .before .before .long .ensures) ∙
+      not-false _ (c .before .before .before .before .if3 .left),
+  not-false
+      (c .before .before .before .before .before .before .before .before .before .before .before .before .before .before .args .room)
+      (c .before .before .before .if4 .left),
+  sym (c .before .before .consistent .ensures) ∙ not-false _ (c .before .if5 .left),
+)
 
 pub check-spec : {M : Type 1} → statement M
 check-spec =

@@ -61,7 +61,8 @@ unfolding consistentb
 returns-6 c = simp (
   le-leb _ _ (c .before .before .before .before .before .before .before .before .before .if1 .left),
   le-leb _ _ (c .before .before .before .before .before .before .before .before .if2 .left),
-  sym (c .before .before .before .before .before .before .before .inverse-ok .ensures) ∙ not-false _ (c .before .before .before .before .before .before .if3 .left),
+  sym (c .before .before .before .before .before .before .before .inverse-ok .ensures) ∙
+      not-false _ (c .before .before .before .before .before .before .if3 .left),
   sym (c .before .before .before .before .before .blocks-ok .ensures) ∙ not-false _ (c .before .before .before .before .if4 .left),
   sym (c .before .before .before .lies-ok .ensures) ∙ not-false _ (c .before .before .if5 .left),
   eq-eqb _ _ (sym (c .before .length-sum .ensures) ∙ c .if6 .taken),
@@ -72,7 +73,8 @@ unfolding consistentb
 returns-7 c = simp (
   le-leb _ _ (c .before .before .before .before .before .before .before .before .before .if1 .left),
   le-leb _ _ (c .before .before .before .before .before .before .before .before .if2 .left),
-  sym (c .before .before .before .before .before .before .before .inverse-ok .ensures) ∙ not-false _ (c .before .before .before .before .before .before .if3 .left),
+  sym (c .before .before .before .before .before .before .before .inverse-ok .ensures) ∙
+      not-false _ (c .before .before .before .before .before .before .if3 .left),
   sym (c .before .before .before .before .before .blocks-ok .ensures) ∙ not-false _ (c .before .before .before .before .if4 .left),
   sym (c .before .before .before .lies-ok .ensures) ∙ not-false _ (c .before .before .if5 .left),
   ne-eqb _ _ (λ q. c .if6 .left (c .before .length-sum .ensures ∙ q)),

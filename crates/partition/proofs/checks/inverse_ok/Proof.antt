@@ -21,17 +21,18 @@ high a b n k x e h = rw (le-ltb (getD a k 0) n (omega arith))
 
 other : (a b : List ℕ) (n k x y : ℕ) → x ≡ getD a k 0 → y ≡ getD b x 0 → (y ≡ k → ⊥) → inverseAt a b n k ≡ false
 unfolding inverseAt
-other a b n k x y e e' h = and-no-right (ltb (getD a k 0) n) (eqb (getD b (getD a k 0) 0) k) (ne-eqb (getD b (getD a k 0) 0) k (λ q. h (cc)))
+other a b n k x y e e' h = and-no-right (ltb (getD a k 0) n) (eqb (getD b (getD a k 0) 0) k)
+    (ne-eqb (getD b (getD a k 0) 0) k (λ q. h (cc)))
 
 good : (a b : List ℕ) (n k x y : ℕ) → x ≡ getD a k 0 → y ≡ getD b x 0 → x < n → y ≡ k → inverseAt a b n k ≡ true
 unfolding inverseAt
 good a b n k x y e e' h q = and-both (lt-ltb _ n (omega arith)) (eq-eqb _ k (cc))
 
 abbrev Inv-loop : tie.InvT-loop
-Inv-loop a b n k₀ k = (k ≤ n) × (all k (inverseAt a b n) ≡ true)
+Inv-loop n a b k₀ k = (k ≤ n) × (all k (inverseAt a b n) ≡ true)
 
 abbrev μ-loop : tie.MeasureT-loop
-μ-loop a b n k₀ k = n - k
+μ-loop n a b k₀ k = n - k
 
 loop-holds : tie.Need-loop-holds Inv-loop μ-loop
 loop-holds c = (omega arith, all-none _)
@@ -60,8 +61,11 @@ loop-less c = omega arith
 
 loop-again : tie.Need-loop-again Inv-loop μ-loop
 loop-again c =
-    let e = c .before .before .before .at .ensures .0 in
-    (omega arith, all-more _ _ (c .before .before .before .before .before .loop .inv .1) (good _ _ _ _ _ _ e (c .before .at2 .ensures .0) (omega arith) (c .if2 .left)))
+    let e = c .before .before .before .at .ensures .0 in (
+      omega arith,
+      all-more _ _ (c .before .before .before .before .before .loop .inv .1)
+          (good _ _ _ _ _ _ e (c .before .at2 .ensures .0) (omega arith) (c .if2 .left)),
+    )
 
 returns-3 : tie.Need-returns-3 Inv-loop μ-loop
 unfolding inverseb

@@ -9,10 +9,10 @@ use Rattle.partition.proofs.checks.length_sum.Statement.{statement}
 use Rattle.partition.proofs.checks.length_sum.Tie as tie
 
 abbrev Inv-loop : tie.InvT-loop
-Inv-loop begin end count sum₀ b₀ sum b = (b ≤ count) × ((sum ≡ lengths begin end b) × (sum ≤ 65535 * b))
+Inv-loop count begin end sum₀ b₀ sum b = (b ≤ count) × ((sum ≡ lengths begin end b) × (sum ≤ 65535 * b))
 
 abbrev μ-loop : tie.MeasureT-loop
-μ-loop begin end count sum₀ b₀ sum b = count - b
+μ-loop count begin end sum₀ b₀ sum b = count - b
 
 loop-holds : tie.Need-loop-holds Inv-loop μ-loop
 unfolding lengths
@@ -44,7 +44,8 @@ loop-again c =
     (c .if1 .came)
 
 returns : tie.Need-returns Inv-loop μ-loop
-returns c = let e : c .before .loop .b ≡ c .before .before .before .before .args .count = omega arith in c .before .loop .inv .1 .0 ∙ ap (lengths _ _) e
+returns c = let e : c .before .loop .b ≡ c .before .before .before .before .args .count = omega arith in c .before .loop .inv .1 .0 ∙
+    ap (lengths _ _) e
 
 pub length-sum-spec : {M : Type 1} → statement M
 length-sum-spec =

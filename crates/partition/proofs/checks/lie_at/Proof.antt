@@ -37,7 +37,8 @@ inside-requires : tie.Need-inside-requires
 inside-requires c κs = search needs
 
 returns-2 : tie.Need-returns-2
-returns-2 c = lies _ _ _ _ _ _ _ _ _ _ _ (c .before .before .before .before .before .at .ensures .0) (omega arith) (c .before .before .before .at2 .ensures .0) (c .before .before .at3 .ensures .0) (c .before .at4 .ensures .0) (c .inside .ensures)
+returns-2 c = lies _ _ _ _ _ _ _ _ _ _ _ (c .before .before .before .before .before .at .ensures .0) (omega arith)
+    (c .before .before .before .at2 .ensures .0) (c .before .before .at3 .ensures .0) (c .before .at4 .ensures .0) (c .inside .ensures)
 
 pub lie-at-spec : {M : Type 1} → statement M
 lie-at-spec =

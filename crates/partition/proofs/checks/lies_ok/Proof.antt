@@ -11,10 +11,10 @@ use Rattle.partition.proofs.checks.lies_ok.Statement.{statement}
 use Rattle.partition.proofs.checks.lies_ok.Tie as tie
 
 abbrev Inv-loop : tie.InvT-loop
-Inv-loop offset block begin end n count s₀ s = (s ≤ n) × (all s (lieAt offset block begin end count) ≡ true)
+Inv-loop n count offset block begin end s₀ s = (s ≤ n) × (all s (lieAt offset block begin end count) ≡ true)
 
 abbrev μ-loop : tie.MeasureT-loop
-μ-loop offset block begin end n count s₀ s = n - s
+μ-loop n count offset block begin end s₀ s = n - s
 
 loop-holds : tie.Need-loop-holds Inv-loop μ-loop
 loop-holds c = (omega arith, all-none _)
@@ -33,7 +33,11 @@ loop-less : tie.Need-loop-less Inv-loop μ-loop
 loop-less c = omega arith
 
 loop-again : tie.Need-loop-again Inv-loop μ-loop
-loop-again c = (omega arith, all-more _ _ (c .before .before .before .loop .inv .1) (sym (c .before .lie-at .ensures) ∙ not-false _ (c .if1 .left)))
+loop-again c = (
+  omega arith,
+  all-more _ _ (c .before .before .before .loop .inv .1)
+      (sym (c .before .lie-at .ensures) ∙ not-false _ (c .if1 .left)),
+)
 
 returns-2 : tie.Need-returns-2 Inv-loop μ-loop
 unfolding liesb

@@ -30,14 +30,22 @@ refuse-requires-3 c κs = search needs
 
 returns-3 : tie.Need-returns-3
 unfolding newRefusal longb
-returns-3 c = c .refuse3 .ensures ∙ simp (size-right _ (c .before .before .before .before .if1 .left) (c .before .before .before .if2 .left), sym (c .before .before .long .ensures) ∙ not-true _ (c .before .if3 .taken))
+returns-3 c = c .refuse3 .ensures ∙ simp (
+  size-right _ (c .before .before .before .before .if1 .left)
+      (c .before .before .before .if2 .left),
+  sym (c .before .before .long .ensures) ∙ not-true _ (c .before .if3 .taken),
+)
 
 refuse-requires-4 : tie.Need-refuse-requires-4
 refuse-requires-4 c κs = search needs
 
 returns-4 : tie.Need-returns-4
 unfolding newRefusal longb
-returns-4 c = c .refuse4 .ensures ∙ simp (size-right _ (c .before .before .before .before .if1 .left) (c .before .before .before .if2 .left), sym (c .before .before .long .ensures) ∙ not-false _ (c .before .if3 .left))
+returns-4 c = c .refuse4 .ensures ∙ simp (
+  size-right _ (c .before .before .before .before .if1 .left)
+      (c .before .before .before .if2 .left),
+  sym (c .before .before .long .ensures) ∙ not-false _ (c .before .if3 .left),
+)
 
 pub new-refusal-spec : {M : Type 1} → statement M
 new-refusal-spec =

@@ -18,25 +18,31 @@ slice-relend-prefix-count-up : tie.Need-slice-relend-prefix-count-up
 slice-relend-prefix-count-up c = search needs
 
 slice-aggregate-count-up : tie.Need-slice-aggregate-count-up
-slice-aggregate-count-up c = let a = c .before .before .before .before .before .before .before in sym (length-take-le (a .args .n) (a .args .elements .now) (a .pre .0 .elements))
+slice-aggregate-count-up c = let a = c .before .before .before .before .before .before .before in
+    sym (length-take-le (a .args .n) (a .args .elements .now) (a .pre .0 .elements))
 
 count-up-requires : tie.Need-count-up-requires
-count-up-requires c κs = let a = c .before .before .before .before .before .before .before in omega (arith, length-take-le (a .args .n) (a .args .elements .now) (a .pre .0 .elements))
+count-up-requires c κs = let a = c .before .before .before .before .before .before .before in
+    omega (arith, length-take-le (a .args .n) (a .args .elements .now) (a .pre .0 .elements))
 
 slice-relend-prefix-count-up-2 : tie.Need-slice-relend-prefix-count-up-2
 slice-relend-prefix-count-up-2 c = search needs
 
 slice-aggregate-count-up-2 : tie.Need-slice-aggregate-count-up-2
-slice-aggregate-count-up-2 c = let a = c .before .before .before .before .before .before .before .before .before .before .before in sym (length-take-le (a .args .n) (a .args .element-offset .now) (a .pre .0 .element-offset))
+slice-aggregate-count-up-2 c = let a = c .before .before .before .before .before .before .before .before .before .before .before in
+    sym (length-take-le (a .args .n) (a .args .element-offset .now) (a .pre .0 .element-offset))
 
 count-up-requires-2 : tie.Need-count-up-requires-2
-count-up-requires-2 c κs = let a = c .before .before .before .before .before .before .before .before .before .before .before in omega (arith, length-take-le (a .args .n) (a .args .element-offset .now) (a .pre .0 .element-offset))
+count-up-requires-2 c κs = let a = c .before .before .before .before .before .before .before .before .before .before .before in
+    omega (arith, length-take-le (a .args .n) (a .args .element-offset .now) (a .pre .0 .element-offset))
 
 slice-relend-prefix-clear : tie.Need-slice-relend-prefix-clear
 slice-relend-prefix-clear c = search needs
 
 slice-aggregate-clear : tie.Need-slice-aggregate-clear
-slice-aggregate-clear c = let a = c .before .before .before .before .before .before .before .before .before .before .before .before .before .before .before in sym (length-take-le (a .args .n) (a .args .element-to-block .now) (a .pre .0 .element-to-block))
+slice-aggregate-clear c = let a =
+    c .before .before .before .before .before .before .before .before .before .before .before .before .before .before .before in
+    sym (length-take-le (a .args .n) (a .args .element-to-block .now) (a .pre .0 .element-to-block))
 
 clear-requires : tie.Need-clear-requires
 clear-requires c κs = search needs
@@ -72,7 +78,11 @@ same-length-6 : tie.Need-same-length-6
 same-length-6 c = search needs
 
 returns : tie.Need-returns
-returns c = let a = c .before .before .before .before .before .before .before .before .before .before .before .before .before .before .before .before .before .before in fresh-done (P a) (a .pre .0) _ _ _ (c .before .before .before .before .before .before .before .before .before .before .count-up .ensures) (c .before .before .before .before .before .before .count-up2 .ensures) (c .before .before .clear .ensures)
+returns c = let a =
+    c .before .before .before .before .before .before .before .before .before .before .before .before .before .before .before .before
+    .before .before in fresh-done (P a) (a .pre .0) _ _ _
+    (c .before .before .before .before .before .before .before .before .before .before .count-up .ensures)
+    (c .before .before .before .before .before .before .count-up2 .ensures) (c .before .before .clear .ensures)
 
 pub new-spec : {M : Type 1} → statement M
 new-spec =

@@ -13,10 +13,11 @@ use Rattle.partition.proofs.core.renumber.Statement.{statement}
 use Rattle.partition.proofs.core.renumber.Tie as tie
 
 abbrev Inv-loop : tie.InvT-loop
-Inv-loop block₀ elements x z v k₀ block k = (x ≤ k) × ((k ≤ z) × ((block ≡ renumbered elements x k v block₀) × (length block ≡ length block₀)))
+Inv-loop elements block₀ x z v k₀ block k = (x ≤ k) ×
+    ((k ≤ z) × ((block ≡ renumbered elements x k v block₀) × (length block ≡ length block₀)))
 
 abbrev μ-loop : tie.MeasureT-loop
-μ-loop block₀ elements x z v k₀ block k = z - k
+μ-loop elements block₀ x z v k₀ block k = z - k
 
 loop-holds : tie.Need-loop-holds Inv-loop μ-loop
 loop-holds c = (omega arith, (omega arith, (renumbered-none _ _ _ _, refl)))
@@ -53,7 +54,9 @@ same-length c = c .before .loop .inv .1 .1 .1
 returns : tie.Need-returns Inv-loop μ-loop
 returns c =
     let e : c .before .loop .k ≡ c .before .before .before .before .args .z = omega arith in
-    c .before .loop .inv .1 .1 .0 ∙ ap (λ (y : ℕ). renumbered (c .before .before .before .before .args .elements .now) (c .before .before .before .before .args .x) y (c .before .before .before .before .args .v) (c .before .before .before .before .args .element-to-block .now)) e
+    c .before .loop .inv .1 .1 .0 ∙ ap (λ (y : ℕ). renumbered (c .before .before .before .before .args .elements .now)
+    (c .before .before .before .before .args .x) y (c .before .before .before .before .args .v)
+    (c .before .before .before .before .args .element-to-block .now)) e
 
 pub renumber-spec : {M : Type 1} → statement M
 renumber-spec =

@@ -19,8 +19,11 @@ at-requires-3 : tie.Need-at-requires-3
 at-requires-3 c κs = search needs
 
 -- the block's marked_split as it is read
-split : (q : tie.After-at3) → q .before .at2 .result ≡ getD (q .before .before .before .before .before .before .args .marked-split .now) (getD (q .before .before .before .before .before .before .args .element-to-block .now) (q .before .before .before .before .before .before .args .u) 0) 0
-split q = q .before .at2 .ensures .0 ∙ ap (λ (b : ℕ). getD (q .before .before .before .before .before .before .args .marked-split .now) b 0) (q .before .before .at .ensures .0)
+split : (q : tie.After-at3) → q .before .at2 .result ≡ getD (q .before .before .before .before .before .before .args .marked-split .now)
+    (getD (q .before .before .before .before .before .before .args .element-to-block .now)
+    (q .before .before .before .before .before .before .args .u) 0) 0
+split q = q .before .at2 .ensures .0 ∙ ap (λ (b : ℕ). getD (q .before .before .before .before .before .before .args .marked-split .now) b 0)
+    (q .before .before .at .ensures .0)
 
 returns : tie.Need-returns
 unfolding markedIn

@@ -32,26 +32,54 @@ cast-m : tie.Need-cast-m Inv-loop μ-loop
 cast-m c = search needs
 
 rows-of-requires : tie.Need-rows-of-requires Inv-loop μ-loop
-rows-of-requires c κs = (c .before .before .before .before .before .before .before .pre .0 .0 .long .source, rising (L (c .before .before .before .before .before .before .before)) (c .before .before .before .before .before .before .before .pre .0 .0), omega (arith, c .before .before .before .before .before .before .before .pre .0 .1, c .before .before .before .before .before .before .before .pre .0 .0 .few-states))
+rows-of-requires c κs = (
+  c .before .before .before .before .before .before .before .pre .0 .0 .long .source,
+  rising (L (c .before .before .before .before .before .before .before))
+      (c .before .before .before .before .before .before .before .pre .0 .0),
+  omega (
+    arith,
+    c .before .before .before .before .before .before .before .pre .0 .1,
+    c .before .before .before .before .before .before .before .pre .0 .0 .few-states,
+  ),
+)
 
 -- the rows of the state
-from : (q : tie.After-rows-of Inv-loop μ-loop) → RowsFrom (L (q .before .before .before .before .before .before .before .before)) (q .before .before .before .before .before .before .before .before .args .state) (q .rows-of .result .first) (q .rows-of .result .end)
-from q = rows-from (L (q .before .before .before .before .before .before .before .before)) (q .before .before .before .before .before .before .before .before .pre .0 .0) (q .before .before .before .before .before .before .before .before .args .state) _ _ (q .rows-of .ensures .0) (q .rows-of .ensures .1)
+from : (q : tie.After-rows-of Inv-loop μ-loop) → RowsFrom (L (q .before .before .before .before .before .before .before .before))
+    (q .before .before .before .before .before .before .before .before .args .state) (q .rows-of .result .first) (q .rows-of .result .end)
+from q = rows-from (L (q .before .before .before .before .before .before .before .before))
+    (q .before .before .before .before .before .before .before .before .pre .0 .0)
+    (q .before .before .before .before .before .before .before .before .args .state) _ _ (q .rows-of .ensures .0) (q .rows-of .ensures .1)
 
 loop-holds : tie.Need-loop-holds Inv-loop μ-loop
 loop-holds c = push-start _ _ _ _ _ _ _ 0 (pairs-none _ _) (from c .up) (from c .before)
 
 at-requires : tie.Need-at-requires Inv-loop μ-loop
-at-requires c κs = omega (arith, from (c .before .before) .most, c .before .before .before .before .before .before .before .before .before .before .pre .0 .0 .long .target)
+at-requires c κs = omega (
+  arith,
+  from (c .before .before) .most,
+  c .before .before .before .before .before .before .before .before .before .before .pre .0 .0 .long .target,
+)
 
 mul-pushed-labels : tie.Need-mul-pushed-labels Inv-loop μ-loop
-mul-pushed-labels c = omega (arith, from (c .before .before .before) .most, c .before .before .before .before .before .before .before .before .before .before .before .pre .0 .0 .few-rows)
+mul-pushed-labels c = omega (
+  arith,
+  from (c .before .before .before) .most,
+  c .before .before .before .before .before .before .before .before .before .before .before .pre .0 .0 .few-rows,
+)
 
 shared-slice-read-pushed-labels : tie.Need-shared-slice-read-pushed-labels Inv-loop μ-loop
-shared-slice-read-pushed-labels c = omega (arith, from (c .before .before .before .before) .most, c .before .before .before .before .before .before .before .before .before .before .before .before .pre .0 .0 .long .label)
+shared-slice-read-pushed-labels c = omega (
+  arith,
+  from (c .before .before .before .before) .most,
+  c .before .before .before .before .before .before .before .before .before .before .before .before .pre .0 .0 .long .label,
+)
 
 mul-pushed-labels-2 : tie.Need-mul-pushed-labels-2 Inv-loop μ-loop
-mul-pushed-labels-2 c = omega (arith, from (c .before .before .before .before) .most, c .before .before .before .before .before .before .before .before .before .before .before .before .pre .0 .0 .few-rows)
+mul-pushed-labels-2 c = omega (
+  arith,
+  from (c .before .before .before .before) .most,
+  c .before .before .before .before .before .before .before .before .before .before .before .before .pre .0 .0 .few-rows,
+)
 
 slice-write-pushed-labels : tie.Need-slice-write-pushed-labels Inv-loop μ-loop
 slice-write-pushed-labels c = omega (arith, from (c .before .before .before .before) .most)
@@ -61,10 +89,20 @@ mul-pushed-blocks c = omega (arith, c .before .at .ensures .1)
 
 shared-slice-read-pushed-blocks : tie.Need-shared-slice-read-pushed-blocks Inv-loop μ-loop
 shared-slice-read-pushed-blocks c =
-    omega (arith, from (c .before .before .before .before .before) .most, c .before .before .at .ensures .0, c .before .before .before .before .before .before .before .before .before .before .before .before .before .pre .0 .0 .fields (c .before .before .before .before .loop .i) (omega (arith, from (c .before .before .before .before .before) .most)) .target)
+    omega (
+      arith,
+      from (c .before .before .before .before .before) .most,
+      c .before .before .at .ensures .0,
+      c .before .before .before .before .before .before .before .before .before .before .before .before .before .pre .0 .0 .fields
+          (c .before .before .before .before .loop .i) (omega (arith, from (c .before .before .before .before .before) .most)) .target,
+    )
 
 mul-pushed-blocks-2 : tie.Need-mul-pushed-blocks-2 Inv-loop μ-loop
-mul-pushed-blocks-2 c = omega (arith, from (c .before .before .before .before .before) .most, c .before .before .before .before .before .before .before .before .before .before .before .before .before .pre .0 .0 .few-rows)
+mul-pushed-blocks-2 c = omega (
+  arith,
+  from (c .before .before .before .before .before) .most,
+  c .before .before .before .before .before .before .before .before .before .before .before .before .before .pre .0 .0 .few-rows,
+)
 
 slice-write-pushed-blocks : tie.Need-slice-write-pushed-blocks Inv-loop μ-loop
 slice-write-pushed-blocks c = omega (arith, from (c .before .before .before .before .before) .most)
@@ -82,10 +120,12 @@ loop-again : tie.Need-loop-again Inv-loop μ-loop
 loop-again c =
     let a = c .before .before .before .before .before .before .before .before .before .before .before .before .before .args in
     let l = c .before .before .before .before .loop in
-    push-more _ _ _ _ _ _ _ _ _ _ _ (l .inv) (omega arith) (getD (a .label .now) (l .i) 0) (getD (a .element-to-block .now) (c .before .before .at .result) 0)
+    push-more _ _ _ _ _ _ _ _ _ _ _ (l .inv) (omega arith) (getD (a .label .now) (l .i) 0)
+    (getD (a .element-to-block .now) (c .before .before .at .result) 0)
     (from (c .before .before .before .before .before) .own (l .i) (l .inv .low) (omega arith))
     (ap (λ (u : ℕ). (getD (a .label .now) (l .i) 0, getD (a .element-to-block .now) u 0)) (sym (c .before .before .at .ensures .0)))
-    (omega (arith, from (c .before .before .before .before .before) .most)) (omega (arith, from (c .before .before .before .before .before) .most))
+    (omega (arith, from (c .before .before .before .before .before) .most))
+    (omega (arith, from (c .before .before .before .before .before) .most))
 
 same-length : tie.Need-same-length Inv-loop μ-loop
 same-length c = c .before .loop .inv .left
@@ -97,7 +137,9 @@ returns : tie.Need-returns Inv-loop μ-loop
 unfolding strongPushed ownRows pairAt
 returns c =
     let f = from (c .before .before) in (
-      push-done _ _ _ _ _ _ _ _ _ _ _ (c .before .loop .inv) (c .before .before .before .before .before .before .before .before .before .before .args .table .m) (omega arith) (f .most) (f .after),
+      push-done _ _ _ _ _ _ _ _ _ _ _ (c .before .loop .inv)
+          (c .before .before .before .before .before .before .before .before .before .before .args .table .m) (omega arith) (f .most)
+          (f .after),
       omega (arith, f .most),
     )
 

@@ -52,29 +52,38 @@ refusing-number-requires : tie.Need-refusing-number-requires
 refusing-number-requires c κs = search needs
 
 same-length : tie.Need-same-length
-same-length c = search needs
+same-length c = c .before .before .before .before .before .before .before .before .before .before .wipe .kept .0
 
 same-length-2 : tie.Need-same-length-2
-same-length-2 c = search needs
+same-length-2 c = c .before .before .before .before .before .before .before .before .before .before .wipe .kept .1 .0
 
 same-length-3 : tie.Need-same-length-3
-same-length-3 c = search needs
+same-length-3 c = c .before .before .before .before .before .before .before .before .before .before .wipe .kept .1 .1 .0
 
 same-length-4 : tie.Need-same-length-4
-same-length-4 c = search needs
+same-length-4 c = c .before .before .before .before .before .before .before .before .before .before .wipe .kept .1 .1 .1 .0
 
 returns : tie.Need-returns
 returns c =
-    let a = c .before .before .before .before .before .before .before .before .before .before .before .before .before .before .before .before .before .before .before .before .before .before .before in
+    let a = c .before .before .before .before .before .before .before .before .before .before .before .before .before .before .before
+    .before .before .before .before .before .before .before .before in
     let w = c .before .before .before .before .before .before .before .before .before .before .wipe .ensures in
-    finish-short (a .args .d) (signature (Pushed a)) (Out a) (Works a) _ _ (room a _ false (c .before .before .before .before .before .before .before .before .before .before .before .before .before .before .before .before .has-room .ensures) (not-true _ (c .before .before .before .before .before .before .before .before .before .before .before .before .before .before .before .if1 .taken)))
+    finish-short (a .args .d) (signature (Pushed a)) (Out a) (Works a) _ _
+    (room a _ false
+    (c .before .before .before .before .before .before .before .before .before .before .before .before .before .before .before .before
+    .has-room .ensures)
+    (not-true _
+    (c .before .before .before .before .before .before .before .before .before .before .before .before .before .before .before .if1
+    .taken)))
     (c .refusing-number .ensures ∙ ap (λ r. refused (r .number) (r .place)) (c .before .refuse .ensures))
     (zeroed _ _ (w .0 .0, (w .0 .1, (w .1 .0, (w .1 .1, tt)))))
 
 flatten-requires : tie.Need-flatten-requires
 flatten-requires c κs =
     let a = c .before .before .before .before .before .before .before .before .before .before .before .before .before .before in
-    let w = wide (a .args .d) (length (a .args .labels .now)) (length (a .args .blocks .now)) _ (c .before .before .before .before .before .before .before .has-room .ensures) (not-false _ (c .before .before .before .before .before .before .if1 .left)) in
+    let w = wide (a .args .d) (length (a .args .labels .now)) (length (a .args .blocks .now)) _
+    (c .before .before .before .before .before .before .before .has-room .ensures)
+    (not-false _ (c .before .before .before .before .before .before .if1 .left)) in
     ((a .pre .0 .0, a .pre .0 .1, w .0, w .1), a .pre .1)
 
 wipe-requires-2 : tie.Need-wipe-requires-2
@@ -84,32 +93,50 @@ number-requires : tie.Need-number-requires
 number-requires c κs = search needs
 
 same-length-5 : tie.Need-same-length-5
-same-length-5 c = search needs
+same-length-5 c =
+    c .before .before .before .before .before .before .before .before .before .before .before .before .before .before .before .before
+    .before .before .before .before .before .before .flatten .kept .1 .1 .1 .0
 
 same-length-6 : tie.Need-same-length-6
-same-length-6 c = search needs
+same-length-6 c =
+    c .before .before .before .before .before .before .before .before .before .before .before .before .before .before .before .before
+    .before .before .before .before .before .before .flatten .kept .1 .1 .1 .1 .0
 
 same-length-7 : tie.Need-same-length-7
-same-length-7 c = search needs
+same-length-7 c = c .before .before .before .before .before .before .before .before .before .wipe2 .kept .0
 
 same-length-8 : tie.Need-same-length-8
-same-length-8 c = search needs
+same-length-8 c = c .before .before .before .before .before .before .before .before .before .wipe2 .kept .1 .0
 
 same-length-9 : tie.Need-same-length-9
-same-length-9 c = search needs
+same-length-9 c = c .before .before .before .before .before .before .before .before .before .wipe2 .kept .1 .1 .0 ∙
+    c .before .before .before .before .before .before .before .before .before .before .before .before .before .before .before .before
+    .before .before .before .before .before .before .flatten .kept .1 .1 .1 .1 .1 .0
 
 same-length-10 : tie.Need-same-length-10
-same-length-10 c = search needs
+same-length-10 c = c .before .before .before .before .before .before .before .before .before .wipe2 .kept .1 .1 .1 .0 ∙
+    c .before .before .before .before .before .before .before .before .before .before .before .before .before .before .before .before
+    .before .before .before .before .before .before .flatten .kept .1 .1 .1 .1 .1 .1 .0
 
 returns-2 : tie.Need-returns-2
 returns-2 c =
-    let a = c .before .before .before .before .before .before .before .before .before .before .before .before .before .before .before .before .before .before .before .before .before .before .before .before .before .before .before .before .before .before .before .before .before .before .before .before .before in
-    let f = c .before .before .before .before .before .before .before .before .before .before .before .before .before .before .before .before .before .before .before .before .before .before .flatten in
+    let a = c .before .before .before .before .before .before .before .before .before .before .before .before .before .before .before
+    .before .before .before .before .before .before .before .before .before .before .before .before .before .before .before .before
+    .before .before .before .before .before .before in
+    let f = c .before .before .before .before .before .before .before .before .before .before .before .before .before .before .before
+    .before .before .before .before .before .before .before .flatten in
     let w = c .before .before .before .before .before .before .before .before .before .wipe2 .ensures in
-    finish-done (a .args .d) (signature (Pushed a)) (Out a) (Works a) _ _ _ (room a _ true (c .before .before .before .before .before .before .before .before .before .before .before .before .before .before .before .before .before .before .before .before .before .before .before .before .before .before .before .before .before .before .has-room .ensures) (not-false _ (c .before .before .before .before .before .before .before .before .before .before .before .before .before .before .before .before .before .before .before .before .before .before .before .before .before .before .before .before .before .if1 .left)))
+    finish-done (a .args .d) (signature (Pushed a)) (Out a) (Works a) _ _ _
+    (room a _ true
+    (c .before .before .before .before .before .before .before .before .before .before .before .before .before .before .before .before
+    .before .before .before .before .before .before .before .before .before .before .before .before .before .before .has-room .ensures)
+    (not-false _
+    (c .before .before .before .before .before .before .before .before .before .before .before .before .before .before .before .before
+    .before .before .before .before .before .before .before .before .before .before .before .before .before .if1 .left)))
     (c .number .ensures ∙ ap (λ (k : ℕ). done (k ∷ [])) (f .ensures .0))
     (f .ensures .1 .0)
-    (zeroed _ _ (w .0 .0, (w .0 .1, (w .1 .0 ∙ ap zeros (f .kept .1 .1 .1 .1 .1 .0), (w .1 .1 ∙ ap zeros (f .kept .1 .1 .1 .1 .1 .1 .0), tt)))))
+    (zeroed _ _
+    (w .0 .0, (w .0 .1, (w .1 .0 ∙ ap zeros (f .kept .1 .1 .1 .1 .1 .0), (w .1 .1 ∙ ap zeros (f .kept .1 .1 .1 .1 .1 .1 .0), tt)))))
 
 pub sign-spec : {M : Type 1} → statement M
 sign-spec =

@@ -49,31 +49,37 @@ abbrev R : tie.Start → Refusal
 R a = signatureRefusal (L a) (P a) (a .args .state) (Keys a && roomy (L a) (Works a)) none
 
 abbrev Pushed : tie.Start → List Pair
-Pushed a = inductivePushed (L a) (a .args .element-to-block .now) (λ u. not (unmarkedb (P a) u)) (a .args .state-to-key .now) (a .args .state)
+Pushed a = inductivePushed (L a) (a .args .element-to-block .now) (λ u. not (unmarkedb (P a) u)) (a .args .state-to-key .now)
+    (a .args .state)
 
 -- marked as the code reads it
 read : (a : tie.Start)
     → inductivePushed (L a) (a .args .element-to-block .now)
-    (markedIn (a .args .element-offset .now) (a .args .element-to-block .now) (a .args .marked-split .now)) (a .args .state-to-key .now) (a .args .state)
+    (markedIn (a .args .element-offset .now) (a .args .element-to-block .now) (a .args .marked-split .now)) (a .args .state-to-key .now)
+    (a .args .state)
     ≡ Pushed a
 unfolding markedIn unmarkedb
 read a = refl
 
 -- where the call begins
 abbrev start : tie.After-signature-refusal → tie.Start
-start q = q .before .before .before .before .before .before .before .before .before .before .before .before .before .before .before .before .before .before .before
+start q =
+    q .before .before .before .before .before .before .before .before .before .before .before .before .before .before .before .before
+    .before .before .before
 
 -- the checks have answered R
 answered : (q : tie.After-signature-refusal) → q .signature-refusal .result ≡ R (start q)
 unfolding roomy
 answered q =
     q .signature-refusal .ensures
-    ∙ ap (λ (b : Bool). signatureRefusal (L (start q)) (P (start q)) (start q .args .state) (Keys (start q) && b) none) (q .before .before .roomy .ensures)
+    ∙ ap (λ (b : Bool). signatureRefusal (L (start q)) (P (start q)) (start q .args .state) (Keys (start q) && b) none)
+    (q .before .before .roomy .ensures)
 
 -- and where they refuse nothing
 ready : (q : tie.After-signature-refusal) → q .signature-refusal .result .number ≡ 0
     → Ready (L (start q)) (P (start q)) (start q .args .state) (Keys (start q) && roomy (L (start q)) (Works (start q))) none
-ready q z = signature-ready (L (start q)) (P (start q)) refl (start q .args .state) (Keys (start q) && roomy (L (start q)) (Works (start q))) none _ (answered q) z
+ready q z = signature-ready (L (start q)) (P (start q)) refl (start q .args .state)
+    (Keys (start q) && roomy (L (start q)) (Works (start q))) none _ (answered q) z
 
 wide : (q : tie.After-signature-refusal) → q .signature-refusal .result .number ≡ 0
     → Wide (L (start q)) (Works (start q))
@@ -81,7 +87,8 @@ wide q z =
     roomy-of (L (start q)) (Works (start q))
     (and-right (Keys (start q)) (roomy (L (start q)) (Works (start q))) (ready q z .enough))
 
-keyed : (q : tie.After-signature-refusal) → q .signature-refusal .result .number ≡ 0 → start q .args .table .n ≤ length (start q .args .state-to-key .now)
+keyed : (q : tie.After-signature-refusal) → q .signature-refusal .result .number ≡ 0 →
+    start q .args .table .n ≤ length (start q .args .state-to-key .now)
 keyed q z = leb-true _ _ (and-left (Keys (start q)) (roomy (L (start q)) (Works (start q))) (ready q z .enough))
 
 roomy-requires : tie.Need-roomy-requires
@@ -99,7 +106,8 @@ refusing-number-requires c κs = search needs
 returns : tie.Need-returns
 unfolding branchingBisimSignatureInductive
 returns c =
-    let a = c .before .before .before .before .before .before .before .before .before .before .before .before .before .before .before .before .before .before .before .before .before in
+    let a = c .before .before .before .before .before .before .before .before .before .before .before .before .before .before .before
+    .before .before .before .before .before .before in
     let e = answered (c .before .before) in
     signing-refused (R a) (Pushed a) (Out a) (Works a) _ (λ z. c .before .if1 .taken (ap (λ (r : Refusal). r .number) e ∙ z))
     (c .refusing-number .ensures ∙ ap (λ (r : Refusal). refused (r .number) (r .place)) e)
@@ -111,14 +119,21 @@ push-inductive-requires c κs =
       (r .valid, r .known, keyed (c .before .before .before) (c .before .before .if1 .left)),
       (
         (r .sound .long .element-offset, r .sound .long .element-to-block),
-        (λ u l. block-known (P (c .before .before .before .before .before .before .before .before .before .before .before .before .before .before .before .before .before .before .before .before .before .before)) u _ refl (r .sound) l, (omega (arith, w .0), omega (arith, w .1 .0))),
+        (
+          λ u l. block-known
+              (P (c .before .before .before .before .before .before .before .before .before .before .before .before .before .before .before
+              .before .before .before .before .before .before .before)) u _ refl (r .sound) l,
+          (omega (arith, w .0), omega (arith, w .1 .0)),
+        ),
       ),
     )
 
 sign-requires : tie.Need-sign-requires
 sign-requires c κs =
-    let r = ready (c .before .before .before .before .before .before .before .before .before .before .before .before .before .before) (c .before .before .before .before .before .before .before .before .before .before .before .before .before .if1 .left) in
-    let w = wide (c .before .before .before .before .before .before .before .before .before .before .before .before .before .before) (c .before .before .before .before .before .before .before .before .before .before .before .before .before .if1 .left) in
+    let r = ready (c .before .before .before .before .before .before .before .before .before .before .before .before .before .before)
+    (c .before .before .before .before .before .before .before .before .before .before .before .before .before .if1 .left) in
+    let w = wide (c .before .before .before .before .before .before .before .before .before .before .before .before .before .before)
+    (c .before .before .before .before .before .before .before .before .before .before .before .before .before .if1 .left) in
     let q = c .before .before .before .before .before .before .before .before .before .before .push-inductive in
     let d = q .ensures .1 in (
       (
@@ -129,34 +144,51 @@ sign-requires c κs =
     )
 
 same-length : tie.Need-same-length
-same-length c = search needs
+same-length c = c .before .before .before .before .before .before .before .before .before .before .before .before .sign .kept .1 .0
 
 same-length-2 : tie.Need-same-length-2
-same-length-2 c = search needs
+same-length-2 c = c .before .before .before .before .before .before .before .before .before .before .before .before .sign .kept .1 .1 .0
 
 same-length-3 : tie.Need-same-length-3
-same-length-3 c = search needs
+same-length-3 c = c .before .before .before .before .before .before .before .before .before .before .before .before .sign .kept .1 .1 .1 .0
+    ∙ c .before .before .before .before .before .before .before .before .before .before .before .before .before .before .before .before
+    .before .before .before .before .before .before .before .push-inductive .kept .1 .1 .1 .1 .1 .1 .1 .1 .1 .0
 
 same-length-4 : tie.Need-same-length-4
-same-length-4 c = search needs
+same-length-4 c =
+    c .before .before .before .before .before .before .before .before .before .before .before .before .sign .kept .1 .1 .1 .1 .0 ∙
+    c .before .before .before .before .before .before .before .before .before .before .before .before .before .before .before .before
+    .before .before .before .before .before .before .before .push-inductive .kept .1 .1 .1 .1 .1 .1 .1 .1 .1 .1 .0
 
 same-length-5 : tie.Need-same-length-5
-same-length-5 c = search needs
+same-length-5 c =
+    c .before .before .before .before .before .before .before .before .before .before .before .before .sign .kept .1 .1 .1 .1 .1 .0
 
 same-length-6 : tie.Need-same-length-6
-same-length-6 c = search needs
+same-length-6 c =
+    c .before .before .before .before .before .before .before .before .before .before .before .before .sign .kept .1 .1 .1 .1 .1 .1 .0
 
 returns-2 : tie.Need-returns-2
 unfolding branchingBisimSignatureInductive
 returns-2 c =
-    let a = c .before .before .before .before .before .before .before .before .before .before .before .before .before .before .before .before .before .before .before .before .before .before .before .before .before .before .before .before .before .before .before .before .before .before .before .before .before .before .before .before .before .before .before .before .before .before in
-    let q = c .before .before .before .before .before .before .before .before .before .before .before .before .before .before .before .before .before .before .before .before .before .before .before .push-inductive in
+    let a = c .before .before .before .before .before .before .before .before .before .before .before .before .before .before .before
+    .before .before .before .before .before .before .before .before .before .before .before .before .before .before .before .before
+    .before .before .before .before .before .before .before .before .before .before .before .before .before .before .before in
+    let q = c .before .before .before .before .before .before .before .before .before .before .before .before .before .before .before
+    .before .before .before .before .before .before .before .before .push-inductive in
     let l : List ℕ = q .last .1 .1 .1 .1 .1 .1 .1 .1 .1 .0 in
     let b : List ℕ = q .last .1 .1 .1 .1 .1 .1 .1 .1 .1 .1 .0 in
     c .before .before .before .before .before .before .before .before .before .before .before .before .sign .ensures
-    ∙ signing-on (R a) (Pushed a) (Out a) (Works a) (q .result) (signature (pairsOf (q .result) l b)) (l ∷ b ∷ a .args .order .now ∷ a .args .spare .now ∷ []) (sym (ap (λ (r : Refusal). r .number) (answered (c .before .before .before .before .before .before .before .before .before .before .before .before .before .before .before .before .before .before .before .before .before .before .before .before .before .before .before))) ∙ c .before .before .before .before .before .before .before .before .before .before .before .before .before .before .before .before .before .before .before .before .before .before .before .before .before .before .if1 .left)
+    ∙ signing-on (R a) (Pushed a) (Out a) (Works a) (q .result) (signature (pairsOf (q .result) l b))
+    (l ∷ b ∷ a .args .order .now ∷ a .args .spare .now ∷ [])
+    (sym (ap (λ (r : Refusal). r .number) (answered
+    (c .before .before .before .before .before .before .before .before .before .before .before .before .before .before .before .before
+    .before .before .before .before .before .before .before .before .before .before .before))) ∙
+    c .before .before .before .before .before .before .before .before .before .before .before .before .before .before .before .before
+    .before .before .before .before .before .before .before .before .before .before .if1 .left)
     (sym (length-pairs (q .result) l b) ∙ ap length (q .ensures .0 ∙ read a)) (ap signature (q .ensures .0 ∙ read a))
-    (level (l ∷ b ∷ a .args .order .now ∷ a .args .spare .now ∷ []) (Works a) (q .kept .1 .1 .1 .1 .1 .1 .1 .1 .1 .0, (q .kept .1 .1 .1 .1 .1 .1 .1 .1 .1 .1 .0, (refl, (refl, tt)))))
+    (level (l ∷ b ∷ a .args .order .now ∷ a .args .spare .now ∷ []) (Works a)
+    (q .kept .1 .1 .1 .1 .1 .1 .1 .1 .1 .0, (q .kept .1 .1 .1 .1 .1 .1 .1 .1 .1 .1 .0, (refl, (refl, tt)))))
 
 pub branching-bisim-signature-inductive-spec : {M : Type 1} → statement M
 branching-bisim-signature-inductive-spec =

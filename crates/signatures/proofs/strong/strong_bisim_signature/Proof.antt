@@ -45,7 +45,9 @@ Pushed a = strongPushed (L a) (a .args .element-to-block .now) (a .args .state)
 
 -- where the call begins
 abbrev start : tie.After-signature-refusal → tie.Start
-start q = q .before .before .before .before .before .before .before .before .before .before .before .before .before .before .before .before .before
+start q =
+    q .before .before .before .before .before .before .before .before .before .before .before .before .before .before .before .before
+    .before
 
 -- the checks have answered R
 answered : (q : tie.After-signature-refusal) → q .signature-refusal .result ≡ R (start q)
@@ -57,7 +59,8 @@ answered q =
 -- and where they refuse nothing
 ready : (q : tie.After-signature-refusal) → q .signature-refusal .result .number ≡ 0
     → Ready (L (start q)) (P (start q)) (start q .args .state) (roomy (L (start q)) (Works (start q))) none
-ready q z = signature-ready (L (start q)) (P (start q)) refl (start q .args .state) (roomy (L (start q)) (Works (start q))) none _ (answered q) z
+ready q z = signature-ready (L (start q)) (P (start q)) refl (start q .args .state) (roomy (L (start q)) (Works (start q))) none _
+    (answered q) z
 
 wide : (q : tie.After-signature-refusal) → q .signature-refusal .result .number ≡ 0
     → Wide (L (start q)) (Works (start q))
@@ -75,7 +78,8 @@ refusing-number-requires c κs = search needs
 returns : tie.Need-returns
 unfolding strongBisimSignature
 returns c =
-    let a = c .before .before .before .before .before .before .before .before .before .before .before .before .before .before .before .before .before .before .before in
+    let a = c .before .before .before .before .before .before .before .before .before .before .before .before .before .before .before
+    .before .before .before .before in
     let e = answered (c .before .before) in
     signing-refused (R a) (Pushed a) (Out a) (Works a) _ (λ z. c .before .if1 .taken (ap (λ (r : Refusal). r .number) e ∙ z))
     (c .refusing-number .ensures ∙ ap (λ (r : Refusal). refused (r .number) (r .place)) e)
@@ -88,8 +92,10 @@ push-strong-requires c κs =
 
 sign-requires : tie.Need-sign-requires
 sign-requires c κs =
-    let r = ready (c .before .before .before .before .before .before .before .before .before .before .before .before .before .before) (c .before .before .before .before .before .before .before .before .before .before .before .before .before .if1 .left) in
-    let w = wide (c .before .before .before .before .before .before .before .before .before .before .before .before .before .before) (c .before .before .before .before .before .before .before .before .before .before .before .before .before .if1 .left) in
+    let r = ready (c .before .before .before .before .before .before .before .before .before .before .before .before .before .before)
+    (c .before .before .before .before .before .before .before .before .before .before .before .before .before .if1 .left) in
+    let w = wide (c .before .before .before .before .before .before .before .before .before .before .before .before .before .before)
+    (c .before .before .before .before .before .before .before .before .before .before .before .before .before .if1 .left) in
     let q = c .before .before .before .before .before .before .before .before .before .before .push-strong in
     let d = q .ensures .1 in (
       (omega (arith, d, w .0, q .kept .1 .1 .1 .1 .1 .1 .0), omega (arith, d, w .1 .0, q .kept .1 .1 .1 .1 .1 .1 .1 .0)),
@@ -97,34 +103,51 @@ sign-requires c κs =
     )
 
 same-length : tie.Need-same-length
-same-length c = search needs
+same-length c = c .before .before .before .before .before .before .before .before .before .before .before .before .sign .kept .1 .0
 
 same-length-2 : tie.Need-same-length-2
-same-length-2 c = search needs
+same-length-2 c = c .before .before .before .before .before .before .before .before .before .before .before .before .sign .kept .1 .1 .0
 
 same-length-3 : tie.Need-same-length-3
-same-length-3 c = search needs
+same-length-3 c = c .before .before .before .before .before .before .before .before .before .before .before .before .sign .kept .1 .1 .1 .0
+    ∙ c .before .before .before .before .before .before .before .before .before .before .before .before .before .before .before .before
+    .before .before .before .before .before .before .before .push-strong .kept .1 .1 .1 .1 .1 .1 .0
 
 same-length-4 : tie.Need-same-length-4
-same-length-4 c = search needs
+same-length-4 c =
+    c .before .before .before .before .before .before .before .before .before .before .before .before .sign .kept .1 .1 .1 .1 .0 ∙
+    c .before .before .before .before .before .before .before .before .before .before .before .before .before .before .before .before
+    .before .before .before .before .before .before .before .push-strong .kept .1 .1 .1 .1 .1 .1 .1 .0
 
 same-length-5 : tie.Need-same-length-5
-same-length-5 c = search needs
+same-length-5 c =
+    c .before .before .before .before .before .before .before .before .before .before .before .before .sign .kept .1 .1 .1 .1 .1 .0
 
 same-length-6 : tie.Need-same-length-6
-same-length-6 c = search needs
+same-length-6 c =
+    c .before .before .before .before .before .before .before .before .before .before .before .before .sign .kept .1 .1 .1 .1 .1 .1 .0
 
 returns-2 : tie.Need-returns-2
 unfolding strongBisimSignature
 returns-2 c =
-    let a = c .before .before .before .before .before .before .before .before .before .before .before .before .before .before .before .before .before .before .before .before .before .before .before .before .before .before .before .before .before .before .before .before .before .before .before .before .before .before .before .before .before .before .before .before in
-    let q = c .before .before .before .before .before .before .before .before .before .before .before .before .before .before .before .before .before .before .before .before .before .before .before .push-strong in
+    let a = c .before .before .before .before .before .before .before .before .before .before .before .before .before .before .before
+    .before .before .before .before .before .before .before .before .before .before .before .before .before .before .before .before
+    .before .before .before .before .before .before .before .before .before .before .before .before .before in
+    let q = c .before .before .before .before .before .before .before .before .before .before .before .before .before .before .before
+    .before .before .before .before .before .before .before .before .push-strong in
     let l : List ℕ = q .last .1 .1 .1 .1 .1 .1 .0 in
     let b : List ℕ = q .last .1 .1 .1 .1 .1 .1 .1 .0 in
     c .before .before .before .before .before .before .before .before .before .before .before .before .sign .ensures
-    ∙ signing-on (R a) (Pushed a) (Out a) (Works a) (q .result) (signature (pairsOf (q .result) l b)) (l ∷ b ∷ a .args .order .now ∷ a .args .spare .now ∷ []) (sym (ap (λ (r : Refusal). r .number) (answered (c .before .before .before .before .before .before .before .before .before .before .before .before .before .before .before .before .before .before .before .before .before .before .before .before .before .before .before))) ∙ c .before .before .before .before .before .before .before .before .before .before .before .before .before .before .before .before .before .before .before .before .before .before .before .before .before .before .if1 .left)
+    ∙ signing-on (R a) (Pushed a) (Out a) (Works a) (q .result) (signature (pairsOf (q .result) l b))
+    (l ∷ b ∷ a .args .order .now ∷ a .args .spare .now ∷ [])
+    (sym (ap (λ (r : Refusal). r .number) (answered
+    (c .before .before .before .before .before .before .before .before .before .before .before .before .before .before .before .before
+    .before .before .before .before .before .before .before .before .before .before .before))) ∙
+    c .before .before .before .before .before .before .before .before .before .before .before .before .before .before .before .before
+    .before .before .before .before .before .before .before .before .before .before .if1 .left)
     (sym (length-pairs (q .result) l b) ∙ ap length (q .ensures .0)) (ap signature (q .ensures .0))
-    (level (l ∷ b ∷ a .args .order .now ∷ a .args .spare .now ∷ []) (Works a) (q .kept .1 .1 .1 .1 .1 .1 .0, (q .kept .1 .1 .1 .1 .1 .1 .1 .0, (refl, (refl, tt)))))
+    (level (l ∷ b ∷ a .args .order .now ∷ a .args .spare .now ∷ []) (Works a)
+    (q .kept .1 .1 .1 .1 .1 .1 .0, (q .kept .1 .1 .1 .1 .1 .1 .1 .0, (refl, (refl, tt)))))
 
 pub strong-bisim-signature-spec : {M : Type 1} → statement M
 strong-bisim-signature-spec =

@@ -20,7 +20,8 @@ unfolding isTauHat
 returns c =
     let l = c .before .before .before .args .labels in
     c .refusing-flag .ensures
-    ∙ asked-refused (labelsRefusal l) _ (c .before .before .labels-refusal .ensures) (bit (eqb (c .before .before .before .args .label) l) ∷ []) (c .before .if1 .taken)
+    ∙ asked-refused (labelsRefusal l) _ (c .before .before .labels-refusal .ensures)
+    (bit (eqb (c .before .before .before .args .label) l) ∷ []) (c .before .if1 .taken)
 
 flag-requires : tie.Need-flag-requires
 flag-requires c κs = search needs
@@ -30,7 +31,8 @@ unfolding isTauHat
 returns-2 c =
     let l = c .before .before .before .args .labels in
     c .flag .ensures
-    ∙ asked-done (labelsRefusal l) _ (c .before .before .labels-refusal .ensures) (bit (eqb (c .before .before .before .args .label) l) ∷ []) (c .before .if1 .left)
+    ∙ asked-done (labelsRefusal l) _ (c .before .before .labels-refusal .ensures)
+    (bit (eqb (c .before .before .before .args .label) l) ∷ []) (c .before .if1 .left)
 
 pub is-tau-hat-spec : {M : Type 1} → statement M
 is-tau-hat-spec =

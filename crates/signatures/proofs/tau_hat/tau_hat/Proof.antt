@@ -17,7 +17,8 @@ returns : tie.Need-returns
 unfolding tauHat
 returns c =
     let l = c .before .before .before .args .labels in
-    c .refusing-number .ensures ∙ asked-refused (labelsRefusal l) _ (c .before .before .labels-refusal .ensures) (l ∷ []) (c .before .if1 .taken)
+    c .refusing-number .ensures ∙ asked-refused (labelsRefusal l) _ (c .before .before .labels-refusal .ensures) (l ∷ [])
+    (c .before .if1 .taken)
 
 number-of-requires : tie.Need-number-of-requires
 number-of-requires c κs = search needs

@@ -23,7 +23,8 @@ comes-before-requires c κs = search needs
 
 returns-2 : tie.Need-returns-2
 returns-2 c = let a = c .before .before .before .before .before in
-    c .comes-before .ensures ∙ above-next (a .args .source .now) (a .args .label .now) (a .args .target .now) (a .args .i) (c .before .if1 .left) (a .pre .0) (a .pre .1) (a .pre .2)
+    c .comes-before .ensures ∙ above-next (a .args .source .now) (a .args .label .now) (a .args .target .now) (a .args .i)
+    (c .before .if1 .left) (a .pre .0) (a .pre .1) (a .pre .2)
 
 pub above-ok-spec : {M : Type 1} → statement M
 above-ok-spec =

@@ -40,14 +40,20 @@ refuse-requires-2 c κs = search needs
 
 returns-2 : tie.Need-returns-2
 returns-2 c = let a = c .before .before .before .before .before .before .before .before .before .before .before in
-    c .refuse2 .ensures ∙ due-2 (L a) (a .args .room) _ (sym (c .before .before .before .before .before .within .ensures) ∙ not-false _ (c .before .before .before .before .if1 .left)) (sym (c .before .before .within2 .ensures) ∙ not-true _ (c .before .if2 .taken))
+    c .refuse2 .ensures ∙ due-2 (L a) (a .args .room) _
+    (sym (c .before .before .before .before .before .within .ensures) ∙ not-false _ (c .before .before .before .before .if1 .left))
+    (sym (c .before .before .within2 .ensures) ∙ not-true _ (c .before .if2 .taken))
 
 refuse-requires-3 : tie.Need-refuse-requires-3
 refuse-requires-3 c κs = search needs
 
 returns-3 : tie.Need-returns-3
 returns-3 c = let a = c .before .before .before .before .before .before .before .before .before .before .before .before in
-    c .refuse3 .ensures ∙ due-3 (L a) (a .args .room) _ (sym (c .before .before .before .before .before .before .within .ensures) ∙ not-false _ (c .before .before .before .before .before .if1 .left)) (sym (c .before .before .before .within2 .ensures) ∙ not-false _ (c .before .before .if2 .left)) (lt-leb _ _ (c .before .if3 .taken))
+    c .refuse3 .ensures ∙ due-3 (L a) (a .args .room) _
+    (sym (c .before .before .before .before .before .before .within .ensures) ∙
+    not-false _ (c .before .before .before .before .before .if1 .left))
+    (sym (c .before .before .before .within2 .ensures) ∙ not-false _ (c .before .before .if2 .left))
+    (lt-leb _ _ (c .before .if3 .taken))
 
 cast-if4 : tie.Need-cast-if4
 cast-if4 c = search needs
@@ -57,7 +63,11 @@ refuse-requires-4 c κs = search needs
 
 returns-4 : tie.Need-returns-4
 returns-4 c = let a = c .before .before .before .before .before .before .before .before .before .before .before .before .before .before in
-    c .refuse4 .ensures ∙ due-4 (L a) (a .args .room) _ (sym (c .before .before .before .before .before .before .before .before .within .ensures) ∙ not-false _ (c .before .before .before .before .before .before .before .if1 .left)) (sym (c .before .before .before .before .before .within2 .ensures) ∙ not-false _ (c .before .before .before .before .if2 .left)) (le-leb _ _ (c .before .before .before .if3 .left)) (le-ltb _ _ (c .before .if4 .taken))
+    c .refuse4 .ensures ∙ due-4 (L a) (a .args .room) _
+    (sym (c .before .before .before .before .before .before .before .before .within .ensures) ∙
+    not-false _ (c .before .before .before .before .before .before .before .if1 .left))
+    (sym (c .before .before .before .before .before .within2 .ensures) ∙ not-false _ (c .before .before .before .before .if2 .left))
+    (le-leb _ _ (c .before .before .before .if3 .left)) (le-ltb _ _ (c .before .if4 .taken))
 
 long-requires : tie.Need-long-requires
 long-requires c κs = search needs
@@ -67,26 +77,53 @@ refuse-requires-5 c κs = search needs
 
 returns-5 : tie.Need-returns-5
 unfolding longb
-returns-5 c = let a = c .before .before .before .before .before .before .before .before .before .before .before .before .before .before .before .before in
-    c .refuse5 .ensures ∙ due-7 (L a) (a .args .room) _ (sym (c .before .before .before .before .before .before .before .before .before .before .within .ensures) ∙ not-false _ (c .before .before .before .before .before .before .before .before .before .if1 .left)) (sym (c .before .before .before .before .before .before .before .within2 .ensures) ∙ not-false _ (c .before .before .before .before .before .before .if2 .left)) (le-leb _ _ (c .before .before .before .before .before .if3 .left)) (lt-ltb _ _ (c .before .before .before .if4 .left)) (and-no-left (longb (L a)) (a .args .room) (sym (c .before .before .long .ensures) ∙ not-true _ (c .before .if5 .taken)))
+returns-5 c = let a =
+    c .before .before .before .before .before .before .before .before .before .before .before .before .before .before .before .before in
+    c .refuse5 .ensures ∙ due-7 (L a) (a .args .room) _
+    (sym (c .before .before .before .before .before .before .before .before .before .before .within .ensures) ∙
+    not-false _ (c .before .before .before .before .before .before .before .before .before .if1 .left))
+    (sym (c .before .before .before .before .before .before .before .within2 .ensures) ∙
+    not-false _ (c .before .before .before .before .before .before .if2 .left))
+    (le-leb _ _ (c .before .before .before .before .before .if3 .left)) (lt-ltb _ _ (c .before .before .before .if4 .left))
+    (and-no-left (longb (L a)) (a .args .room) (sym (c .before .before .long .ensures) ∙ not-true _ (c .before .if5 .taken)))
 
 refuse-requires-6 : tie.Need-refuse-requires-6
 refuse-requires-6 c κs = search needs
 
 returns-6 : tie.Need-returns-6
 unfolding longb
-returns-6 c = let a = c .before .before .before .before .before .before .before .before .before .before .before .before .before .before .before .before .before in
-    c .refuse6 .ensures ∙ due-7 (L a) (a .args .room) _ (sym (c .before .before .before .before .before .before .before .before .before .before .before .within .ensures) ∙ not-false _ (c .before .before .before .before .before .before .before .before .before .before .if1 .left)) (sym (c .before .before .before .before .before .before .before .before .within2 .ensures) ∙ not-false _ (c .before .before .before .before .before .before .before .if2 .left)) (le-leb _ _ (c .before .before .before .before .before .before .if3 .left)) (lt-ltb _ _ (c .before .before .before .before .if4 .left)) (and-no-right (longb (L a)) (a .args .room) (not-true (a .args .room) (c .before .if6 .taken)))
+returns-6 c = let a =
+    c .before .before .before .before .before .before .before .before .before .before .before .before .before .before .before .before
+    .before in
+    c .refuse6 .ensures ∙ due-7 (L a) (a .args .room) _
+    (sym (c .before .before .before .before .before .before .before .before .before .before .before .within .ensures) ∙
+    not-false _ (c .before .before .before .before .before .before .before .before .before .before .if1 .left))
+    (sym (c .before .before .before .before .before .before .before .before .within2 .ensures) ∙
+    not-false _ (c .before .before .before .before .before .before .before .if2 .left))
+    (le-leb _ _ (c .before .before .before .before .before .before .if3 .left))
+    (lt-ltb _ _ (c .before .before .before .before .if4 .left))
+    (and-no-right (longb (L a)) (a .args .room) (not-true (a .args .room) (c .before .if6 .taken)))
 
 rows-refusal-requires : tie.Need-rows-refusal-requires
 unfolding longb
-rows-refusal-requires c κs = let a = c .before .before .before .before .before .before .before .before .before .before .before .before .before .before .before .before in
+rows-refusal-requires c κs = let a =
+    c .before .before .before .before .before .before .before .before .before .before .before .before .before .before .before .before in
     let l = long-of (L a) (sym (c .before .before .long .ensures) ∙ not-false _ (c .before .if5 .left)) in (l .source, l .label, l .target)
 
 returns-7 : tie.Need-returns-7
 unfolding longb
-returns-7 c = let a = c .before .before .before .before .before .before .before .before .before .before .before .before .before .before .before .before .before in
-    c .rows-refusal .ensures ∙ due-rows (L a) (a .args .room) _ (sym (c .before .before .before .before .before .before .before .before .before .before .before .within .ensures) ∙ not-false _ (c .before .before .before .before .before .before .before .before .before .before .if1 .left)) (sym (c .before .before .before .before .before .before .before .before .within2 .ensures) ∙ not-false _ (c .before .before .before .before .before .before .before .if2 .left)) (le-leb _ _ (c .before .before .before .before .before .before .if3 .left)) (lt-ltb _ _ (c .before .before .before .before .if4 .left)) (and-both (sym (c .before .before .before .long .ensures) ∙ not-false _ (c .before .before .if5 .left)) (not-false (a .args .room) (c .before .if6 .left)))
+returns-7 c = let a =
+    c .before .before .before .before .before .before .before .before .before .before .before .before .before .before .before .before
+    .before in
+    c .rows-refusal .ensures ∙ due-rows (L a) (a .args .room) _
+    (sym (c .before .before .before .before .before .before .before .before .before .before .before .within .ensures) ∙
+    not-false _ (c .before .before .before .before .before .before .before .before .before .before .if1 .left))
+    (sym (c .before .before .before .before .before .before .before .before .within2 .ensures) ∙
+    not-false _ (c .before .before .before .before .before .before .before .if2 .left))
+    (le-leb _ _ (c .before .before .before .before .before .before .if3 .left))
+    (lt-ltb _ _ (c .before .before .before .before .if4 .left))
+    (and-both (sym (c .before .before .before .long .ensures) ∙ not-false _ (c .before .before .if5 .left))
+    (not-false (a .args .room) (c .before .if6 .left)))
 
 pub check-spec : {M : Type 1} → statement M
 check-spec =

@@ -34,7 +34,12 @@ refuse-requires c κs = search needs
 
 returns : tie.Need-returns Inv-loop μ-loop
 returns c = let a = c .before .before .before .before .before .before .before .before .before .before .before in
-    c .refuse .ensures ∙ rows-wrong (lts (a .args .table) (a .args .source .now) (a .args .label .now) (a .args .target .now)) (c .before .before .before .before .before .before .loop .i) _ _ (omega arith) (c .before .before .before .before .before .before .loop .inv .1) (fault-at (lts (a .args .table) (a .args .source .now) (a .args .label .now) (a .args .target .now)) (c .before .before .before .before .before .before .loop .i) _ _ _ (c .before .before .before .before .fields-ok .ensures) (c .before .before .before .above-ok .ensures) (c .before .before .row-fault .ensures)) (c .before .if1 .taken)
+    c .refuse .ensures ∙ rows-wrong (lts (a .args .table) (a .args .source .now) (a .args .label .now) (a .args .target .now))
+    (c .before .before .before .before .before .before .loop .i) _ _ (omega arith)
+    (c .before .before .before .before .before .before .loop .inv .1)
+    (fault-at (lts (a .args .table) (a .args .source .now) (a .args .label .now) (a .args .target .now))
+    (c .before .before .before .before .before .before .loop .i) _ _ _ (c .before .before .before .before .fields-ok .ensures)
+    (c .before .before .before .above-ok .ensures) (c .before .before .row-fault .ensures)) (c .before .if1 .taken)
 
 add-i : tie.Need-add-i Inv-loop μ-loop
 add-i c = omega arith
@@ -43,15 +48,22 @@ loop-less : tie.Need-loop-less Inv-loop μ-loop
 loop-less c = omega arith
 
 loop-again : tie.Need-loop-again Inv-loop μ-loop
-loop-again c = let a = c .before .before .before .before .before .before .before .before .before .before in
-    (omega arith, right-more (lts (a .args .table) (a .args .source .now) (a .args .label .now) (a .args .target .now)) (c .before .before .before .before .before .loop .i) (c .before .before .before .before .before .loop .inv .1) (sym (fault-at (lts (a .args .table) (a .args .source .now) (a .args .label .now) (a .args .target .now)) (c .before .before .before .before .before .loop .i) _ _ _ (c .before .before .before .fields-ok .ensures) (c .before .before .above-ok .ensures) (c .before .row-fault .ensures)) ∙ c .if1 .left))
+loop-again c = let a = c .before .before .before .before .before .before .before .before .before .before in (
+  omega arith,
+  right-more (lts (a .args .table) (a .args .source .now) (a .args .label .now) (a .args .target .now))
+      (c .before .before .before .before .before .loop .i) (c .before .before .before .before .before .loop .inv .1)
+      (sym (fault-at (lts (a .args .table) (a .args .source .now) (a .args .label .now) (a .args .target .now))
+      (c .before .before .before .before .before .loop .i) _ _ _ (c .before .before .before .fields-ok .ensures)
+      (c .before .before .above-ok .ensures) (c .before .row-fault .ensures)) ∙ c .if1 .left),
+)
 
 refuse-requires-2 : tie.Need-refuse-requires-2 Inv-loop μ-loop
 refuse-requires-2 c κs = search needs
 
 returns-2 : tie.Need-returns-2 Inv-loop μ-loop
 returns-2 c = let a = c .before .before .before .before .before .before .before in
-    c .refuse2 .ensures ∙ rows-right (lts (a .args .table) (a .args .source .now) (a .args .label .now) (a .args .target .now)) (c .before .before .loop .i) _ (omega arith) (c .before .before .loop .inv .1)
+    c .refuse2 .ensures ∙ rows-right (lts (a .args .table) (a .args .source .now) (a .args .label .now) (a .args .target .now))
+    (c .before .before .loop .i) _ (omega arith) (c .before .before .loop .inv .1)
 
 pub rows-refusal-spec : {M : Type 1} → statement M
 rows-refusal-spec =

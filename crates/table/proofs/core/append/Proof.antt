@@ -18,7 +18,8 @@ same-length c = search needs
 returns : tie.Need-returns
 unfolding appended
 returns c =
-    let e : eqb (getD (c .before .before .before .before .before .args .marks .now) (c .before .before .before .before .before .args .u) 0) 0 ≡ false = ne-eqb _ _ (λ q. c .if1 .taken (c .before .at .ensures .0 ∙ q)) in
+    let e : eqb (getD (c .before .before .before .before .before .args .marks .now) (c .before .before .before .before .before .args .u) 0)
+    0 ≡ false = ne-eqb _ _ (λ q. c .if1 .taken (c .before .at .ensures .0 ∙ q)) in
     rw e
 
 mul-marks : tie.Need-mul-marks
@@ -48,7 +49,8 @@ same-length-3 c = search needs
 returns-2 : tie.Need-returns-2
 unfolding appended
 returns-2 c =
-    let e : eqb (getD (c .before .before .before .before .before .args .marks .now) (c .before .before .before .before .before .args .u) 0) 0 ≡ true = eq-eqb _ _ (sym (c .before .at .ensures .0) ∙ c .if1 .left) in
+    let e : eqb (getD (c .before .before .before .before .before .args .marks .now) (c .before .before .before .before .before .args .u) 0)
+    0 ≡ true = eq-eqb _ _ (sym (c .before .at .ensures .0) ∙ c .if1 .left) in
     rw e
 
 pub append-spec : {M : Type 1} → statement M

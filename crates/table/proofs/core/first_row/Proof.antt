@@ -32,17 +32,45 @@ loop-less : tie.Need-loop-less Inv-loop μ-loop
 loop-less c = omega arith
 
 loop-again : tie.Need-loop-again Inv-loop μ-loop
-loop-again c = ((omega arith, omega arith), ((λ i h. omega (arith, h, c .before .at .ensures .0, c .if1 .taken, c .before .before .before .before .before .pre .1 i (c .before .before .before .loop .low + (c .before .before .before .loop .high - c .before .before .before .loop .low) / 2) (omega arith) (omega arith))), c .before .before .before .loop .inv .1 .1))
+loop-again c = (
+  (omega arith, omega arith),
+  (
+    (λ i h. omega (
+      arith,
+      h,
+      c .before .at .ensures .0,
+      c .if1 .taken,
+      c .before .before .before .before .before .pre .1 i
+          (c .before .before .before .loop .low + (c .before .before .before .loop .high - c .before .before .before .loop .low) / 2)
+          (omega arith) (omega arith),
+    )),
+    c .before .before .before .loop .inv .1 .1,
+  ),
+)
 
 loop-less-2 : tie.Need-loop-less-2 Inv-loop μ-loop
 loop-less-2 c = omega arith
 
 loop-again-2 : tie.Need-loop-again-2 Inv-loop μ-loop
-loop-again-2 c = ((omega arith, omega arith), (c .before .before .before .loop .inv .1 .0, (λ i h l. omega (arith, h, c .before .at .ensures .0, c .if1 .left, c .before .before .before .before .before .pre .1 (c .before .before .before .loop .low + (c .before .before .before .loop .high - c .before .before .before .loop .low) / 2) i h l))))
+loop-again-2 c = (
+  (omega arith, omega arith),
+  (
+    c .before .before .before .loop .inv .1 .0,
+    (λ i h l. omega (
+      arith,
+      h,
+      c .before .at .ensures .0,
+      c .if1 .left,
+      c .before .before .before .before .before .pre .1
+          (c .before .before .before .loop .low + (c .before .before .before .loop .high - c .before .before .before .loop .low) / 2) i h l,
+    )),
+  ),
+)
 
 returns : tie.Need-returns Inv-loop μ-loop
 returns c = let a = c .before .before .before in
-    first-row-is (a .args .source .now) (a .args .m) (a .args .s) (c .before .loop .low) (omega arith) (c .before .loop .inv .1 .0) (λ i h l. c .before .loop .inv .1 .1 i (omega arith) l)
+    first-row-is (a .args .source .now) (a .args .m) (a .args .s) (c .before .loop .low) (omega arith) (c .before .loop .inv .1 .0)
+    (λ i h l. c .before .loop .inv .1 .1 i (omega arith) l)
 
 pub first-row-spec : {M : Type 1} → statement M
 first-row-spec =

@@ -24,7 +24,13 @@ at-requires c κs = omega arith
 returns : tie.Need-returns Inv-loop μ-loop
 returns c = let a = c .before .before .before .before .before in
     next-is (a .args .target .now) (a .args .m) (a .args .u) (a .args .from) (a .pre .1) (c .before .before .before .loop .i)
-    record { low = c .before .before .before .loop .inv .0 .0; most = omega arith; before = c .before .before .before .loop .inv .1; hit = λ _. sym (c .before .at .ensures .0) ∙ c .if1 .taken }
+    record {
+      low = c .before .before .before .loop .inv .0 .0;
+      most = omega arith;
+      before = c .before .before .before .loop .inv .1;
+      hit =
+          λ _. sym (c .before .at .ensures .0) ∙ c .if1 .taken;
+    }
 
 add-i : tie.Need-add-i Inv-loop μ-loop
 add-i c = omega arith
@@ -33,7 +39,13 @@ loop-less : tie.Need-loop-less Inv-loop μ-loop
 loop-less c = omega arith
 
 loop-again : tie.Need-loop-again Inv-loop μ-loop
-loop-again c = ((omega arith, omega arith), λ j h l e. ⊎-elim (λ (q : j ≡ c .before .before .before .loop .i). c .if1 .left (c .before .at .ensures .0 ∙ (ap (λ (k : ℕ). getD (c .before .before .before .before .before .args .target .now) k 0) (sym q) ∙ e))) (λ (k : j < c .before .before .before .loop .i). c .before .before .before .loop .inv .1 j h k e) (top-or-below (omega (arith, l))))
+loop-again c = (
+  (omega arith, omega arith),
+  λ j h l e. ⊎-elim
+      (λ (q : j ≡ c .before .before .before .loop .i). c .if1 .left
+      (c .before .at .ensures .0 ∙ (ap (λ (k : ℕ). getD (c .before .before .before .before .before .args .target .now) k 0) (sym q) ∙ e)))
+      (λ (k : j < c .before .before .before .loop .i). c .before .before .before .loop .inv .1 j h k e) (top-or-below (omega (arith, l))),
+)
 
 returns-2 : tie.Need-returns-2 Inv-loop μ-loop
 returns-2 c = let a = c .before .before .before in

@@ -41,26 +41,54 @@ slice-write-queue c = let a = c .before .before .before .before .before .before 
 
 loop-holds : tie.Need-loop-holds Inv-loop μ-loop
 loop-holds c = let a = c .before .before .before .before .before .before .before .before .before in (
-  subst (λ (l : List ℕ). Search (edge (lts (a .args .table) (a .args .source .now) (a .args .label .now) (a .args .target .now)) (a .args .hidden)) (a .args .table .n) (a .args .state) (set l (a .args .state) 1) (set (a .args .queue .now) 0 (a .args .state)) 0 1) (sym (c .before .before .clear .ensures ∙ ap zeros (a .pre .1 .0)))
-      (search-start (edge (lts (a .args .table) (a .args .source .now) (a .args .label .now) (a .args .target .now)) (a .args .hidden)) (a .args .table .n) (a .args .state) (a .args .queue .now) (a .pre .0 .1) (a .pre .1 .1)),
+  subst (λ (l : List ℕ). Search (edge (lts (a .args .table) (a .args .source .now) (a .args .label .now) (a .args .target .now))
+      (a .args .hidden)) (a .args .table .n) (a .args .state) (set l (a .args .state) 1) (set (a .args .queue .now) 0 (a .args .state)) 0 1)
+      (sym (c .before .before .clear .ensures ∙ ap zeros (a .pre .1 .0)))
+      (search-start (edge (lts (a .args .table) (a .args .source .now) (a .args .label .now) (a .args .target .now)) (a .args .hidden))
+      (a .args .table .n) (a .args .state) (a .args .queue .now) (a .pre .0 .1) (a .pre .1 .1)),
   refl,
 )
 
 visit-requires : tie.Need-visit-requires Inv-loop μ-loop
-visit-requires c κs = let a = c .before .before .before .before .before .before .before .before .before .before .before .before .before in
-    ((a .pre .0 .0, omega arith), subst (λ (x : ℕ). Search (edge (lts (a .args .table) (a .args .source .now) (a .args .label .now) (a .args .target .now)) (a .args .hidden)) (a .args .table .n) x (c .before .before .before .loop .marks) (c .before .before .before .loop .queue) (c .before .before .before .loop .head) (c .before .before .before .loop .tail)) (sym (c .before .before .before .loop .inv .0 .first)) (c .before .before .before .loop .inv .0))
+visit-requires c κs = let a = c .before .before .before .before .before .before .before .before .before .before .before .before .before in (
+  (a .pre .0 .0, omega arith),
+  subst (λ (x : ℕ). Search
+      (edge (lts (a .args .table) (a .args .source .now) (a .args .label .now) (a .args .target .now)) (a .args .hidden))
+      (a .args .table .n) x (c .before .before .before .loop .marks) (c .before .before .before .loop .queue)
+      (c .before .before .before .loop .head) (c .before .before .before .loop .tail))
+      (sym (c .before .before .before .loop .inv .0 .first)) (c .before .before .before .loop .inv .0),
+)
 
 add-head : tie.Need-add-head Inv-loop μ-loop
-add-head c = let a = c .before .before .before .before .before .before .before .before .before .before .before .before .before .before .before .before .before .before in
-    omega (arith, search-few _ _ _ _ _ _ _ (c .before .before .before .before .before .before .before .before .loop .inv .0), a .pre .0 .0 .few-states)
+add-head c = let a =
+    c .before .before .before .before .before .before .before .before .before .before .before .before .before .before .before .before
+    .before .before in
+    omega (
+      arith,
+      search-few _ _ _ _ _ _ _ (c .before .before .before .before .before .before .before .before .loop .inv .0),
+      a .pre .0 .0 .few-states,
+    )
 
 loop-less : tie.Need-loop-less Inv-loop μ-loop
-loop-less c = let a = c .before .before .before .before .before .before .before .before .before .before .before .before .before .before .before .before .before .before in
+loop-less c = let a =
+    c .before .before .before .before .before .before .before .before .before .before .before .before .before .before .before .before
+    .before .before in
     omega (arith, search-few _ _ _ _ _ _ _ (c .before .before .before .before .before .before .before .before .loop .inv .0))
 
 loop-again : tie.Need-loop-again Inv-loop μ-loop
-loop-again c = let a = c .before .before .before .before .before .before .before .before .before .before .before .before .before .before .before .before .before .before in
-    (subst (λ (x : ℕ). Search (edge (lts (a .args .table) (a .args .source .now) (a .args .label .now) (a .args .target .now)) (a .args .hidden)) (a .args .table .n) x (c .before .before .before .before .visit .last .1 .1 .1 .1 .1 .0) (c .before .before .before .before .visit .last .1 .1 .1 .1 .1 .1 .0) (c .before .before .before .before .before .before .before .before .loop .head + 1) (c .before .before .before .before .visit .result)) (c .before .before .before .before .before .before .before .before .loop .inv .0 .first) (c .before .before .before .before .visit .ensures), c .before .before .before .before .visit .kept .1 .1 .1 .1 .1 .1 .0 ∙ c .before .before .before .before .before .before .before .before .loop .inv .1)
+loop-again c = let a =
+    c .before .before .before .before .before .before .before .before .before .before .before .before .before .before .before .before
+    .before .before in (
+      subst (λ (x : ℕ). Search (edge (lts (a .args .table) (a .args .source .now) (a .args .label .now) (a .args .target .now))
+          (a .args .hidden)) (a .args .table .n) x (c .before .before .before .before .visit .last .1 .1 .1 .1 .1 .0)
+          (c .before .before .before .before .visit .last .1 .1 .1 .1 .1 .1 .0)
+          (c .before .before .before .before .before .before .before .before .loop .head + 1)
+          (c .before .before .before .before .visit .result))
+          (c .before .before .before .before .before .before .before .before .loop .inv .0 .first)
+          (c .before .before .before .before .visit .ensures),
+      c .before .before .before .before .visit .kept .1 .1 .1 .1 .1 .1 .0 ∙
+          c .before .before .before .before .before .before .before .before .loop .inv .1,
+    )
 
 same-length : tie.Need-same-length Inv-loop μ-loop
 same-length c = let a = c .before .before .before .before .before .before .before .before .before .before .before in
@@ -71,8 +99,15 @@ same-length-2 c = let a = c .before .before .before .before .before .before .bef
     c .before .loop .inv .1 ∙ length-set (a .args .queue .now) 0 (a .args .state)
 
 returns : tie.Need-returns Inv-loop μ-loop
-returns c = let a = c .before .before .before .before .before .before .before .before .before .before .before in
-    (search-count (lts (a .args .table) (a .args .source .now) (a .args .label .now) (a .args .target .now)) (a .args .hidden) (a .pre .0 .0) (a .args .state) (c .before .loop .marks) (c .before .loop .queue) (c .before .loop .head) (c .before .loop .tail) (c .before .loop .inv .0) (omega arith), search-marks (lts (a .args .table) (a .args .source .now) (a .args .label .now) (a .args .target .now)) (a .args .hidden) (a .pre .0 .0) (a .args .state) (c .before .loop .marks) (c .before .loop .queue) (c .before .loop .head) (c .before .loop .tail) (c .before .loop .inv .0) (omega arith))
+returns c = let a = c .before .before .before .before .before .before .before .before .before .before .before in (
+  search-count (lts (a .args .table) (a .args .source .now) (a .args .label .now) (a .args .target .now)) (a .args .hidden)
+      (a .pre .0 .0) (a .args .state) (c .before .loop .marks) (c .before .loop .queue) (c .before .loop .head) (c .before .loop .tail)
+      (c .before .loop .inv .0) (omega arith),
+  search-marks
+      (lts (a .args .table) (a .args .source .now) (a .args .label .now) (a .args .target .now)) (a .args .hidden) (a .pre .0 .0)
+      (a .args .state) (c .before .loop .marks) (c .before .loop .queue) (c .before .loop .head) (c .before .loop .tail)
+      (c .before .loop .inv .0) (omega arith),
+)
 
 pub reach-spec : {M : Type 1} → statement M
 reach-spec =

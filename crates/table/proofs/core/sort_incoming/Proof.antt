@@ -19,8 +19,14 @@ same-length-2 : tie.Need-same-length-2
 same-length-2 c = search needs
 
 returns : tie.Need-returns
-returns c = let a = c .before .before .before .before .before .before .before .before .before .before .before .before .before .before .before .before in
-    (c .before .before .before .before .sort .ensures .0 ∙ ap (sortBy (a .args .target .now) (a .args .source .now) (a .args .label .now)) (c .before .before .before .before .before .before .before .before .before .count-up .ensures), c .before .before .before .before .sort .ensures .1 ∙ ap (λ (n : ℕ). wiped (n / 2) (a .args .spare .now)) (c .before .before .before .before .before .before .before .before .before .count-up .kept .0))
+returns c = let a =
+    c .before .before .before .before .before .before .before .before .before .before .before .before .before .before .before .before in (
+      c .before .before .before .before .sort .ensures .0 ∙ ap (sortBy (a .args .target .now) (a .args .source .now) (a .args .label .now))
+          (c .before .before .before .before .before .before .before .before .before .count-up .ensures),
+      c .before .before .before .before .sort .ensures .1 ∙
+          ap (λ (n : ℕ). wiped (n / 2) (a .args .spare .now))
+          (c .before .before .before .before .before .before .before .before .before .count-up .kept .0),
+    )
 
 pub sort-incoming-spec : {M : Type 1} → statement M
 sort-incoming-spec =

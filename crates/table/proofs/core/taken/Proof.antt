@@ -15,11 +15,19 @@ at-requires c κs = search needs
 
 returns-2 : tie.Need-returns-2
 unfolding takes
-returns-2 c = simp (not-false (c .before .before .before .before .args .hidden) (c .before .before .if1 .left), sym (c .before .at .ensures .0), eq-eqb _ _ (c .if2 .taken))
+returns-2 c = simp (
+  not-false (c .before .before .before .before .args .hidden) (c .before .before .if1 .left),
+  sym (c .before .at .ensures .0),
+  eq-eqb _ _ (c .if2 .taken),
+)
 
 returns-3 : tie.Need-returns-3
 unfolding takes
-returns-3 c = simp (not-false (c .before .before .before .before .args .hidden) (c .before .before .if1 .left), sym (c .before .at .ensures .0), ne-eqb _ _ (c .if2 .left))
+returns-3 c = simp (
+  not-false (c .before .before .before .before .args .hidden) (c .before .before .if1 .left),
+  sym (c .before .at .ensures .0),
+  ne-eqb _ _ (c .if2 .left),
+)
 
 pub taken-spec : {M : Type 1} → statement M
 taken-spec =

@@ -49,10 +49,20 @@ cast-m : tie.Need-cast-m Inv-loop μ-loop
 cast-m c = search needs
 
 at-requires : tie.Need-at-requires Inv-loop μ-loop
-at-requires c κs = omega (arith, c .before .before .before .before .before .before .before .pre .0 .1, search-few _ _ _ _ _ _ _ (search₀ (c .before .before .before .before .before .before .before)), search₀ (c .before .before .before .before .before .before .before) .room)
+at-requires c κs = omega (
+  arith,
+  c .before .before .before .before .before .before .before .pre .0 .1,
+  search-few _ _ _ _ _ _ _ (search₀ (c .before .before .before .before .before .before .before)),
+  search₀ (c .before .before .before .before .before .before .before) .room,
+)
 
 rows-of-requires : tie.Need-rows-of-requires Inv-loop μ-loop
-rows-of-requires c κs = (valid (c .before .before .before .before .before .before .before .before) .long .source, rising (L (c .before .before .before .before .before .before .before .before)) (valid (c .before .before .before .before .before .before .before .before)), c .at .ensures .1)
+rows-of-requires c κs = (
+  valid (c .before .before .before .before .before .before .before .before) .long .source,
+  rising (L (c .before .before .before .before .before .before .before .before))
+      (valid (c .before .before .before .before .before .before .before .before)),
+  c .at .ensures .1,
+)
 
 loop-holds : tie.Need-loop-holds Inv-loop μ-loop
 unfolding edge
@@ -67,10 +77,13 @@ loop-holds c =
           first-row-up (a .args .source .now) (a .args .table .m) (rising (L a) (valid a)) (c .before .at .result),
         ),
       ),
-      visit-start (length (a .args .marks .now)) (a .args .table .m) (a .args .source .now) (a .args .target .now) (W a) (rising (L a) (valid a)) (to a)
-          (getD (a .args .queue .now) 0 0) (c .before .at .result) (a .args .queue .now) (a .args .tail) (a .args .head) (a .args .marks .now)
+      visit-start (length (a .args .marks .now)) (a .args .table .m) (a .args .source .now) (a .args .target .now) (W a)
+          (rising (L a) (valid a)) (to a)
+          (getD (a .args .queue .now) 0 0) (c .before .at .result) (a .args .queue .now) (a .args .tail) (a .args .head)
+          (a .args .marks .now)
           (c .rows-of .result .first) (c .rows-of .ensures .0)
-          (subst (λ (n : ℕ). Found a n (a .args .marks .now) (a .args .queue .now) (a .args .head) (a .args .tail)) (sym (search₀ a .size)) (search₀ a))
+          (subst (λ (n : ℕ). Found a n (a .args .marks .now) (a .args .queue .now) (a .args .head) (a .args .tail)) (sym (search₀ a .size))
+          (search₀ a))
           (a .pre .0 .1) (sym (c .before .at .ensures .0)),
     )
 
@@ -82,24 +95,43 @@ module _ (q : tie.In-loop Inv-loop μ-loop) where
         arith,
         q .before .loop .inv .0,
         q .loop-test,
-        first-row-most (q .before .before .before .before .before .before .before .before .before .before .before .args .source .now) (q .before .before .before .before .before .before .before .before .before .before .before .args .table .m) (q .before .before .before .at .result + 1),
+        first-row-most (q .before .before .before .before .before .before .before .before .before .before .before .args .source .now)
+            (q .before .before .before .before .before .before .before .before .before .before .before .args .table .m)
+            (q .before .before .before .at .result + 1),
         q .before .before .rows-of .ensures .1,
       )
 
-  own : getD (q .before .before .before .before .before .before .before .before .before .before .before .args .source .now) (q .before .loop .i) 0 ≡ q .before .before .before .at .result
+  own : getD (q .before .before .before .before .before .before .before .before .before .before .before .args .source .now)
+      (q .before .loop .i) 0 ≡ q .before .before .before .at .result
   own =
-      stretch (q .before .before .before .before .before .before .before .before .before .before .before .args .source .now) (q .before .before .before .before .before .before .before .before .before .before .before .args .table .m) (rising (L (q .before .before .before .before .before .before .before .before .before .before .before)) (valid (q .before .before .before .before .before .before .before .before .before .before .before))) (q .before .before .before .at .result) (q .before .loop .i) below .1
-      (omega (arith, q .before .loop .inv .0, q .before .before .rows-of .ensures .0), omega (arith, q .loop-test, q .before .before .rows-of .ensures .1))
+      stretch (q .before .before .before .before .before .before .before .before .before .before .before .args .source .now)
+      (q .before .before .before .before .before .before .before .before .before .before .before .args .table .m)
+      (rising (L (q .before .before .before .before .before .before .before .before .before .before .before))
+      (valid (q .before .before .before .before .before .before .before .before .before .before .before)))
+      (q .before .before .before .at .result) (q .before .loop .i) below .1 (
+        omega (arith, q .before .loop .inv .0, q .before .before .rows-of .ensures .0),
+        omega (arith, q .loop-test, q .before .before .rows-of .ensures .1),
+      )
 
 taken-requires : tie.Need-taken-requires Inv-loop μ-loop
-taken-requires c κs = omega (arith, below c, valid (c .before .before .before .before .before .before .before .before .before .before .before) .long .label)
+taken-requires c κs = omega (
+  arith,
+  below c,
+  valid
+      (c .before .before .before .before .before .before .before .before .before .before .before) .long .label,
+)
 
 at-requires-2 : tie.Need-at-requires-2 Inv-loop μ-loop
-at-requires-2 c κs = omega (arith, below (c .before .before), valid (c .before .before .before .before .before .before .before .before .before .before .before .before .before) .long .target)
+at-requires-2 c κs = omega (
+  arith,
+  below (c .before .before),
+  valid (c .before .before .before .before .before .before .before .before .before .before .before .before .before) .long .target,
+)
 
 append-requires : tie.Need-append-requires Inv-loop μ-loop
 append-requires c κs =
-    let a = c .before .before .before .before .before .before .before .before .before .before .before .before .before .before .before .before in
+    let a = c .before .before .before .before .before .before .before .before .before .before .before .before .before .before .before
+    .before in
     let l = c .before .before .before .before .before .before .loop in
     let s = l .inv .1 .search in (
       omega (arith, c .before .before .at2 .ensures .0, to a (l .i) (below (c .before .before .before .before .before)), s .size),
@@ -108,34 +140,57 @@ append-requires c κs =
       λ z.
           omega (
             arith,
-            visit-room (length (a .args .marks .now)) (a .args .table .m) (a .args .source .now) (a .args .target .now) (W a) (rising (L a) (valid a)) (to a)
-                (getD (a .args .queue .now) 0 0) (c .before .before .before .before .before .before .before .before .at .result) (a .args .queue .now) (a .args .tail) (a .args .head) (l .marks) (l .queue) (l .high) (l .i)
-                (l .inv .1) (below (c .before .before .before .before .before)) (own (c .before .before .before .before .before)) (sym (c .before .before .before .before .taken .ensures) ∙ c .before .before .before .if1 .taken)
+            visit-room (length (a .args .marks .now)) (a .args .table .m) (a .args .source .now) (a .args .target .now) (W a)
+                (rising (L a) (valid a)) (to a)
+                (getD (a .args .queue .now) 0 0) (c .before .before .before .before .before .before .before .before .at .result)
+                (a .args .queue .now) (a .args .tail) (a .args .head) (l .marks) (l .queue) (l .high) (l .i)
+                (l .inv .1) (below (c .before .before .before .before .before)) (own (c .before .before .before .before .before))
+                (sym (c .before .before .before .before .taken .ensures) ∙ c .before .before .before .if1 .taken)
                 (sym (ap (λ (y : ℕ). getD (l .marks) y 0) (c .before .before .at2 .ensures .0)) ∙ z),
             s .room,
           ),
     )
 
 add-i : tie.Need-add-i Inv-loop μ-loop
-add-i c = omega (arith, below (c .before .before .before .before .before .before .before .before .before .before), valid (c .before .before .before .before .before .before .before .before .before .before .before .before .before .before .before .before .before .before .before .before .before) .few-rows)
+add-i c = omega (
+  arith,
+  below (c .before .before .before .before .before .before .before .before .before .before),
+  valid (c .before .before .before .before .before .before .before .before .before .before .before .before .before .before .before .before
+      .before .before .before .before .before) .few-rows,
+)
 
 loop-less : tie.Need-loop-less Inv-loop μ-loop
 loop-less c = omega (arith, c .before .before .before .before .before .before .before .before .before .before .loop-test)
 
 loop-again : tie.Need-loop-again Inv-loop μ-loop
 loop-again c =
-    let a = c .before .before .before .before .before .before .before .before .before .before .before .before .before .before .before .before .before .before .before .before .before in
+    let a = c .before .before .before .before .before .before .before .before .before .before .before .before .before .before .before
+    .before .before .before .before .before .before in
     let l = c .before .before .before .before .before .before .before .before .before .before .before .loop in
     let p = c .before .before .before .before .append in (
-      (omega (arith, l .inv .0), omega (arith, c .before .before .before .before .before .before .before .before .before .before .loop-test)),
-      visit-append (length (a .args .marks .now)) (a .args .table .m) (a .args .source .now) (a .args .target .now) (W a) (rising (L a) (valid a)) (to a)
-          (getD (a .args .queue .now) 0 0) (c .before .before .before .before .before .before .before .before .before .before .before .before .before .at .result) (a .args .queue .now) (a .args .tail) (a .args .head) (l .marks) (l .queue) (l .high) (l .i)
-          (l .inv .1) (below (c .before .before .before .before .before .before .before .before .before .before)) (own (c .before .before .before .before .before .before .before .before .before .before)) (sym (c .before .before .before .before .before .before .before .before .before .taken .ensures) ∙ c .before .before .before .before .before .before .before .before .if1 .taken) (p .result) (p .last .0) (p .last .1 .0)
-          (p .ensures ∙ ap (λ (y : ℕ). appended y (l .marks) (l .queue) (l .high)) (c .before .before .before .before .before .before .before .at2 .ensures .0)),
+      (
+        omega (arith, l .inv .0),
+        omega (arith, c .before .before .before .before .before .before .before .before .before .before .loop-test),
+      ),
+      visit-append (length (a .args .marks .now)) (a .args .table .m) (a .args .source .now) (a .args .target .now) (W a)
+          (rising (L a) (valid a)) (to a)
+          (getD (a .args .queue .now) 0 0)
+          (c .before .before .before .before .before .before .before .before .before .before .before .before .before .at .result)
+          (a .args .queue .now) (a .args .tail) (a .args .head) (l .marks) (l .queue) (l .high) (l .i)
+          (l .inv .1) (below (c .before .before .before .before .before .before .before .before .before .before))
+          (own (c .before .before .before .before .before .before .before .before .before .before))
+          (sym (c .before .before .before .before .before .before .before .before .before .taken .ensures) ∙
+          c .before .before .before .before .before .before .before .before .if1 .taken) (p .result) (p .last .0) (p .last .1 .0)
+          (p .ensures ∙ ap (λ (y : ℕ). appended y (l .marks) (l .queue) (l .high))
+          (c .before .before .before .before .before .before .before .at2 .ensures .0)),
     )
 
 add-i-2 : tie.Need-add-i-2 Inv-loop μ-loop
-add-i-2 c = omega (arith, below (c .before .before), valid (c .before .before .before .before .before .before .before .before .before .before .before .before .before) .few-rows)
+add-i-2 c = omega (
+  arith,
+  below (c .before .before),
+  valid (c .before .before .before .before .before .before .before .before .before .before .before .before .before) .few-rows,
+)
 
 loop-less-2 : tie.Need-loop-less-2 Inv-loop μ-loop
 loop-less-2 c = omega (arith, c .before .before .loop-test)
@@ -145,8 +200,10 @@ loop-again-2 c =
     let a = c .before .before .before .before .before .before .before .before .before .before .before .before .before in
     let l = c .before .before .before .loop in (
       (omega (arith, l .inv .0), omega (arith, c .before .before .loop-test)),
-      visit-skip (length (a .args .marks .now)) (a .args .table .m) (a .args .source .now) (a .args .target .now) (W a) (rising (L a) (valid a)) (to a)
-          (getD (a .args .queue .now) 0 0) (c .before .before .before .before .before .at .result) (a .args .queue .now) (a .args .tail) (a .args .head) (l .marks) (l .queue) (l .high) (l .i)
+      visit-skip (length (a .args .marks .now)) (a .args .table .m) (a .args .source .now) (a .args .target .now) (W a)
+          (rising (L a) (valid a)) (to a)
+          (getD (a .args .queue .now) 0 0) (c .before .before .before .before .before .at .result) (a .args .queue .now) (a .args .tail)
+          (a .args .head) (l .marks) (l .queue) (l .high) (l .i)
           (l .inv .1) (λ e. absurd (contra e (sym (c .before .taken .ensures) ∙ c .if1 .left))),
     )
 
@@ -163,8 +220,10 @@ returns c =
     let l = c .before .loop in
     let e : l .i ≡ c .before .before .rows-of .result .end = omega (arith, c .loop-test, l .inv .0) in
     subst (λ (n : ℕ). Found a n (l .marks) (l .queue) (a .args .head + 1) (l .high)) (search₀ a .size)
-    (visit-end (length (a .args .marks .now)) (a .args .table .m) (a .args .source .now) (a .args .target .now) (W a) (rising (L a) (valid a)) (to a)
-    (getD (a .args .queue .now) 0 0) (c .before .before .before .at .result) (a .args .queue .now) (a .args .tail) (a .args .head) (l .marks) (l .queue) (l .high) (l .i)
+    (visit-end (length (a .args .marks .now)) (a .args .table .m) (a .args .source .now) (a .args .target .now) (W a)
+    (rising (L a) (valid a)) (to a)
+    (getD (a .args .queue .now) 0 0) (c .before .before .before .at .result) (a .args .queue .now) (a .args .tail) (a .args .head)
+    (l .marks) (l .queue) (l .high) (l .i)
     (l .inv .1) (e ∙ c .before .before .rows-of .ensures .1))
 
 pub visit-spec : {M : Type 1} → statement M

@@ -37,30 +37,44 @@ refusing-number-requires c κs = search needs
 returns : tie.Need-returns
 unfolding incomingRows incomingRefusal
 returns c = let a = c .before .before .before .before .before .before .before .before .before .before in
-    left-refused (incomingRefusal (L a) (a .args .incoming .now) (a .args .spare .now)) _ (c .before .before .check .ensures ∙ ap (λ (b : Bool). checkedTable (L a) b none) (c .before .before .before .room .ensures)) (a .args .incoming .now, a .args .spare .now) (over (incomingOrder (L a)) (a .args .incoming .now), zeros (length (a .args .spare .now))) (a .args .table .m ∷ []) _ (c .before .if1 .taken) (c .refusing-number .ensures)
+    left-refused (incomingRefusal (L a) (a .args .incoming .now) (a .args .spare .now)) _
+    (c .before .before .check .ensures ∙ ap (λ (b : Bool). checkedTable (L a) b none) (c .before .before .before .room .ensures))
+    (a .args .incoming .now, a .args .spare .now) (
+      over (incomingOrder (L a)) (a .args .incoming .now),
+      zeros (length (a .args .spare .now)),
+    ) (a .args .table .m ∷ []) _ (c .before .if1 .taken) (c .refusing-number .ensures)
 
 clear-requires : tie.Need-clear-requires
 clear-requires c κs = search needs
 
 slice-relend-prefix-sort-incoming : tie.Need-slice-relend-prefix-sort-incoming
 unfolding incomingRefusal
-slice-relend-prefix-sort-incoming c = let a = c .before .before .before .before .before .before .before .before .before .before .before .before .before in
-    let e = c .before .before .before .before .before .check .ensures ∙ ap (λ (b : Bool). checkedTable (L a) b none) (c .before .before .before .before .before .before .room .ensures) in
-    let q = incoming-ready (L a) (a .args .incoming .now) (a .args .spare .now) (sym (ap (λ (r : Refusal). r .number) e) ∙ c .before .before .before .before .if1 .left) in
+slice-relend-prefix-sort-incoming c = let a =
+    c .before .before .before .before .before .before .before .before .before .before .before .before .before in
+    let e = c .before .before .before .before .before .check .ensures ∙
+    ap (λ (b : Bool). checkedTable (L a) b none) (c .before .before .before .before .before .before .room .ensures) in
+    let q = incoming-ready (L a) (a .args .incoming .now) (a .args .spare .now)
+    (sym (ap (λ (r : Refusal). r .number) e) ∙ c .before .before .before .before .if1 .left) in
     q .long
 
 slice-aggregate-sort-incoming : tie.Need-slice-aggregate-sort-incoming
 unfolding incomingRefusal
-slice-aggregate-sort-incoming c = let a = c .before .before .before .before .before .before .before .before .before .before .before .before .before .before in
-    let e = c .before .before .before .before .before .before .check .ensures ∙ ap (λ (b : Bool). checkedTable (L a) b none) (c .before .before .before .before .before .before .before .room .ensures) in
-    let q = incoming-ready (L a) (a .args .incoming .now) (a .args .spare .now) (sym (ap (λ (r : Refusal). r .number) e) ∙ c .before .before .before .before .before .if1 .left) in
+slice-aggregate-sort-incoming c = let a =
+    c .before .before .before .before .before .before .before .before .before .before .before .before .before .before in
+    let e = c .before .before .before .before .before .before .check .ensures ∙
+    ap (λ (b : Bool). checkedTable (L a) b none) (c .before .before .before .before .before .before .before .room .ensures) in
+    let q = incoming-ready (L a) (a .args .incoming .now) (a .args .spare .now)
+    (sym (ap (λ (r : Refusal). r .number) e) ∙ c .before .before .before .before .before .if1 .left) in
     sym (length-take-le (a .args .table .m) (a .args .incoming .now) (q .long))
 
 sort-incoming-requires : tie.Need-sort-incoming-requires
 unfolding incomingRefusal
-sort-incoming-requires c κs = let a = c .before .before .before .before .before .before .before .before .before .before .before .before .before .before .before in
-    let e = c .before .before .before .before .before .before .before .check .ensures ∙ ap (λ (b : Bool). checkedTable (L a) b none) (c .before .before .before .before .before .before .before .before .room .ensures) in
-    let q = incoming-ready (L a) (a .args .incoming .now) (a .args .spare .now) (sym (ap (λ (r : Refusal). r .number) e) ∙ c .before .before .before .before .before .before .if1 .left) in
+sort-incoming-requires c κs = let a =
+    c .before .before .before .before .before .before .before .before .before .before .before .before .before .before .before in
+    let e = c .before .before .before .before .before .before .before .check .ensures ∙
+    ap (λ (b : Bool). checkedTable (L a) b none) (c .before .before .before .before .before .before .before .before .room .ensures) in
+    let q = incoming-ready (L a) (a .args .incoming .now) (a .args .spare .now)
+    (sym (ap (λ (r : Refusal). r .number) e) ∙ c .before .before .before .before .before .before .if1 .left) in
     let lt = length-take-le (a .args .table .m) (a .args .incoming .now) (q .long) in
     (omega (arith, lt, q .valid .few-rows), omega (arith, lt, q .wide, c .before .before .before .before .clear .kept .0))
 
@@ -75,12 +89,34 @@ same-length-2 c = search needs
 
 returns-2 : tie.Need-returns-2
 unfolding incomingRows incomingRefusal
-returns-2 c = let a = c .before .before .before .before .before .before .before .before .before .before .before .before .before .before .before .before .before .before .before .before .before in
-    let e = c .before .before .before .before .before .before .before .before .before .before .before .before .before .check .ensures ∙ ap (λ (b : Bool). checkedTable (L a) b none) (c .before .before .before .before .before .before .before .before .before .before .before .before .before .before .room .ensures) in
-    let q = incoming-ready (L a) (a .args .incoming .now) (a .args .spare .now) (sym (ap (λ (r : Refusal). r .number) e) ∙ c .before .before .before .before .before .before .before .before .before .before .before .before .if1 .left) in
+returns-2 c = let a =
+    c .before .before .before .before .before .before .before .before .before .before .before .before .before .before .before .before
+    .before .before .before .before .before in
+    let e = c .before .before .before .before .before .before .before .before .before .before .before .before .before .check .ensures ∙
+    ap (λ (b : Bool). checkedTable (L a) b none)
+    (c .before .before .before .before .before .before .before .before .before .before .before .before .before .before .room .ensures)
+    in
+    let q = incoming-ready (L a) (a .args .incoming .now) (a .args .spare .now)
+    (sym (ap (λ (r : Refusal). r .number) e) ∙
+    c .before .before .before .before .before .before .before .before .before .before .before .before .if1 .left) in
     let lt = length-take-le (a .args .table .m) (a .args .incoming .now) (q .long) in
-    let z = c .before .before .before .before .before .sort-incoming .ensures .1 ∙ (ap (wiped _) (c .before .before .before .before .before .before .before .before .before .before .clear .ensures) ∙ wiped-zeros _ (length (a .args .spare .now)) (omega (arith, lt, q .wide))) in
-    left-done (incomingRefusal (L a) (a .args .incoming .now) (a .args .spare .now)) _ (c .before .before .before .before .before .before .before .before .before .before .before .before .before .check .ensures ∙ ap (λ (b : Bool). checkedTable (L a) b none) (c .before .before .before .before .before .before .before .before .before .before .before .before .before .before .room .ensures)) (a .args .incoming .now, a .args .spare .now) (over (incomingOrder (L a)) (a .args .incoming .now), zeros (length (a .args .spare .now))) (a .args .table .m ∷ []) _ _ (c .before .before .before .before .before .before .before .before .before .before .before .before .if1 .left) (c .number-of .ensures) (λ i. (incoming-over (L a) (a .args .incoming .now) _ (q .long) (c .before .before .before .before .before .sort-incoming .ensures .0) i, z i))
+    let z = c .before .before .before .before .before .sort-incoming .ensures .1 ∙
+    (ap (wiped _) (c .before .before .before .before .before .before .before .before .before .before .clear .ensures) ∙
+    wiped-zeros _ (length (a .args .spare .now)) (omega (arith, lt, q .wide))) in
+    left-done (incomingRefusal (L a) (a .args .incoming .now) (a .args .spare .now)) _
+    (c .before .before .before .before .before .before .before .before .before .before .before .before .before .check .ensures ∙
+    ap (λ (b : Bool). checkedTable (L a) b none)
+    (c .before .before .before .before .before .before .before .before .before .before .before .before .before .before .room .ensures))
+    (a .args .incoming .now, a .args .spare .now) (
+      over (incomingOrder (L a)) (a .args .incoming .now),
+      zeros (length (a .args .spare .now)),
+    ) (a .args .table .m ∷ []) _ _
+    (c .before .before .before .before .before .before .before .before .before .before .before .before .if1 .left)
+    (c .number-of .ensures) (λ i. (
+      incoming-over (L a) (a .args .incoming .now) _ (q .long)
+          (c .before .before .before .before .before .sort-incoming .ensures .0) i,
+      z i,
+    ))
 
 pub incoming-spec : {M : Type 1} → statement M
 incoming-spec =

@@ -25,14 +25,16 @@ refusing-number-requires c κs = search needs
 returns : tie.Need-returns
 unfolding nextIncomingRow
 returns c = let a = c .before .before .before .before .before .before in
-    c .refusing-number .ensures ∙ asked-refused (stateRefusal (L a) (a .args .state) (fromRefusal (a .args .table .m) (a .args .from))) _ (c .before .before .next-refusal .ensures) _ (c .before .if1 .taken)
+    c .refusing-number .ensures ∙ asked-refused (stateRefusal (L a) (a .args .state) (fromRefusal (a .args .table .m) (a .args .from))) _
+    (c .before .before .next-refusal .ensures) _ (c .before .if1 .taken)
 
 cast-next-incoming : tie.Need-cast-next-incoming
 cast-next-incoming c = search needs
 
 next-incoming-requires : tie.Need-next-incoming-requires
 next-incoming-requires c κs = let a = c .before .before .before .before .before .before in
-    let q = asked-of (L a) (a .args .state) (fromRefusal (a .args .table .m) (a .args .from)) (sym (ap (λ (r : Refusal). r .number) (c .before .before .next-refusal .ensures)) ∙ c .before .if1 .left) in
+    let q = asked-of (L a) (a .args .state) (fromRefusal (a .args .table .m) (a .args .from))
+    (sym (ap (λ (r : Refusal). r .number) (c .before .before .next-refusal .ensures)) ∙ c .before .if1 .left) in
     (q .valid .long .target, from-of (a .args .table .m) (a .args .from) (q .rest))
 
 number-requires : tie.Need-number-requires
@@ -42,7 +44,8 @@ returns-2 : tie.Need-returns-2
 unfolding nextIncomingRow
 returns-2 c = let a = c .before .before .before .before .before .before .before .before in
     c .number .ensures ∙ (ap (λ (k : ℕ). done (k ∷ [])) (c .before .next-incoming .ensures)
-    ∙ asked-done (stateRefusal (L a) (a .args .state) (fromRefusal (a .args .table .m) (a .args .from))) _ (c .before .before .before .before .next-refusal .ensures) _ (c .before .before .before .if1 .left))
+    ∙ asked-done (stateRefusal (L a) (a .args .state) (fromRefusal (a .args .table .m) (a .args .from))) _
+    (c .before .before .before .before .next-refusal .ensures) _ (c .before .before .before .if1 .left))
 
 pub next-incoming-spec : {M : Type 1} → statement M
 next-incoming-spec =

@@ -28,7 +28,9 @@ refuse-requires c κs = search needs
 returns-2 : tie.Need-returns-2
 unfolding fromRefusal
 returns-2 c = let a = c .before .before .before .before .before .before .before .before in
-    c .refuse .ensures ∙ sym (asked-on (L a) (a .args .state) (fromRefusal (a .args .table .m) (a .args .from)) _ (c .before .before .before .before .state-refusal .ensures) (c .before .before .before .if1 .left) ∙ simp (lt-leb _ _ (c .before .if2 .taken)))
+    c .refuse .ensures ∙ sym (asked-on (L a) (a .args .state) (fromRefusal (a .args .table .m) (a .args .from)) _
+    (c .before .before .before .before .state-refusal .ensures) (c .before .before .before .if1 .left) ∙
+    simp (lt-leb _ _ (c .before .if2 .taken)))
 
 refuse-requires-2 : tie.Need-refuse-requires-2
 refuse-requires-2 c κs = search needs
@@ -36,7 +38,9 @@ refuse-requires-2 c κs = search needs
 returns-3 : tie.Need-returns-3
 unfolding fromRefusal
 returns-3 c = let a = c .before .before .before .before .before .before .before .before in
-    c .refuse2 .ensures ∙ sym (asked-on (L a) (a .args .state) (fromRefusal (a .args .table .m) (a .args .from)) _ (c .before .before .before .before .state-refusal .ensures) (c .before .before .before .if1 .left) ∙ simp (le-leb _ _ (c .before .if2 .left)))
+    c .refuse2 .ensures ∙ sym (asked-on (L a) (a .args .state) (fromRefusal (a .args .table .m) (a .args .from)) _
+    (c .before .before .before .before .state-refusal .ensures) (c .before .before .before .if1 .left) ∙
+    simp (le-leb _ _ (c .before .if2 .left)))
 
 pub next-refusal-spec : {M : Type 1} → statement M
 next-refusal-spec =

@@ -31,14 +31,16 @@ cast-rows-of c = search needs
 
 rows-of-requires : tie.Need-rows-of-requires
 rows-of-requires c κs = let a = c .before .before .before .before .before .before in
-    let q = asked-of (L a) (a .args .state) none (sym (ap (λ (r : Refusal). r .number) (c .before .before .state-refusal .ensures)) ∙ c .before .if1 .left) in
+    let q = asked-of (L a) (a .args .state) none (sym (ap (λ (r : Refusal). r .number) (c .before .before .state-refusal .ensures)) ∙
+    c .before .if1 .left) in
     (q .valid .long .source, rising (L a) (q .valid), omega (arith, q .known, q .valid .few-states))
 
 returns-2 : tie.Need-returns-2
 unfolding outgoingTransitions
 returns-2 c = let a = c .before .before .before .before .before .before .before in
     ap₂ (λ (x z : ℕ). done (x ∷ z ∷ [])) (c .rows-of .ensures .0) (c .rows-of .ensures .1)
-    ∙ asked-done (stateRefusal (L a) (a .args .state) none) _ (c .before .before .before .state-refusal .ensures) _ (c .before .before .if1 .left)
+    ∙ asked-done (stateRefusal (L a) (a .args .state) none) _ (c .before .before .before .state-refusal .ensures) _
+    (c .before .before .if1 .left)
 
 pub outgoing-transitions-spec : {M : Type 1} → statement M
 outgoing-transitions-spec =

@@ -25,14 +25,19 @@ cast-e : tie.Need-cast-e
 cast-e c = search needs
 
 sub-number : tie.Need-sub-number
-sub-number c = omega (arith, sound-of (c .before .before .before .before .args .self) (sym (c .before .before .before .sound .ensures) ∙ not-false _ (c .before .before .if1 .left)))
+sub-number c = omega (
+  arith,
+  sound-of (c .before .before .before .before .args .self)
+      (sym (c .before .before .before .sound .ensures) ∙ not-false _ (c .before .before .if1 .left)),
+)
 
 number-requires : tie.Need-number-requires
 number-requires c κs = search needs
 
 returns-2 : tie.Need-returns-2
 unfolding len
-returns-2 c = c .number .ensures ∙ simp (sym (c .before .before .before .before .sound .ensures) ∙ not-false _ (c .before .before .before .if1 .left))
+returns-2 c = c .number .ensures ∙ simp (sym (c .before .before .before .before .sound .ensures) ∙
+    not-false _ (c .before .before .before .if1 .left))
 
 pub len-spec : {M : Type 1} → statement M
 len-spec =

@@ -1,4 +1,0 @@
-pub mod Unmark
-pub mod Records
-pub mod Tables
-pub mod Spread

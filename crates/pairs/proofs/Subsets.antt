@@ -1,0 +1,90 @@
+-- `subsetb` is right: it is true exactly if every pair of other is the excluded one or in self.
+use Prim.Native.Nat.{ℕ, _<_}
+use native.Mathlib.Omega.{arith}
+use mathlib.Core.Bool.{Bool, true, _||_}
+use mathlib.Core.Path.{_≡_, ap, sym, _∙_, subst}
+use mathlib.Core.Logic.{_⊎_, inl, inr, _↔_}
+use mathlib.Core.List.{List}
+use Rattle.columns.specs.Answers.{none}
+use Rattle.columns.specs.Rows.{pairsOf}
+use Rattle.columns.specs.Sets.{Mem, Pair, pairLt, pairEq, Ascending}
+use Rattle.columns.specs.Tests.{all}
+use Rattle.columns.proofs.All.{all-at, all-of}
+use Rattle.columns.proofs.Bools.{or-split, or-left, or-right}
+use Rattle.columns.proofs.Firsts.{some-in, some-out}
+use Rattle.columns.proofs.Risings.{Rising, of-ascending, listed-in, listed-out}
+use Rattle.columns.proofs.Sets.{pairEq-eq, pairEq-refl}
+use Rattle.pairs.specs.Pairs.{endOf, pairAt, pairs, listRefusal}
+use Rattle.pairs.specs.Subset.{amongPairs, subsetb, subsetRefusal}
+use Rattle.pairs.proofs.Refusals.{list-of, list-on}
+use Rattle.pairs.proofs.Walking.{kept}
+
+module _ (labels blocks : List ℕ) where
+  -- pair i is a member, and a member is some pair i
+  pub pair-in : (i : ℕ) → i < endOf labels blocks → Mem (pairAt labels blocks i) (pairs labels blocks)
+  unfolding pairsOf pairAt
+  pair-in i h = listed-in (endOf labels blocks) (pairAt labels blocks) i h
+
+  pub among-of : (x : Pair) → (amongPairs labels blocks x ≡ true) ↔ Mem x (pairs labels blocks)
+  unfolding amongPairs pairsOf pairAt
+  among-of x = (
+    λ e.
+        let p = some-out (endOf labels blocks) (λ i. pairEq (pairAt labels blocks i) x) e in
+        subst (λ (y : Pair). Mem y (pairs labels blocks)) (pairEq-eq (pairAt labels blocks (p .at)) x (p .passes))
+        (pair-in (p .at) (p .below)),
+    λ m.
+        let p = listed-out (endOf labels blocks) (pairAt labels blocks) x m in
+        some-in (endOf labels blocks) (λ i. pairEq (pairAt labels blocks i) x) (p .at) (p .below)
+        (ap (pairEq (pairAt labels blocks (p .at))) (p .same) ∙ pairEq-refl (pairAt labels blocks (p .at))),
+  )
+
+  pub rises : (n : ℕ) → n ≡ endOf labels blocks → Ascending pairLt (pairs labels blocks) → Rising pairLt n (pairAt labels blocks)
+  unfolding pairsOf pairAt
+  rises n e a i j h w = of-ascending pairLt (endOf labels blocks) (pairAt labels blocks) a i j h (omega arith)
+
+-- a call is not refused exactly if both lists ascend
+module _ (selfLabels selfBlocks otherLabels otherBlocks : List ℕ) where
+  pub checked-of : subsetRefusal selfLabels selfBlocks otherLabels otherBlocks .number ≡ 0
+      → Ascending pairLt (pairs selfLabels selfBlocks) × Ascending pairLt (pairs otherLabels otherBlocks)
+  unfolding subsetRefusal
+  checked-of z =
+      let p = list-of selfLabels selfBlocks (listRefusal otherLabels otherBlocks none) z in
+      (p .0, list-of otherLabels otherBlocks none (p .1) .0)
+
+  pub of-checked : Ascending pairLt (pairs selfLabels selfBlocks) → Ascending pairLt (pairs otherLabels otherBlocks)
+      → subsetRefusal selfLabels selfBlocks otherLabels otherBlocks ≡ none
+  unfolding subsetRefusal
+  of-checked a b = list-on selfLabels selfBlocks (listRefusal otherLabels otherBlocks none) a ∙ list-on otherLabels otherBlocks none b
+
+module _ (selfLabels selfBlocks otherLabels otherBlocks : List ℕ) (x : Pair) where
+  -- what the walk decides, with its ends counted
+  pub at-ends : (n m : ℕ) → n ≡ endOf selfLabels selfBlocks → m ≡ endOf otherLabels otherBlocks
+      → all m (kept n (pairAt selfLabels selfBlocks) (pairAt otherLabels otherBlocks) x) ≡ subsetb selfLabels selfBlocks otherLabels
+      otherBlocks x
+  unfolding subsetb amongPairs
+  at-ends n m e d = rw (e, d)
+
+  kept-of : (y : Pair) → (pairEq y x || amongPairs selfLabels selfBlocks y) ≡ true → (y ≡ x) ⊎ Mem y (pairs selfLabels selfBlocks)
+  kept-of y e = go (or-split (pairEq y x) (amongPairs selfLabels selfBlocks y) e)
+    where
+      go : (pairEq y x ≡ true) ⊎ (amongPairs selfLabels selfBlocks y ≡ true) → (y ≡ x) ⊎ Mem y (pairs selfLabels selfBlocks)
+      go (inl q) = inl (pairEq-eq y x q)
+      go (inr q) = inr (among-of selfLabels selfBlocks y .0 q)
+
+  of-kept : (y : Pair) → (y ≡ x) ⊎ Mem y (pairs selfLabels selfBlocks) → (pairEq y x || amongPairs selfLabels selfBlocks y) ≡ true
+  of-kept y (inl q) = or-left (pairEq y x) (amongPairs selfLabels selfBlocks y) (ap (pairEq y) (sym q) ∙ pairEq-refl y)
+  of-kept y (inr m) = or-right (pairEq y x) (amongPairs selfLabels selfBlocks y) (among-of selfLabels selfBlocks y .1 m)
+
+  pub subset-law :
+      (subsetb selfLabels selfBlocks otherLabels otherBlocks x ≡ true)
+      ↔ ((y : Pair) → Mem y (pairs otherLabels otherBlocks) → (y ≡ x) ⊎ Mem y (pairs selfLabels selfBlocks))
+  unfolding subsetb pairsOf pairAt
+  subset-law =
+      let f : ℕ → Pair = pairAt otherLabels otherBlocks in
+      let test : ℕ → Bool = λ j. pairEq (f j) x || amongPairs selfLabels selfBlocks (f j) in (
+        λ e y m.
+            let p = listed-out (endOf otherLabels otherBlocks) f y m in
+            kept-of y (ap (λ (z : Pair). pairEq z x || amongPairs selfLabels selfBlocks z) (p .same) ∙
+            all-at test (endOf otherLabels otherBlocks) (p .at) e (p .below)),
+        λ h. all-of test (endOf otherLabels otherBlocks) (λ j l. of-kept (f j) (h (f j) (pair-in otherLabels otherBlocks j l))),
+      )

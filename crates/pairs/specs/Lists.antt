@@ -1,0 +1,47 @@
+-- Lists of pairs that lie flat in two columns, with n + 1 starts: list u is the pairs from start u to before start u + 1.
+use Prim.Native.Nat.{ℕ, _+_, _-_, _≤_, _<_}
+use mathlib.Core.Bool.{Bool, _&&_, _||_}
+use mathlib.Core.List.{List}
+use lib.Dec.{ltb}
+use lib.ListN.{getD}
+use Rattle.columns.specs.declared.answers.Refusal.{Refusal}
+use Rattle.columns.specs.Columns.{listed}
+use Rattle.columns.specs.Counting.{some}
+use Rattle.columns.specs.Sets.{Pair, pairLt, Ascending}
+use Rattle.pairs.specs.Pairs.{shorter, endOf, pairAt, badPair, leastBad}
+
+abbrev pub startAt : List ℕ → ℕ → ℕ
+startAt starts u = getD starts u 0
+
+-- the pairs of list u, in order
+unfoldable pub listAt : List ℕ → List ℕ → List ℕ → ℕ → List Pair
+unfolding listed pairAt
+listAt starts labels blocks u =
+    listed (startAt starts (u + 1) - startAt starts u) (λ k. pairAt labels blocks (startAt starts u + k))
+
+-- start u lies below the one before, or past the end
+unfoldable pub badStart : List ℕ → ℕ → ℕ → Bool
+badStart starts end u = (ltb 0 u && ltb (startAt starts u) (startAt starts (u - 1))) || ltb end (startAt starts u)
+
+-- pair j lies in some list and is not above the one before it there
+unfoldable pub badInLists : List ℕ → ℕ → List ℕ → List ℕ → ℕ → Bool
+unfolding some badPair
+badInLists starts n labels blocks j =
+    some n (λ u. ltb j (startAt starts (u + 1)) && badPair labels blocks (startAt starts u) j)
+
+-- 15 at the first bad start, else at the first bad pair
+unfoldable pub listsRefusal : List ℕ → ℕ → List ℕ → List ℕ → Refusal → Refusal
+unfolding leastBad shorter badStart badInLists
+listsRefusal starts n labels blocks next =
+    leastBad (n + 1) (badStart starts (endOf labels blocks))
+    (leastBad (endOf labels blocks) (badInLists starts n labels blocks) next)
+
+-- the starts never fall, and none is past the end
+pub record Starts (starts : List ℕ) (n end : ℕ) : Type 0 where
+  pub rising : (u v : ℕ) → u ≤ v → v ≤ n → startAt starts u ≤ startAt starts v
+  pub inside : (u : ℕ) → u ≤ n → startAt starts u ≤ end
+
+-- what a call may go by once the lists are checked
+pub record Lists (starts : List ℕ) (n : ℕ) (labels blocks : List ℕ) : Type 0 where
+  pub bounds : Starts starts n (endOf labels blocks)
+  pub ascending : (u : ℕ) → u < n → Ascending pairLt (listAt starts labels blocks u)

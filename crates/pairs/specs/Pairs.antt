@@ -1,0 +1,47 @@
+-- Pairs (label, block) in two lent columns, and 15 for a list of pairs that does not ascend.
+use Prim.Native.Nat.{ℕ, _-_}
+use mathlib.Core.Bool.{Bool, not, cond, _&&_}
+use mathlib.Core.List.{List}
+use lib.Dec.{ltb, leb}
+use lib.ListN.{length, getD}
+use Rattle.columns.specs.Limits.{wrongList}
+use Rattle.columns.specs.declared.answers.Refusal.{Refusal}
+use Rattle.columns.specs.Answers.{refusal, unless}
+use Rattle.columns.specs.Counting.{first}
+use Rattle.columns.specs.Rows.{pairsOf}
+use Rattle.columns.specs.Sets.{Pair, pairLt}
+
+-- the shorter of two lengths
+unfoldable pub shorter : ℕ → ℕ → ℕ
+shorter a b = cond (ltb a b) a b
+
+-- where the list in two columns ends
+abbrev pub endOf : List ℕ → List ℕ → ℕ
+endOf labels blocks = shorter (length labels) (length blocks)
+
+-- pair i
+unfoldable pub pairAt : List ℕ → List ℕ → ℕ → Pair
+pairAt labels blocks i = (getD labels i 0, getD blocks i 0)
+
+-- the pairs, in order
+abbrev pub pairs : List ℕ → List ℕ → List Pair
+pairs labels blocks = pairsOf (endOf labels blocks) labels blocks
+
+-- pair j is not the first of the list that begins at x, and not above the one before
+unfoldable pub badPair : List ℕ → List ℕ → ℕ → ℕ → Bool
+unfolding pairLt pairAt
+badPair labels blocks x j = ltb x j && not (pairLt (pairAt labels blocks (j - 1)) (pairAt labels blocks j))
+
+-- 15 at index i if it is below n; else what is tested next
+unfoldable pub badAt : ℕ → ℕ → Refusal → Refusal
+badAt n i next = unless (leb n i) (refusal wrongList i) next
+
+-- 15 at the least index below n that is bad; else what is tested next
+unfoldable pub leastBad : ℕ → (ℕ → Bool) → Refusal → Refusal
+unfolding badAt first
+leastBad n bad next = badAt n (first n bad) next
+
+-- 15 at the first pair that is not above the one before
+unfoldable pub listRefusal : List ℕ → List ℕ → Refusal → Refusal
+unfolding shorter leastBad badPair
+listRefusal labels blocks next = leastBad (endOf labels blocks) (badPair labels blocks 0) next

@@ -1,0 +1,40 @@
+-- Whether every pair of one list, apart from the excluded one, is in another.
+use Prim.Native.Nat.{ℕ}
+use mathlib.Core.Bool.{Bool, not, _&&_, _||_}
+use mathlib.Core.List.{List, [], _∷_}
+use lib.Dec.{ltb, leb}
+use Rattle.columns.specs.declared.answers.Refusal.{Refusal}
+use Rattle.columns.specs.Answers.{Said, none, bit, answering}
+use Rattle.columns.specs.Counting.{first, some}
+use Rattle.columns.specs.Sets.{Pair, pairLt, pairEq}
+use Rattle.columns.specs.Tests.{all}
+use Rattle.pairs.specs.Pairs.{shorter, endOf, pairAt, listRefusal}
+
+-- a pair is in a list
+unfoldable pub amongPairs : List ℕ → List ℕ → Pair → Bool
+unfolding some shorter pairEq pairAt
+amongPairs labels blocks x = some (endOf labels blocks) (λ i. pairEq (pairAt labels blocks i) x)
+
+-- every pair of other, apart from the excluded one, is in self
+unfoldable pub subsetb : List ℕ → List ℕ → List ℕ → List ℕ → Pair → Bool
+unfolding all shorter pairEq pairAt amongPairs
+subsetb selfLabels selfBlocks otherLabels otherBlocks x =
+    all (endOf otherLabels otherBlocks)
+    (λ j. pairEq (pairAt otherLabels otherBlocks j) x || amongPairs selfLabels selfBlocks (pairAt otherLabels otherBlocks j))
+
+-- the first of the pairs from i to before n that is not below x, n if there is none
+unfoldable pub notBelow : List ℕ → List ℕ → ℕ → ℕ → Pair → ℕ
+unfolding first pairLt pairAt
+notBelow labels blocks n i x = first n (λ k. leb i k && not (pairLt (pairAt labels blocks k) x))
+
+-- 15, for self first
+unfoldable pub subsetRefusal : List ℕ → List ℕ → List ℕ → List ℕ → Refusal
+unfolding listRefusal
+subsetRefusal selfLabels selfBlocks otherLabels otherBlocks =
+    listRefusal selfLabels selfBlocks (listRefusal otherLabels otherBlocks none)
+
+unfoldable pub isSubsetOf : List ℕ → List ℕ → List ℕ → List ℕ → Pair → Said
+unfolding answering subsetRefusal subsetb
+isSubsetOf selfLabels selfBlocks otherLabels otherBlocks x =
+    answering (subsetRefusal selfLabels selfBlocks otherLabels otherBlocks)
+    (bit (subsetb selfLabels selfBlocks otherLabels otherBlocks x) ∷ [])

@@ -1,0 +1,4 @@
+pub mod Fields
+pub mod Agreeing
+pub mod Forms
+mod Shared

@@ -1,0 +1,2 @@
+pub mod Unmark
+pub mod Records

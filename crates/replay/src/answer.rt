@@ -1,0 +1,196 @@
+// The answer to a line. The slots of the slices of u16 that an operation may change are called a to i.
+use crate::line::Line;
+use replay_calls::blocks::of_numbers;
+use replay_calls::few::few;
+use replay_calls::operations::DIVIDING;
+use replay_calls::operations::FEW;
+use replay_calls::operations::ITER_BLOCK;
+use replay_calls::operations::NONE;
+use replay_calls::operations::NUMBERS;
+use replay_calls::operations::READERS;
+use replay_calls::operations::RECORDS;
+use replay_calls::operations::SIGNING;
+use replay_calls::operations::SIX;
+use replay_calls::operations::TABLES;
+use replay_calls::operations::TEXTS;
+use replay_calls::operations::family;
+use replay_calls::readers::of_partition;
+use replay_calls::readers::part_of;
+use replay_calls::readers::text_of;
+use replay_calls::records::records;
+use replay_calls::six::six;
+use replay_calls::tables::of_table;
+use replay_lines::answers::Said;
+use replay_lines::input::Buffer;
+use replay_lines::lines::Answered;
+use replay_lines::lines::bad_case;
+use replay_lines::lines::end_case;
+use replay_lines::output::part;
+use replay_lines::output::said;
+use replay_slots::case::Bytes;
+use replay_slots::case::Case;
+use replay_slots::case::Narrow;
+use replay_slots::case::Wide;
+use replay_slots::load::load;
+use replay_slots::names::Kinds;
+use replay_slots::slots::Slot;
+use replay_slots::slots::Text;
+use replay_slots::slots::fill_all;
+use replay_slots::slots::fill_text;
+use replay_slots::slots::show;
+use replay_wide::dividing::dividing;
+use replay_wide::signing::signing;
+use replay_wide::walking::walking;
+
+// What `display` answers.
+fn displayed(case: Case, narrow: &Narrow, bytes: &Bytes, text: &mut Text) -> Said {
+    let letters = fill_text(case, bytes, 0, text);
+    text_of(case, narrow, letters, text)
+}
+
+// What an operation answers.
+fn called(
+    operation: usize,
+    case: Case,
+    narrow: &Narrow,
+    wide: &Wide,
+    bytes: &Bytes,
+    text: &mut Text,
+    a: &mut Slot,
+    b: &mut Slot,
+    c: &mut Slot,
+    d: &mut Slot,
+    e: &mut Slot,
+    f: &mut Slot,
+    g: &mut Slot,
+    h: &mut Slot,
+    i: &mut Slot,
+) -> Said {
+    let to = fill_all(case, narrow, a, b, c, d, e, f, g, h, i);
+    match family(operation) {
+        NUMBERS => of_numbers(operation, case),
+        READERS => of_partition(operation, case, narrow),
+        TABLES => of_table(operation, case, narrow),
+        TEXTS => displayed(case, narrow, bytes, text),
+        FEW => few(operation, case, narrow, to, a, b, c),
+        RECORDS => records(operation, case, narrow, to, a, b),
+        SIX => six(operation, case, narrow, bytes, to, a, b, c, d, e, f),
+        DIVIDING => dividing(case, narrow, to, a, b, c, d, e, f, g, h, i),
+        SIGNING => signing(operation, case, narrow, to, a, b, c, d, e, f),
+        _ => walking(operation, case, narrow, wide, to, a, b, c, d, e, f, g, h, i),
+    }
+}
+
+// The answer, and what may have changed, at return.
+fn done(
+    operation: usize,
+    kinds: &Kinds,
+    case: Case,
+    narrow: &Narrow,
+    wide: &Wide,
+    bytes: &Bytes,
+    text: &mut Text,
+    a: &mut Slot,
+    b: &mut Slot,
+    c: &mut Slot,
+    d: &mut Slot,
+    e: &mut Slot,
+    f: &mut Slot,
+    g: &mut Slot,
+    h: &mut Slot,
+    i: &mut Slot,
+    out: &mut Buffer,
+    used: usize,
+) -> usize {
+    if operation == ITER_BLOCK {
+        return part(out, used, part_of(case, narrow));
+    }
+    let answer = called(
+        operation,
+        case,
+        narrow,
+        wide,
+        bytes,
+        text,
+        a,
+        b,
+        c,
+        d,
+        e,
+        f,
+        g,
+        h,
+        i,
+    );
+    let at = said(out, used, answer);
+    show(
+        kinds,
+        case,
+        &*a,
+        &*b,
+        &*c,
+        &*d,
+        &*e,
+        &*f,
+        &*g,
+        &*h,
+        &*i,
+        &*text,
+        out,
+        at,
+    )
+}
+
+// The rest of a line, and its answer.
+pub fn answer(
+    line: Line,
+    buffer: &mut Buffer,
+    narrow: &mut Narrow,
+    wide: &mut Wide,
+    bytes: &mut Bytes,
+    text: &mut Text,
+    a: &mut Slot,
+    b: &mut Slot,
+    c: &mut Slot,
+    d: &mut Slot,
+    e: &mut Slot,
+    f: &mut Slot,
+    g: &mut Slot,
+    h: &mut Slot,
+    i: &mut Slot,
+    out: &mut Buffer,
+    used: usize,
+) -> Answered {
+    let operation = line.operation;
+    let kinds = line.kinds;
+    if operation == NONE {
+        return bad_case(line.input.skip_line(buffer), 0, out, used);
+    }
+    let reading = load(line.input, &kinds, buffer, narrow, wide, bytes);
+    let rest = reading.input;
+    if !rest.good {
+        return bad_case(rest, reading.words, out, used);
+    }
+    let case = reading.case;
+    let at = done(
+        operation,
+        &kinds,
+        case,
+        &*narrow,
+        &*wide,
+        &*bytes,
+        text,
+        a,
+        b,
+        c,
+        d,
+        e,
+        f,
+        g,
+        h,
+        i,
+        out,
+        used,
+    );
+    end_case(rest, out, at)
+}

@@ -1,0 +1,29 @@
+-- `output::column` meets its contract: two texts, one after the other.
+use borrow.Author.Needs.{needs}
+use mathlib.Core.List.{[], _∷_}
+use Rattle.replay_lines.specs.Spelling.{columnText}
+use Rattle.replay_lines.proofs.Putting.{puts-then}
+use Rattle.replay_lines.proofs.output.column.Statement.{statement}
+use Rattle.replay_lines.proofs.output.column.Tie as tie
+
+slice-aggregate-word : tie.Need-slice-aggregate-word
+slice-aggregate-word c = search needs
+
+word-requires : tie.Need-word-requires
+word-requires c κs = search needs
+
+cells-requires : tie.Need-cells-requires
+cells-requires c κs = search needs
+
+returns : tie.Need-returns
+unfolding columnText
+returns c = puts-then (32 ∷ 124 ∷ []) _ _ (c .before .before .word .ensures) (c .cells .ensures)
+
+pub column-spec : {M : Type 1} → statement M
+column-spec =
+    tie.close
+    (tie.spec
+    slice-aggregate-word
+    word-requires
+    cells-requires
+    returns)

@@ -1,0 +1,164 @@
+// Standard output, byte by byte through a lent buffer, of which the first `used` cells are not written yet.
+ghost use mathlib.Core.Path.{_≡_};
+ghost use lib.ListN.{take};
+ghost use Rattle.columns.specs.Answers.{refused as refusedWith};
+ghost use Rattle.replay_lines.specs.Text.{put, puts};
+ghost use Rattle.replay_lines.specs.Told.{told};
+ghost use Rattle.replay_lines.specs.Spelling.{spelled, spelledAll, columnText, partText, saidText};
+use crate::answers::Said;
+use crate::input::Buffer;
+use libc::STDOUT_FILENO;
+
+// Writes what is not written yet, and says whether that is done. Where it is not, the output is closed, so that nothing more is written
+// behind a gap.
+pub fn flush(out: &[u8], used: usize) -> bool {
+    if used <= out.len() {
+        if io::write_all(STDOUT_FILENO, &out[0..used]) {
+            return true;
+        }
+    }
+    libc::close(STDOUT_FILENO);
+    false
+}
+
+// One byte more. A full buffer is written first.
+pub fn byte(out: &mut Buffer, used: usize, byte: u8) -> usize
+    ensures { λ r. ⌜ (r, now (out .exit)) ≡ put (now (out .entry)) used byte ⌝ }
+{
+    if used < 65536 {
+        out[used] = byte;
+        return used + 1;
+    }
+    flush(&*out, used);
+    out[0] = byte;
+    1
+}
+
+// The bytes of a word.
+pub fn word(out: &mut Buffer, used: usize, word: &[u8]) -> usize
+    ensures { λ r. ⌜ (r, now (out .exit)) ≡ puts (now (word .entry)) (used, now (out .entry)) ⌝ }
+{
+    let mut at = used;
+    let mut i = 0;
+    while i < word.len() {
+        at = byte(out, at, word[i]);
+        i += 1;
+    }
+    at
+}
+
+// A blank and a number.
+pub fn number(out: &mut Buffer, used: usize, value: u64) -> usize
+    ensures { λ r. ⌜ (r, now (out .exit)) ≡ puts (spelled value) (used, now (out .entry)) ⌝ }
+{
+    let mut digits = [0u8; 20];
+    let count = io::decimal(value, &mut digits);
+    let at = byte(out, used, b' ');
+    word(out, at, &digits[..count])
+}
+
+fn wide(cell: u16) -> u64
+    ensures { λ r. ⌜ r ≡ cell ⌝ }
+{
+    cell as u64
+}
+
+// The first `count` cells of a slice, with a blank before each.
+pub fn cells(out: &mut Buffer, used: usize, cells: &[u16], count: usize) -> usize
+    ensures { λ r. ⌜ (r, now (out .exit)) ≡ puts (spelledAll (take count (now (cells .entry)))) (used, now (out .entry)) ⌝ }
+{
+    let mut at = used;
+    let mut i = 0;
+    while i < cells.len() {
+        if i == count {
+            return at;
+        }
+        at = number(out, at, wide(cells[i]));
+        i += 1;
+    }
+    at
+}
+
+// The first `count` cells of a slice at return.
+pub fn column(out: &mut Buffer, used: usize, column: &[u16], count: usize) -> usize
+    ensures { λ r. ⌜ (r, now (out .exit)) ≡ puts (columnText (take count (now (column .entry)))) (used, now (out .entry)) ⌝ }
+{
+    let at = word(out, used, b" |");
+    cells(out, at, column, count)
+}
+
+fn widest(byte: u8) -> u64
+    ensures { λ r. ⌜ r ≡ byte ⌝ }
+{
+    byte as u64
+}
+
+// The first `count` bytes of a slice, as numbers, with a blank before each.
+fn byte_cells(out: &mut Buffer, used: usize, cells: &[u8], count: usize) -> usize
+    ensures { λ r. ⌜ (r, now (out .exit)) ≡ puts (spelledAll (take count (now (cells .entry)))) (used, now (out .entry)) ⌝ }
+{
+    let mut at = used;
+    let mut i = 0;
+    while i < cells.len() {
+        if i == count {
+            return at;
+        }
+        at = number(out, at, widest(cells[i]));
+        i += 1;
+    }
+    at
+}
+
+// The first `count` bytes of text at return.
+pub fn bytes(out: &mut Buffer, used: usize, text: &[u8], count: usize) -> usize
+    ensures { λ r. ⌜ (r, now (out .exit)) ≡ puts (columnText (take count (now (text .entry)))) (used, now (out .entry)) ⌝ }
+{
+    let at = word(out, used, b" |");
+    byte_cells(out, at, text, count)
+}
+
+// A part of a lent slice.
+pub fn part(out: &mut Buffer, used: usize, part: &[u16]) -> usize
+    ensures { λ r. ⌜ (r, now (out .exit)) ≡ puts (partText (now (part .entry))) (used, now (out .entry)) ⌝ }
+{
+    let a = word(out, used, b"part");
+    let b = number(out, a, part.len() as u64);
+    cells(out, b, part, part.len())
+}
+
+// The first `count` numbers of an answer.
+fn numbers(out: &mut Buffer, used: usize, numbers: [u64; 6], count: usize) -> usize
+    ensures { λ r. ⌜ (r, now (out .exit)) ≡ puts (spelledAll (take count numbers)) (used, now (out .entry)) ⌝ }
+{
+    let mut at = used;
+    let mut i = 0;
+    while i < 6 {
+        if i == count {
+            return at;
+        }
+        at = number(out, at, numbers[i]);
+        i += 1;
+    }
+    at
+}
+
+// What is refused: a number and a place.
+fn refused(out: &mut Buffer, used: usize, refusal: u64, place: u64) -> usize
+    ensures { λ r. ⌜ (r, now (out .exit)) ≡ puts (saidText (refusedWith refusal place)) (used, now (out .entry)) ⌝ }
+{
+    let a = word(out, used, b"refused");
+    let b = number(out, a, refusal);
+    number(out, b, place)
+}
+
+// What an answer says.
+pub fn said(out: &mut Buffer, used: usize, said: Said) -> usize
+    ensures { λ r. ⌜ (r, now (out .exit)) ≡ puts (saidText (told said)) (used, now (out .entry)) ⌝ }
+{
+    let given = said.numbers;
+    if said.refused {
+        return refused(out, used, given[0], given[1]);
+    }
+    let at = word(out, used, b"done");
+    numbers(out, at, given, said.count)
+}

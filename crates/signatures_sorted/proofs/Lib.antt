@@ -1,0 +1,11 @@
+pub mod SortedSigs
+pub mod Right
+pub mod Pushed
+pub mod Openings
+pub mod Emptied
+pub mod Turning
+pub mod Counted
+pub mod SortedAlike
+pub mod Examples
+pub mod Refused
+pub mod Joined

@@ -1,0 +1,64 @@
+-- The lists that are taken, as heads of a merge, and the set of them and the own pairs; and the work slices.
+use Prim.Native.Nat.{ℕ, _+_, _≤_, _<_}
+use mathlib.Core.Path.{_≡_}
+use mathlib.Core.Bool.{Bool, _&&_, cond}
+use mathlib.Core.List.{List, [], _∷_, map}
+use lib.Dec.{eqb}
+use lib.ListN.{length, getD}
+use Rattle.columns.specs.Answers.{Said, done, refused}
+use Rattle.columns.specs.Columns.{zeros}
+use Rattle.columns.specs.Counting.{members}
+use Rattle.columns.specs.Rows.{pairsOf}
+use Rattle.columns.specs.Sets.{Mem, Pair, pairLt, Ascending, addAll}
+use Rattle.pairs_merge.specs.Merged.{Heads, wide}
+use Rattle.pairs_merge.specs.Rest.{mergeOf}
+use Rattle.signatures.specs.Inductive.{inertb}
+use Rattle.signatures.specs.Pairs.{Columns, fits, pairsOver}
+use Rattle.pairs.specs.Lists.{startAt, listAt}
+use Rattle.pairs.specs.Pairs.{endOf}
+use Rattle.table.specs.Lts.{Lts}
+
+-- row i is one of s, hidden, and stays in the block of s
+unfoldable pub innerRow : Lts → List ℕ → ℕ → ℕ → Bool
+unfolding inertb
+innerRow t home s i = eqb (getD (t .source) i 0) s && inertb (t .label) (t .target) home (getD home s 0) i
+
+-- the targets of these rows, in order
+unfoldable pub innerTargets : Lts → List ℕ → ℕ → List ℕ
+unfolding members innerRow
+innerTargets t home s = map (λ i. getD (t .target) i 0) (members (t .m) (innerRow t home s))
+
+-- the given list of state u ends where there are pairs, and ascends
+pub record Takeable (starts labels blocks : List ℕ) (u : ℕ) : Type 0 where
+  pub inside : startAt starts (u + 1) ≤ endOf labels blocks
+  pub ascending : Ascending pairLt (listAt starts labels blocks u)
+
+-- so do the lists that s takes; no other is asked for
+abbrev pub Takes : Lts → List ℕ → List ℕ → List ℕ → List ℕ → ℕ → Type 0
+Takes t home starts labels blocks s = (u : ℕ) → Mem u (innerTargets t home s) → Takeable starts labels blocks u
+
+-- the first k heads are the given lists of k states
+pub record Opened (starts states : List ℕ) (k : ℕ) (high low endHigh endLow : List ℕ) : Type 0 where
+  pub count : k ≡ length states
+  pub place : (j : ℕ) → j < k → wide high low j ≡ startAt starts (getD states j 0)
+  pub end : (j : ℕ) → j < k → wide endHigh endLow j ≡ startAt starts (getD states j 0 + 1)
+
+-- the first own pairs, and those of k lists, as a set
+unfoldable pub joined : ℕ → List ℕ → List ℕ → Heads → ℕ → List Pair
+unfolding addAll pairLt pairsOf mergeOf
+joined own labels blocks d k = addAll pairLt (pairsOf own labels blocks) (mergeOf d k)
+
+-- a set is written over the columns of the result, or 16 where they have no room for as many pairs as were pushed
+unfoldable pub writing : ℕ → List Pair → Columns → Said × Columns
+unfolding fits pairsOver
+writing pushed pairs out = cond (fits pushed out) (done (length pairs ∷ []), pairsOver pairs out) (refused 16 pushed, out)
+
+-- every work slice has k cells
+abbrev pub EachLong : ℕ → List (List ℕ) → Type 0
+EachLong k [] = Unit {0}
+EachLong k (a ∷ works) = (k ≤ length a) × EachLong k works
+
+-- every cell of every work slice is zero
+abbrev pub EachZero : List (List ℕ) → Type 0
+EachZero [] = Unit {0}
+EachZero (a ∷ works) = (a ≡ zeros (length a)) × EachZero works

@@ -1,0 +1,15 @@
+pub mod Listing
+pub mod Inners
+pub mod Growing
+pub mod Steps
+pub mod Reading
+pub mod Closing
+pub mod Listed
+pub mod Lifting
+pub mod Answering
+pub mod Marking
+pub mod Closed
+pub mod Least
+pub mod Laws
+pub mod Examples
+pub mod Standing

@@ -1,0 +1,4 @@
+pub mod Closure
+pub mod Closed
+pub mod Inner
+pub mod Listed

@@ -1,0 +1,109 @@
+"""The tables of the benchmark, out of the best times of each call."""
+from typing import NamedTuple
+
+import document
+from bench_inputs import SHAPES, SIZES
+from bench_lines import LINES
+
+SIDES = ('core', 'public', 'check')
+
+
+class Key(NamedTuple):
+    """A call on an input. Of the port `side` is that of the line, of the Rust it is 'Rust'."""
+    name: str
+    side: str
+    shape: str
+    n: int
+
+
+def port_key(line, shape, n):
+    return Key(line.name, line.side, shape, n)
+
+
+def rust_key(line, shape, n):
+    return Key(line.rust, 'Rust', shape, n)
+
+
+def nanoseconds(best, key, reset):
+    """The time of a call, without that of what is done before it."""
+    before = Key(reset, 'Rust' if key.side == 'Rust' else 'reset', key.shape, key.n)
+    return best[key] - best[before] if reset else best[key]
+
+
+def series(best, line, shape, key_of):
+    """The times over the sizes."""
+    return [nanoseconds(best, key_of(line, shape, n), line.reset) for n in SIZES]
+
+
+def micros(time):
+    """Microseconds, with three digits that count."""
+    value = time / 1000
+    digits = 0 if value >= 100 else 1 if value >= 10 else 2 if value >= 1 else 3
+    return f'{value:,.{digits}f}'
+
+
+def quotient(one, other):
+    return one / other if one > 0 and other > 0 else None
+
+
+def short(number):
+    return '' if number is None else f'{number:,.0f}' if number >= 100 else f'{number:.1f}'
+
+
+def quotients(times, others):
+    """A time by the other, one after the other."""
+    return ' '.join(short(quotient(time, other)) or '-' for time, other in zip(times, others))
+
+
+def mean_growth(times):
+    whole = quotient(times[-1], times[0])
+    return None if whole is None else whole ** (1 / (len(times) - 1))
+
+
+def row(name, side, times, rust):
+    return (name, side, *map(micros, times), quotients(times[1:], times), quotients(times, rust) if rust else '')
+
+
+def rows_of(best, name, lines, shape):
+    """The rows of an operation: the Rust's calls, each once, and the port's."""
+    shown, rows = set(), []
+    for line in sorted(lines, key=lambda line: SIDES.index(line.side)):
+        rust = series(best, line, shape, rust_key) if line.rust else None
+        if rust and line.rust not in shown:
+            shown.add(line.rust)
+            rows.append(row('', 'Rust' if line.rust == name else f'Rust: {line.rust}', rust, None))
+        rows.append(row('', line.side, series(best, line, shape, port_key), rust))
+    return [(f'`{name}`' if place == 0 else '', *cells[1:]) for place, cells in enumerate(rows)]
+
+
+def of_shape(best, shape):
+    """Every line on inputs of one shape."""
+    names = list(dict.fromkeys(line.name for line in LINES if line.side in SIDES))
+    rows = [cells for name in names
+            for cells in rows_of(best, name, [line for line in LINES if line.name == name], shape)]
+    heads = ('operation', 'side', *(f'{n:,}' for n in SIZES), 'growth', 'times the Rust')
+    return document.table(heads, rows, 2)
+
+
+def greatest(values):
+    """The shape with the greatest value, and the value."""
+    known = {shape: value for shape, value in values.items() if value is not None}
+    return max(known.items(), key=lambda item: item[1]) if known else ('', None)
+
+
+def worst_row(best, line):
+    """The shape on which the port is slowest beside the Rust at the greatest n, and that on which it grows most."""
+    port = {shape: series(best, line, shape, port_key) for shape in SHAPES}
+    rust = {shape: series(best, line, shape, rust_key) for shape in SHAPES}
+    slow, ratio = greatest({shape: quotient(port[shape][-1], rust[shape][-1]) for shape in SHAPES})
+    steep, most = greatest({shape: mean_growth(port[shape]) for shape in SHAPES})
+    return (f'`{line.name}`', line.side, slow, micros(port[slow][-1]), short(ratio), steep, short(most),
+            short(mean_growth(rust[steep])))
+
+
+def worst(best):
+    """For each line the shapes that are worst for the port."""
+    heads = ('operation', 'side', 'slowest on', f'µs at {SIZES[-1]:,}', 'times the Rust', 'steepest on', 'growth',
+             "the Rust's growth")
+    lines = sorted((line for line in LINES if line.rust and line.side in SIDES), key=lambda line: line.side)
+    return document.table(heads, [worst_row(best, line) for line in lines], 3)
