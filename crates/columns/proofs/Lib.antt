@@ -1,4 +1,5 @@
 pub mod Saying
+pub mod Determined
 pub mod Chains
 pub mod Bools
 pub mod All

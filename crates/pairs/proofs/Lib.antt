@@ -3,3 +3,4 @@ pub mod Walking
 pub mod Subsets
 pub mod Listing
 pub mod Examples
+pub mod Determined

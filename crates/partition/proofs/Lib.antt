@@ -11,3 +11,4 @@ pub mod SwapKeeps
 pub mod Freshness
 pub mod Stretches
 pub mod Sayings
+pub mod Determined

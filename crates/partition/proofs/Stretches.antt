@@ -1,4 +1,4 @@
--- Laws of `iterBlock`: the two ways out, and that what is answered is empty exactly where the call is refused.
+-- Laws of `iterBlock` and `iterBegin`: the two ways out, and that what is answered is empty exactly where the call is refused.
 use Prim.Native.Nat.{ℕ, _≤_, _<_, _-_}
 use native.Mathlib.Omega.{arith}
 use borrow.Author.Tests.{eq-eqb, ne-eqb}
@@ -9,7 +9,7 @@ use lib.Seq.{length-take-le}
 use Rattle.columns.specs.declared.answers.Refusal.{Refusal}
 use Rattle.partition.specs.Partition.{Partition}
 use Rattle.partition.specs.Checks.{blockRefusal}
-use Rattle.partition.specs.Readers.{stretch, iterBlock}
+use Rattle.partition.specs.Readers.{stretch, iterBlock, iterBegin}
 use Rattle.partition.proofs.Refusals.{block-ready}
 
 module _ (p : Partition) (b : ℕ) where
@@ -22,6 +22,14 @@ module _ (p : Partition) (b : ℕ) where
         t .number ≡ 0 → (x z : ℕ) → x ≡ getD (p .begin) b 0 → z ≡ getD (p .end) b 0 → take (z - x) (drop x (p .elements)) ≡ iterBlock p b
     unfolding iterBlock stretch
     iter-done q x z ex ez = rw (← e, eq-eqb (t .number) 0 q) (cc)
+
+    pub begin-refused : (t .number ≡ 0 → ⊥) → 0 ≡ iterBegin p b
+    unfolding iterBegin
+    begin-refused n = rw (← e, ne-eqb (t .number) 0 n)
+
+    pub begin-done : t .number ≡ 0 → (x : ℕ) → x ≡ getD (p .begin) b 0 → x ≡ iterBegin p b
+    unfolding iterBegin
+    begin-done q x ex = rw (← e, eq-eqb (t .number) 0 q) (cc)
 
   -- a block that is found has a state
   pub iter-some : blockRefusal p b .number ≡ 0 → 0 < length (iterBlock p b)

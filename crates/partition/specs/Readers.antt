@@ -41,6 +41,11 @@ unfoldable pub iterBlock : Partition → ℕ → List ℕ
 unfolding stretch blockRefusal
 iterBlock p b = cond (eqb (blockRefusal p b .number) 0) (stretch p b) []
 
+-- where that part begins in `elements`: at the block's begin, and at 0 where the call is refused
+unfoldable pub iterBegin : Partition → ℕ → ℕ
+unfolding blockRefusal
+iterBegin p b = cond (eqb (blockRefusal p b .number) 0) (getD (p .begin) b 0) 0
+
 unfoldable pub iterBlockRefusal : Partition → ℕ → Said
 unfolding answering blockRefusal
 iterBlockRefusal p b = answering (blockRefusal p b) []

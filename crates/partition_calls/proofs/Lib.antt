@@ -1,1 +1,2 @@
 pub mod Sayings
+pub mod Determined

@@ -2,8 +2,9 @@
 ghost use mathlib.Core.Path.{_≡_};
 ghost use Rattle.columns.specs.Answers.{said, saidNumber, saidFlag};
 ghost use Rattle.partition.specs.Block.{saidBlock};
-ghost use Rattle.partition.specs.Readers.{numOfBlocks, lenOf, blockNumber, isElementMarked, readBlock, iterBlock, iterBlockRefusal};
-ghost use Rattle.partition.specs.Lent.{before};
+ghost use Rattle.partition.specs.Readers.{numOfBlocks, lenOf, blockNumber, isElementMarked, readBlock};
+ghost use Rattle.partition.specs.Readers.{iterBlock, iterBegin, iterBlockRefusal};
+ghost use Rattle.partition.specs.Lent.{before, BeginsAt};
 use crate::BlockPartition;
 use columns::answers::Answer;
 use columns::answers::FlagAnswer;
@@ -206,7 +207,7 @@ impl BlockPartition {
         }
     }
 
-    // The block's stretch of the lent elements, and the empty part where the call is refused.
+    // The block's stretch of the lent elements, and the empty part at their beginning where the call is refused.
     pub fn iter_block<'a>(
         self,
         elements: &'a [u16],
@@ -220,6 +221,9 @@ impl BlockPartition {
         ensures { λ r.
             let given = before elements «element_offset» «element_to_block» begin «marked_split» end (self .n) (self .count) in
             ⌜ now r ≡ iterBlock given «block_index» ⌝ }
+        ensures { λ r.
+            let given = before elements «element_offset» «element_to_block» begin «marked_split» end (self .n) (self .count) in
+            ⌜ BeginsAt r elements (iterBegin given «block_index») ⌝ }
     {
         let n = self.n as usize;
         let count = self.count as usize;

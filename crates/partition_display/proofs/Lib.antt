@@ -2,3 +2,4 @@ pub mod Writes
 pub mod Refusing
 pub mod Digits
 pub mod Examples
+pub mod Determined

@@ -8,3 +8,4 @@ pub mod Others
 pub mod Unfit
 pub mod Examples
 pub mod Sayings
+pub mod Determined

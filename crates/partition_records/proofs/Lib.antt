@@ -2,3 +2,4 @@ pub mod Fields
 pub mod Agreeing
 pub mod Forms
 mod Shared
+pub mod Determined

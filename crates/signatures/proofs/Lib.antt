@@ -10,3 +10,4 @@ pub mod StrongSigs
 pub mod InductiveSigs
 pub mod Renumbered
 pub mod Examples
+pub mod Determined

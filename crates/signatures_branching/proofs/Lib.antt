@@ -7,3 +7,4 @@ pub mod InertSteps
 pub mod Matches
 pub mod BranchingAlike
 pub mod Examples
+pub mod Determined

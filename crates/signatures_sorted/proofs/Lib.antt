@@ -9,3 +9,4 @@ pub mod SortedAlike
 pub mod Examples
 pub mod Refused
 pub mod Joined
+pub mod Determined

@@ -9,3 +9,4 @@ pub mod Sayings
 pub mod Runs
 pub mod Meetings
 pub mod Examples
+pub mod Determined

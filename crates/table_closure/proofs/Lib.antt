@@ -13,3 +13,4 @@ pub mod Least
 pub mod Laws
 pub mod Examples
 pub mod Standing
+pub mod Determined

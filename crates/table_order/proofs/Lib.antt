@@ -14,3 +14,4 @@ pub mod Sorts
 pub mod Calls
 pub mod Absences
 pub mod Bounds
+pub mod Determined

@@ -2,9 +2,10 @@
 use borrow.Author.Needs.{needs}
 use mathlib.Core.Path.{_≡_, refl, sym, ap, _∙_}
 use native.Mathlib.Omega.{arith}
+use Prim.Native.Nat.{ℕ, _+_, _*_}
 use Rattle.partition.specs.Partition.{Partition, parts}
 use Rattle.partition.proofs.Refusals.{block-ready}
-use Rattle.partition.proofs.Stretches.{iter-refused, iter-done}
+use Rattle.partition.proofs.Stretches.{iter-refused, iter-done, begin-refused, begin-done}
 use Rattle.partition_calls.proofs.BlockPartition.iter_block.Statement.{statement}
 use Rattle.partition_calls.proofs.BlockPartition.iter_block.Tie as tie
 
@@ -13,6 +14,10 @@ abbrev P : tie.Start → Partition
 P a =
     parts (a .args .elements .now) (a .args .element-offset .now) (a .args .element-to-block .now) (a .args .begin .now)
     (a .args .marked-split .now) (a .args .end .now) (a .args .self .n) (a .args .self .count)
+
+-- where cell k of the lent elements lies
+abbrev Place : tie.Start → ℕ → ℕ × ℕ
+Place a k = (a .args .elements .ptr .0, k * 2 + a .args .elements .ptr .1)
 
 cast-n : tie.Need-cast-n
 cast-n c = search needs
@@ -34,7 +39,9 @@ part-result-end c = search needs
 
 returns : tie.Need-returns
 returns c = let a = c .before .before .before .before .before .before .before .before .before .before .before in
-    iter-refused (P a) (a .args .block-index) _ (c .before .before .block-refusal .ensures) (c .before .if1 .taken)
+    let e = c .before .before .block-refusal .ensures in
+    let n = c .before .if1 .taken in
+    (iter-refused (P a) (a .args .block-index) _ e n, ap (Place a) (begin-refused (P a) (a .args .block-index) _ e n))
 
 at-requires : tie.Need-at-requires
 at-requires c κs = let a = c .before .before .before .before .before .before .before .before .before .before in
@@ -66,8 +73,12 @@ part-result-end-2 c = let a = c .before .before .before .before .before .before 
 
 returns-2 : tie.Need-returns-2
 returns-2 c = let a = c .before .before .before .before .before .before .before .before .before .before .before .before .before in
-    iter-done (P a) (a .args .block-index) _ (c .before .before .before .before .block-refusal .ensures)
-    (c .before .before .before .if1 .left) _ _ (c .before .before .at .ensures .0) (c .before .at2 .ensures .0)
+    let e = c .before .before .before .before .block-refusal .ensures in
+    let q = c .before .before .before .if1 .left in
+    let x = c .before .before .at .ensures .0 in (
+      iter-done (P a) (a .args .block-index) _ e q _ _ x (c .before .at2 .ensures .0),
+      ap (Place a) (begin-done (P a) (a .args .block-index) _ e q _ x),
+    )
 
 pub iter-block-spec : {M : Type 1} → statement M
 iter-block-spec =

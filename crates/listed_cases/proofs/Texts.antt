@@ -1,0 +1,38 @@
+-- What the test of a case says: the partition's text is the list of the listed text's bytes.
+use Prim.Native.Nat.{ℕ}
+use Prim.Native.String.{String}
+use mathlib.Core.Bool.{true}
+use mathlib.Core.List.{List, [], _∷_}
+use mathlib.Core.Path.{_≡_, refl}
+use lib.Dec.{eqb}
+use borrow.Author.Tests.{eqb-true}
+use Rattle.columns.specs.Answers.{Said, done, refused}
+use Rattle.columns.proofs.Bools.{contra, and-left, and-right}
+use Rattle.partition.specs.Partition.{Partition}
+use Rattle.partition_display.specs.Display.{displayText}
+use Rattle.listed_cases.specs.Cases.{leads}
+use Rattle.listed_cases.specs.Text.{bytes, sameb, reads}
+
+pub same : (l m : List ℕ) → sameb l m ≡ true → l ≡ m
+unfolding sameb
+same [] [] e = refl
+same [] (y ∷ m) e = absurd (contra e refl)
+same (x ∷ l) [] e = absurd (contra e refl)
+same (x ∷ l) (y ∷ m) e =
+    let p : x ≡ y = eqb-true x y (and-left (eqb x y) (sameb l m) e) in
+    let q : l ≡ m = same l m (and-right (eqb x y) (sameb l m) e) in
+    cc
+
+read : (l : List ℕ) (text : String) → reads l text ≡ true → l ≡ bytes text
+unfolding reads
+read l text e = same l (bytes text) e
+
+pub texts :
+    (p : Partition) (given : String) (s : Said) (q : Partition) (left : String) → leads p given s q left ≡ true →
+    (displayText p ≡ bytes given) × (displayText q ≡ bytes left)
+unfolding leads
+texts p given (done values) q left e =
+    let a = reads (displayText p) given in
+    let b = reads (displayText q) left in
+    (read (displayText p) given (and-left a b e), read (displayText q) left (and-right a b e))
+texts p given (refused number place) q left e = absurd (contra e refl)
