@@ -1,4 +1,5 @@
 // Where a case's parameters lie.
+use columns::limits::MAX_STATES;
 
 // The cells of all slices of u16 of a line, up to twenty of the longest; of all of u32; and of all of bytes.
 pub type Narrow = [u16; 1400000];
@@ -10,7 +11,7 @@ pub type Bytes = [u8; 140000];
 // The longest slice, and the longest list of records.
 pub const ROOM: usize = 70000;
 
-pub const RECORDS: u64 = 4096;
+pub const RECORDS: u64 = MAX_STATES as u64;
 
 // The places from 16 on are those of the slices that may change.
 pub const CHANGED: usize = 16;
