@@ -94,6 +94,23 @@ def pushed(path):
     return ('d', path), ('', 'signatures::flat::flatten')
 
 
+# One of the blocks, and the number of labels, which is tau_hat too.
+SOME = {'block_index': 'some', 'b': 'some'}
+ALPHABET = dict.fromkeys(('labels', 'label'), 'label_counts[state]')
+
+
+def reader(name):
+    """A call that reads a partition of many blocks. It has no core: once the check is made it reads a cell or two."""
+    return Line(name, 'public', one(f'partition_calls::readers::{name}'), partition='many', values=SOME, rust=name)
+
+
+def of_block(name):
+    """A call on one block, or one that makes it."""
+    fields = {field: f'records[some].{field}' for field in ('begin', 'end')}
+    return Line(f'Block::{name}', 'public', one(f'partition::block::{name}'), rust=f'Block::{name}',
+                values={'self': 'records[some]', **fields})
+
+
 ANEW = copy('now', 'one')
 DIVIDED = dict(partition='now', before=ANEW, reset='all columns copied')
 # Elements and offsets as they were, and where the marks begin.
@@ -102,10 +119,19 @@ UNCLOSED = copy('closing', 'last', SIX[:2]) + 'closing_marked_split[0] = (n - 1)
 UNMARKED = copy('closing', 'one', SIX[:2]) + 'closing_marked_split[0] = n as u16;\n'
 SORTED = present(one('signatures_sorted::core::branching_bisim_signature_sorted'),
                  (('taken', 'signatures_sorted::core::take'), ('', 'signatures_sorted::core::finish')))
+# The readers come before the lines that swap blocks, so that both sides read the same.
 LINES = (
     Line('all columns copied', 'reset', (), before=ANEW, counted='now_elements[0]', rust='all columns copied'),
     Line('two columns copied', 'reset', (), before=UNCLOSED, counted='closing_marked_split[0]',
          rust='two columns copied'),
+    *map(reader, ('num_of_blocks', 'len', 'block_number', 'is_element_marked', 'iter_block')),
+    *both('read_block', one('partition_calls::readers::read_block'), one('partition::core::read_block'),
+          partition='many', values=SOME),
+    *map(of_block, ('new', 'new_unmarked', 'len', 'len_marked', 'has_marked', 'has_unmarked')),
+    Line('Block::unmark_all', 'public', one('partition_records::unmarking::unmark_all'),
+         values={'block': 'records[some]'}, counted='records[some].marked_split', rust='Block::unmark_all'),
+    *(Line(name, 'public', one(f'signatures::tau_hat::{name}'), rust=name, values=ALPHABET)
+      for name in ('tau_hat', 'is_tau_hat')),
     *both('BlockPartition::new', one('partition_calls::changes::new'), one('partition::core::new'), partition='now',
           counted='now_end[0]'),
     Line('mark_element', 'public', one('partition_calls::changes::mark_element'), partition='closing',
@@ -119,7 +145,8 @@ LINES = (
     *both('partition_marked_with', one('partition_division::partition_marked_with'),
           one('partition_division::core::partition_marked_with'), values={'spare': 'spare[..n + 1]'}, **DIVIDED),
     *both('split_marked', one('partition_split::split_marked'), one('partition_split::core::split_marked'), **DIVIDED),
-    Line('display', 'public', one('partition_display::display'), partition='many', rust='display'),
+    *both('display', one('partition_display::display'), one('partition_display::writers::write_blocks'),
+          partition='many'),
     Line('outgoing_transitions', 'public', one('table::transitions::outgoing_transitions'),
          rust='outgoing_transitions'),
     Line('outgoing_transitions of each state', 'core', one('table::core::rows_of'), each=True,

@@ -13,6 +13,7 @@ ANSWERS = {
     'NumberAnswer': ('columns::answers', 'NumberOutcome', 'Done(k)', 'k'),
     'FlagAnswer': ('columns::answers', 'FlagOutcome', 'Done(k)', 'k as u64'),
     'PartitionAnswer': ('partition_calls', 'PartitionOutcome', 'Done(k)', 'k.count as u64 - 1'),
+    'BlockAnswer': ('partition::block', 'BlockOutcome', 'Done(k)', 'k.end as u64'),
     'StretchAnswer': ('table::transitions', 'StretchOutcome', 'Done { first, end }', 'end - first'),
     'DivisionAnswer': ('partition_division', 'DivisionOutcome', 'Done { index, first, count }',
                        'count + 0 * index + 0 * first'),
@@ -44,7 +45,9 @@ def counted(function, text, besides):
     if function.answer in ANSWERS:
         return f'sum += said_{function.answer.lower()}({text});\n'
     forms = {'': '{};\n', 'usize': 'sum += {} as u64;\n', 'bool': 'if {} {{ sum += 1; }}\n',
-             'Refusal': 'sum += {}.number;\n', 'Stretch': 'let rows = {};\nsum += (rows.end - rows.first) as u64;\n'}
+             'Refusal': 'sum += {}.number;\n', 'Stretch': 'let rows = {};\nsum += (rows.end - rows.first) as u64;\n',
+             "&'a [u16]": 'let part = {};\nsum += part.len() as u64;\n',
+             'Block': 'let block = {};\nsum += block.end as u64;\n'}
     if function.answer not in forms:
         needs.stop(f'tools/bench_program.py has no count for {function.answer}, the answer of {function.path}')
     return forms[function.answer].format(text)
@@ -136,10 +139,13 @@ fn main() {
     read_column(&mut buffer, &mut head);
     READING
     let table = Table { n: n as u16, labels: label_count as u16, m: m as u16, initial: 0 };
-    let mut records = [Block { begin: 0, marked_split: 0, end: 0 }; 4096];
+    let mut records = [Block { begin: 0, marked_split: 0, end: 0 }; 4200];
+    let mut label_counts = [0u16; 4200];
+    let some = state % many_count;
     let mut i = 0;
     while i < n {
         choice[i] = chosen[i] as u8;
+        label_counts[i] = label_count as u16;
         starts[i + 1] = (given / n * (i + 1)) as u32;
         records[i] = Block { begin: many_begin[i], marked_split: many_marked_split[i], end: many_end[i] };
         i += 1;
@@ -164,6 +170,8 @@ fn main() {
                 signed_elements[4199] = round as u16;
                 self_labels[8399] = round as u16;
                 many_elements[4199] = round as u16;
+                records[4199].begin = round as u16;
+                label_counts[4199] = round as u16;
                 round += 1;
             }
             let took = now_ns() - from;

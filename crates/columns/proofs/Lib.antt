@@ -1,7 +1,9 @@
 pub mod Saying
+pub mod Doing
 pub mod Determined
 pub mod Chains
 pub mod Bools
+pub mod Rooms
 pub mod All
 pub mod Orders
 pub mod Sets
@@ -19,6 +21,7 @@ pub mod Apart
 pub mod Stable
 pub mod Sums
 pub mod FlatMaps
+pub mod Maps
 pub mod Laid
 pub mod Counting
 pub mod Firsts
@@ -27,6 +30,7 @@ pub mod Swaps
 pub mod Inverses
 pub mod Numbering
 pub mod Members
+pub mod Laying
 pub mod Listing
 pub mod Owners
 pub mod ApartLists

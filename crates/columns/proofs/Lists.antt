@@ -217,6 +217,14 @@ module _ (n : ℕ) (f : ℕ → ℕ) (l : List ℕ) where
   unfolding written over
   front-written x h e = rw (e, length-take-le n l h, length-listed n f)
 
+-- a cell that the loop has not come to yet is as it was
+pub painted-rest : (f : ℕ → ℕ) (n : ℕ) (l : List ℕ) (i : ℕ) (x : List ℕ) → Painted f n l i x → getD x i 0 ≡ getD l i 0
+unfolding written over
+painted-rest f n l i x p =
+    ap (λ (y : List ℕ). getD y i 0) (p .1 .0)
+    ∙ sym (ap (λ (k : ℕ). getD (listed i f ++ drop k l) i 0) (length-listed i f))
+    ∙ written-after i f l i (omega arith)
+
 -- ---- cells that are all zero
 pub zeros-of : (l : List ℕ) → ((k : ℕ) → getD l k 0 ≡ 0) → l ≡ zeros (length l)
 zeros-of l h =

@@ -95,7 +95,7 @@ module _ (m : ℕ) (a b c : List ℕ) where
   take-picked = take-over (pickRows m a b c) (sortBy a b c (listed m (λ k. k)))
 
 -- the numbers picked in the first m cells of a column o, which came back as p
-pub record Lent (m r : ℕ) (a b c o p : List ℕ) : Type 0 where
+pub record RowsLent (m r : ℕ) (a b c o p : List ℕ) : Type 0 where
   pub count : r ≡ length (pickRows m a b c)
   pub few : r ≤ m
   pub wide : m ≤ length (p ++ drop m o)
@@ -105,7 +105,7 @@ pub record Lent (m r : ℕ) (a b c o p : List ℕ) : Type 0 where
 
 pub lent : (m r : ℕ) (a b c o p : List ℕ) → m ≤ length o → r ≡ length (pickRows (length (take m o)) a b c) →
     p ≡ picked (length (take m o)) a b c → length p ≡ length (take m o)
-    → Lent m r a b c o p
+    → RowsLent m r a b c o p
 lent m r a b c o p w e f n =
     let k : length (take m o) ≡ m = length-take-le m o w in
     let e′ : r ≡ length (pickRows m a b c) = e ∙ ap (λ (i : ℕ). length (pickRows i a b c)) k in

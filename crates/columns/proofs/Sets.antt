@@ -266,3 +266,14 @@ pairEq-eq x y h = λ i. (
 pub pairEq-refl : (x : Pair) → pairEq x x ≡ true
 unfolding pairEq
 pairEq-refl x = and-both (eq-eqb (x .0) (x .0) refl) (eq-eqb (x .1) (x .1) refl)
+
+-- tests and values that agree on a list collect the same set
+pub collect-alike :
+    {A R : Type 0} (lt : A → A → Bool) (p q : R → Bool) (f g : R → A) (l : List R)
+    → ((r : R) → Mem r l → (p r ≡ q r) × (f r ≡ g r)) → collect lt p f l ≡ collect lt q g l
+unfolding collect
+collect-alike lt p q f g [] h = refl
+collect-alike lt p q f g (r ∷ l) h =
+    let e = h r (List·Memᴰ·head refl) in
+    let m = collect-alike lt p q f g l (λ x k. h x (List·Memᴰ·tail k)) in
+    rw (e .0, e .1, m)

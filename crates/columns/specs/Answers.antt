@@ -1,4 +1,4 @@
--- What an answer says, in document 01's numbers, and the chain of refusals that leads to it.
+-- What an answer says, in document 01's numbers.
 use Prim.Native.Nat.{ℕ}
 use mathlib.Core.Bool.{Bool, true, false, cond}
 use mathlib.Core.List.{List, [], _∷_}
@@ -50,10 +50,6 @@ refusal number place = record { number = number; place = place }
 -- no refusal
 abbrev pub none : Refusal
 none = refusal 0 0
-
--- a test that must hold, the refusal where it fails, and what is tested next
-abbrev pub unless : Bool → Refusal → Refusal → Refusal
-unless holds r next = cond holds next r
 
 -- what a call says that asks and changes nothing
 unfoldable pub answering : Refusal → List ℕ → Said

@@ -1,6 +1,6 @@
 -- Columns of numbers as lists.
 use mathlib.Core.Bool.{Bool}
-use mathlib.Core.List.{List, [], _∷_, _++_}
+use mathlib.Core.List.{List, [], _∷_, _++_, map}
 use Prim.Native.Nat.{ℕ, zero, suc}
 use lib.ListN.{length, getD, set, drop, replicate}
 use Rattle.columns.specs.Sets.{Row, rowLt}
@@ -27,6 +27,10 @@ written n f l = over (listed n f) l
 
 abbrev pub zeros : ℕ → List ℕ
 zeros n = replicate n 0
+
+-- slices with every cell zero
+abbrev pub zeroed : List (List ℕ) → List (List ℕ)
+zeroed slices = map (λ l. zeros (length l)) slices
 
 -- the first n cells made zero
 unfoldable pub wiped : ℕ → List ℕ → List ℕ

@@ -10,3 +10,4 @@ pub mod Rows
 pub mod Number
 pub mod Lent
 pub mod Limits
+pub mod Due

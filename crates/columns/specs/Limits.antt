@@ -50,6 +50,10 @@ notDense = 10
 abbrev pub cyclic : ℕ
 cyclic = 11
 
+-- the search for a bottom state comes back to a state
+abbrev pub noBottom : ℕ
+noBottom = 12
+
 -- the lent partition or block not consistent
 abbrev pub inconsistent : ℕ
 inconsistent = 14

@@ -1,6 +1,8 @@
-// What every layer above uses and what knows no transition system: answers, columns of u16 numbers, and their one sort.
+// What every layer above uses and what knows no transition system: answers, the tests
+// that calls share, columns of u16 numbers, and their one sort.
 pub mod answers;
 pub mod cells;
+pub mod checks;
 pub mod limits;
 pub mod rows;
 pub mod sorting;

@@ -38,6 +38,9 @@ pub const NOT_DENSE: u64 = 10;
 // The accepted transitions hold a cycle longer than a self-loop.
 pub const CYCLIC: u64 = 11;
 
+// The search for a bottom state comes back to a state.
+pub const NO_BOTTOM: u64 = 12;
+
 // The lent partition or block is not consistent.
 pub const INCONSISTENT: u64 = 14;
 

@@ -10,7 +10,7 @@ use Rattle.columns.specs.Answers.{Said, done, refused}
 use Rattle.columns.proofs.Bools.{contra, and-left, and-right}
 use Rattle.partition.specs.Partition.{Partition}
 use Rattle.partition_display.specs.Display.{displayText}
-use Rattle.listed_cases.specs.Cases.{leads}
+use Rattle.listed_cases.specs.Cases.{becomes}
 use Rattle.listed_cases.specs.Text.{bytes, sameb, reads}
 
 pub same : (l m : List ℕ) → sameb l m ≡ true → l ≡ m
@@ -28,9 +28,9 @@ unfolding reads
 read l text e = same l (bytes text) e
 
 pub texts :
-    (p : Partition) (given : String) (s : Said) (q : Partition) (left : String) → leads p given s q left ≡ true →
+    (p : Partition) (given : String) (s : Said) (q : Partition) (left : String) → becomes p given s q left ≡ true →
     (displayText p ≡ bytes given) × (displayText q ≡ bytes left)
-unfolding leads
+unfolding becomes
 texts p given (done values) q left e =
     let a = reads (displayText p) given in
     let b = reads (displayText q) left in

@@ -38,13 +38,13 @@ examples = refl
 -- three lists, the second empty; no list; all starts at the end; pairs before the first list and behind the last, which
 -- are not read. Then 15: a start that falls; one past the end, before a pair that is bad; a pair equal to the one before
 pub given-lists :
-    (listsRefusal (0 ∷ 2 ∷ 2 ∷ 3 ∷ []) 3 (1 ∷ 2 ∷ 0 ∷ []) (0 ∷ 0 ∷ 5 ∷ []) none
-    ∷ listsRefusal (1 ∷ []) 0 (1 ∷ 0 ∷ []) (0 ∷ 0 ∷ []) none
-    ∷ listsRefusal (2 ∷ 2 ∷ 2 ∷ []) 2 (1 ∷ 0 ∷ []) (0 ∷ 0 ∷ []) none
-    ∷ listsRefusal (2 ∷ 3 ∷ []) 1 (1 ∷ 0 ∷ 0 ∷ 0 ∷ []) (0 ∷ 0 ∷ 0 ∷ 0 ∷ []) none
-    ∷ listsRefusal (0 ∷ 2 ∷ 1 ∷ []) 2 (1 ∷ 0 ∷ []) (0 ∷ 0 ∷ []) none
-    ∷ listsRefusal (0 ∷ 2 ∷ 3 ∷ []) 2 (1 ∷ 0 ∷ 5 ∷ []) (0 ∷ 0 ∷ []) none
-    ∷ listsRefusal (0 ∷ 1 ∷ 3 ∷ []) 2 (1 ∷ 1 ∷ 1 ∷ []) (0 ∷ 0 ∷ 0 ∷ []) none
+    (listsRefusal (0 ∷ 2 ∷ 2 ∷ 3 ∷ []) 3 (1 ∷ 2 ∷ 0 ∷ []) (0 ∷ 0 ∷ 5 ∷ [])
+    ∷ listsRefusal (1 ∷ []) 0 (1 ∷ 0 ∷ []) (0 ∷ 0 ∷ [])
+    ∷ listsRefusal (2 ∷ 2 ∷ 2 ∷ []) 2 (1 ∷ 0 ∷ []) (0 ∷ 0 ∷ [])
+    ∷ listsRefusal (2 ∷ 3 ∷ []) 1 (1 ∷ 0 ∷ 0 ∷ 0 ∷ []) (0 ∷ 0 ∷ 0 ∷ 0 ∷ [])
+    ∷ listsRefusal (0 ∷ 2 ∷ 1 ∷ []) 2 (1 ∷ 0 ∷ []) (0 ∷ 0 ∷ [])
+    ∷ listsRefusal (0 ∷ 2 ∷ 3 ∷ []) 2 (1 ∷ 0 ∷ 5 ∷ []) (0 ∷ 0 ∷ [])
+    ∷ listsRefusal (0 ∷ 1 ∷ 3 ∷ []) 2 (1 ∷ 1 ∷ 1 ∷ []) (0 ∷ 0 ∷ 0 ∷ [])
     ∷ [])
     ≡ (none ∷ none ∷ none ∷ none ∷ refusal wrongList 2 ∷ refusal wrongList 2 ∷ refusal wrongList 2 ∷ [])
 unfolding listsRefusal

@@ -2,26 +2,27 @@
 use Prim.Native.Nat.{ℕ, zero, suc, _+_, _-_, _≤_, _<_}
 use native.Mathlib.Omega.{arith}
 use native.Mathlib.Nat.{eq-or-lt-of-le}
-use borrow.Author.Tests.{ltb-true, lt-ltb, le-ltb}
+use borrow.Author.Tests.{ltb-true, lt-ltb, le-ltb, le-leb, lt-leb}
 use mathlib.Core.Bool.{Bool, true, false, _&&_}
-use mathlib.Core.Path.{_≡_, ap, ap₂, sym, _∙_}
+use mathlib.Core.Path.{_≡_, refl, ap, ap₂, sym, _∙_}
 use mathlib.Core.Logic.{⊎-elim}
-use mathlib.Core.List.{List}
-use lib.Dec.{ltb}
+use mathlib.Core.List.{List, [], _∷_}
+use lib.Dec.{ltb, leb}
 use Rattle.columns.specs.Limits.{wrongList}
-use Rattle.columns.specs.declared.answers.Refusal.{Refusal}
 use Rattle.columns.specs.Answers.{refusal, none}
 use Rattle.columns.specs.Counting.{first}
+use Rattle.columns.specs.Due.{test, due}
 use Rattle.columns.specs.Sets.{Pair, pairLt, Ascending}
 use Rattle.columns.proofs.All.{top-or-below, lt-or-le, not-below}
 use Rattle.columns.proofs.Bools.{contra, fails, cases, and-both, and-no-left, and-no-right, or-left, or-right}
+use Rattle.columns.proofs.Chains.{Holds, none-due, goes-on}
 use Rattle.columns.proofs.Counting.{first-law}
 use Rattle.columns.proofs.Firsts.{NoneBelow, first-hit, first-none, none-of, some-in, some-none}
 use Rattle.columns.proofs.Orders.{pair-order}
 use Rattle.columns.proofs.Risings.{rising-of, ascending-of, of-ascending}
-use Rattle.pairs.specs.Pairs.{endOf, pairAt, badPair, badAt, leastBad}
-use Rattle.pairs.specs.Lists.{startAt, listAt, badStart, badInLists, listsRefusal, Starts, Lists}
-use Rattle.pairs.proofs.Refusals.{least-of, least-on, bad-below, bad-past, pair-before, pair-above, above-pair}
+use Rattle.pairs.specs.Pairs.{endOf, pairAt, badPair, leastTest}
+use Rattle.pairs.specs.Lists.{startAt, listAt, badStart, badInLists, listsTests, listsRefusal, Starts, Lists}
+use Rattle.pairs.proofs.Refusals.{least-of, of-least, pair-before, pair-above, above-pair}
 
 -- ---- starts
 module _ (starts : List ℕ) (end : ℕ) where
@@ -173,42 +174,40 @@ module _ (starts : List ℕ) (n : ℕ) (labels blocks : List ℕ) where
       fails (λ e. contra (some-in n (badIn starts labels blocks j) u h (and-both (lt-ltb j (startAt starts (u + 1)) l) e))
       (r j (omega (arith, l, s .inside (u + 1) (omega arith)))))
 
-  pub lists-of : (next : Refusal) → listsRefusal starts n labels blocks next .number ≡ 0 → Lists starts n labels blocks × (next .number ≡ 0)
-  unfolding listsRefusal
-  lists-of next z =
-      let p = least-of (n + 1) (badStart starts (endOf labels blocks))
-      (leastBad (endOf labels blocks) (badInLists starts n labels blocks) next) z in
-      let q = least-of (endOf labels blocks) (badInLists starts n labels blocks) next (p .1) in
-      let s = starts-of starts (endOf labels blocks) n (p .0) in
-      (record { bounds = s; ascending = λ u h. ascends-of starts labels blocks u (clean-of s (q .0) u h) }, q .1)
+  pub lists-of : Holds (listsTests starts n labels blocks) → Lists starts n labels blocks
+  lists-of h =
+      let s = starts-of starts (endOf labels blocks) n (least-of (n + 1) (badStart starts (endOf labels blocks)) (h .0)) in
+      let r = least-of (endOf labels blocks) (badInLists starts n labels blocks) (h .1 .0) in
+      record { bounds = s; ascending = λ u w. ascends-of starts labels blocks u (clean-of s r u w) }
 
-  pub lists-on : (next : Refusal) → Lists starts n labels blocks → listsRefusal starts n labels blocks next ≡ next
-  unfolding listsRefusal
-  lists-on next l =
-      least-on (n + 1) (badStart starts (endOf labels blocks)) (leastBad (endOf labels blocks) (badInLists starts n labels blocks) next)
-      (of-starts starts (endOf labels blocks) n (l .bounds))
-      ∙ least-on (endOf labels blocks) (badInLists starts n labels blocks) next
-      (clean-lists starts labels blocks n (endOf labels blocks) (λ u h. of-ascends starts labels blocks u (l .ascending u h)))
+  pub of-lists : Lists starts n labels blocks → Holds (listsTests starts n labels blocks)
+  of-lists l = (
+    of-least (n + 1) (badStart starts (endOf labels blocks)) (of-starts starts (endOf labels blocks) n (l .bounds)),
+    (
+      of-least (endOf labels blocks) (badInLists starts n labels blocks)
+          (clean-lists starts labels blocks n (endOf labels blocks) (λ u h. of-ascends starts labels blocks u (l .ascending u h))),
+      tt,
+    ),
+  )
 
   -- ---- the two places of a refusal, as they are found
   module _ (end bad : ℕ) (ends : end ≡ endOf labels blocks) (found : bad ≡ first (n + 1) (badStart starts end)) where
     found-in : bad ≡ first (n + 1) (badStart starts (endOf labels blocks))
     found-in = found ∙ ap (λ (e : ℕ). first (n + 1) (badStart starts e)) ends
 
-    pub bad-start-found : (next : Refusal) → bad ≤ n → refusal wrongList bad ≡ listsRefusal starts n labels blocks next
-    unfolding listsRefusal leastBad
-    bad-start-found next h =
-        bad-below (n + 1) bad (leastBad (endOf labels blocks) (badInLists starts n labels blocks) next) (omega arith)
-        ∙ ap (λ (i : ℕ). badAt (n + 1) i (leastBad (endOf labels blocks) (badInLists starts n labels blocks) next)) found-in
+    pub bad-start-found : bad ≤ n → refusal wrongList bad ≡ listsRefusal starts n labels blocks
+    unfolding listsRefusal due
+    bad-start-found h = rw (← found-in, lt-leb (n + 1) bad (omega arith))
 
     pub starts-found : n < bad → Starts starts n end
     starts-found h = starts-of starts end n (none-of (n + 1) (badStart starts end) (omega (arith, found)))
 
-    pub bad-pair-found : (i : ℕ) (next : Refusal) → n < bad → i ≡ first end (badInLists starts n labels blocks) →
-        badAt end i next ≡ listsRefusal starts n labels blocks next
-    unfolding listsRefusal leastBad
-    bad-pair-found i next h e =
-        ap (λ (k : ℕ). badAt end k next) e
-        ∙ (ap (λ (k : ℕ). leastBad k (badInLists starts n labels blocks) next) ends
-        ∙ (bad-past (n + 1) bad (leastBad (endOf labels blocks) (badInLists starts n labels blocks) next) (omega arith)
-        ∙ ap (λ (k : ℕ). badAt (n + 1) k (leastBad (endOf labels blocks) (badInLists starts n labels blocks) next)) found-in))
+    pub bad-pair-found : (i : ℕ) → n < bad → i ≡ first end (badInLists starts n labels blocks)
+        → due (test (leb end i) wrongList i ∷ []) ≡ listsRefusal starts n labels blocks
+    unfolding listsRefusal
+    bad-pair-found i h e =
+        let first-test = leastTest (n + 1) (badStart starts (endOf labels blocks)) in
+        ap (λ (k : ℕ). due (test (leb end k) wrongList k ∷ [])) e
+        ∙ ap (λ (k : ℕ). due (leastTest k (badInLists starts n labels blocks) ∷ [])) ends
+        ∙ goes-on (first-test ∷ []) (leastTest (endOf labels blocks) (badInLists starts n labels blocks) ∷ []) refl none
+        (sym (none-due (first-test ∷ []) (le-leb (n + 1) _ (omega (arith, found-in)), tt))) refl

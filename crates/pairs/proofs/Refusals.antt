@@ -1,22 +1,20 @@
--- Laws of 15: what holds once a list of pairs is not refused, and how a chain goes on.
+-- Laws of 15: what holds once a list of pairs is not refused.
 use Prim.Native.Nat.{ℕ, zero, suc, _-_, _≤_, _<_}
 use native.Mathlib.Omega.{arith}
-use borrow.Author.Tests.{ltb-true, ltb-false, leb-true, lt-ltb, le-ltb, le-leb, lt-leb, not-false}
+use borrow.Author.Tests.{ltb-true, ltb-false, leb-true, lt-ltb, le-ltb, le-leb, not-false}
 use mathlib.Core.Bool.{Bool, true, false, not, cond}
 use mathlib.Core.Path.{_≡_, refl, ap, sym, _∙_}
-use mathlib.Core.List.{List}
+use mathlib.Core.List.{List, [], _∷_}
 use lib.Dec.{ltb, leb}
-use Rattle.columns.specs.Limits.{wrongList}
-use Rattle.columns.specs.declared.answers.Refusal.{Refusal}
-use Rattle.columns.specs.Answers.{refusal, none, unless}
 use Rattle.columns.specs.Counting.{first}
 use Rattle.columns.specs.Rows.{pairsOf}
 use Rattle.columns.specs.Sets.{pairLt, Ascending}
 use Rattle.columns.proofs.Bools.{and-no-left, and-no-right}
+use Rattle.columns.proofs.Chains.{Holds}
 use Rattle.columns.proofs.Firsts.{NoneBelow, first-none, none-of}
 use Rattle.columns.proofs.Orders.{pair-order}
 use Rattle.columns.proofs.Risings.{rising-of, ascending-of, of-ascending}
-use Rattle.pairs.specs.Pairs.{shorter, endOf, pairAt, pairs, badPair, badAt, leastBad, listRefusal}
+use Rattle.pairs.specs.Pairs.{shorter, endOf, pairAt, pairs, badPair, listTest}
 
 pub shorter-left : (a b : ℕ) → shorter a b ≤ a
 unfolding shorter
@@ -34,47 +32,13 @@ shorter-right a b = go (ltb a b) refl
     go true e = let h = ltb-true a b e in omega arith
     go false e = omega arith
 
--- ---- 15 at an index
-module _ (n i : ℕ) where
-  pub bad-below : (next : Refusal) → i < n → refusal wrongList i ≡ badAt n i next
-  unfolding badAt
-  bad-below next h = rw (lt-leb n i h)
-
-  pub bad-past : (next : Refusal) → n ≤ i → next ≡ badAt n i next
-  unfolding badAt
-  bad-past next h = rw (le-leb n i h)
-
-  -- no refusal: neither here nor in what is tested next
-  pub bad-zero : (next : Refusal) → badAt n i next .number ≡ 0 → (n ≤ i) × (next .number ≡ 0)
-  unfolding badAt
-  bad-zero next z = go (leb n i) refl z
-    where
-      go : (t : Bool) → leb n i ≡ t → unless t (refusal wrongList i) next .number ≡ 0 → (n ≤ i) × (next .number ≡ 0)
-      go true e z = (leb-true n i e, z)
-      go false e z = absurd (omega (arith, z))
-
-  -- a refusal here is the same whatever is tested next
-  pub bad-same : (next : Refusal) → (badAt n i none .number ≡ 0 → ⊥) → badAt n i none ≡ badAt n i next
-  unfolding badAt
-  bad-same next z = go (leb n i) z
-    where
-      go : (t : Bool) → (unless t (refusal wrongList i) none .number ≡ 0 → ⊥) →
-          unless t (refusal wrongList i) none ≡ unless t (refusal wrongList i) next
-      go true z = absurd (z refl)
-      go false z = refl
-
+-- ---- 15 at the least index that is bad
 module _ (n : ℕ) (bad : ℕ → Bool) where
-  pub least-of : (next : Refusal) → leastBad n bad next .number ≡ 0 → NoneBelow bad n × (next .number ≡ 0)
-  unfolding leastBad
-  least-of next z = let p = bad-zero n (first n bad) next z in (none-of n bad (p .0), p .1)
+  pub least-of : leb n (first n bad) ≡ true → NoneBelow bad n
+  least-of t = none-of n bad (leb-true n (first n bad) t)
 
-  pub least-on : (next : Refusal) → NoneBelow bad n → leastBad n bad next ≡ next
-  unfolding leastBad
-  least-on next r = sym (bad-past n (first n bad) next (omega (arith, first-none n bad r)))
-
-  pub least-out : (next q : Refusal) → q ≡ leastBad n bad none → (q .number ≡ 0 → ⊥) → q ≡ leastBad n bad next
-  unfolding leastBad
-  least-out next q e z = e ∙ bad-same n (first n bad) next (λ y. z (ap (λ (r : Refusal). r .number) e ∙ y))
+  pub of-least : NoneBelow bad n → leb n (first n bad) ≡ true
+  of-least r = le-leb n (first n bad) (omega (arith, first-none n bad r))
 
 -- ---- pairs
 back : (j : ℕ) → suc j - 1 ≡ j
@@ -103,29 +67,18 @@ module _ (labels blocks : List ℕ) where
       and-no-right (ltb x (suc j)) (not (pairLt (pairAt labels blocks (suc j - 1)) (pairAt labels blocks (suc j))))
       (ap (λ (k : ℕ). not (pairLt (pairAt labels blocks k) (pairAt labels blocks (suc j)))) (back j) ∙ ap not e)
 
-  pub list-of : (next : Refusal) → listRefusal labels blocks next .number ≡ 0 → Ascending pairLt (pairs labels blocks) × (next .number ≡ 0)
-  unfolding listRefusal pairsOf pairAt
-  list-of next z =
-      let p = least-of (endOf labels blocks) (badPair labels blocks 0) next z in (
-        ascending-of pairLt (endOf labels blocks) (pairAt labels blocks)
-            (rising-of pairLt pair-order (endOf labels blocks) (pairAt labels blocks)
-            (λ j h. pair-above 0 j (omega arith) (p .0 (suc j) h))),
-        p .1,
-      )
+  pub list-of : Holds (listTest labels blocks ∷ []) → Ascending pairLt (pairs labels blocks)
+  unfolding pairsOf pairAt
+  list-of h =
+      let p = least-of (endOf labels blocks) (badPair labels blocks 0) (h .0) in
+      ascending-of pairLt (endOf labels blocks) (pairAt labels blocks)
+      (rising-of pairLt pair-order (endOf labels blocks) (pairAt labels blocks)
+      (λ j w. pair-above 0 j (omega arith) (p (suc j) w)))
 
   list-none : Ascending pairLt (pairs labels blocks) → NoneBelow (badPair labels blocks 0) (endOf labels blocks)
   unfolding pairsOf pairAt
   list-none a zero h = pair-before 0 0 (omega arith)
   list-none a (suc j) h = above-pair 0 j (of-ascending pairLt (endOf labels blocks) (pairAt labels blocks) a j (suc j) (omega arith) h)
 
-  pub list-on : (next : Refusal) → Ascending pairLt (pairs labels blocks) → listRefusal labels blocks next ≡ next
-  unfolding listRefusal
-  list-on next a = least-on (endOf labels blocks) (badPair labels blocks 0) next (list-none a)
-
-  pub list-out : (next q : Refusal) → q ≡ listRefusal labels blocks none → (q .number ≡ 0 → ⊥) → q ≡ listRefusal labels blocks next
-  unfolding listRefusal
-  list-out next q e z = least-out (endOf labels blocks) (badPair labels blocks 0) next q e z
-
-  -- once the list is not refused, the chain goes on
-  pub list-next : (next q : Refusal) → q ≡ listRefusal labels blocks none → q .number ≡ 0 → listRefusal labels blocks next ≡ next
-  list-next next q e z = list-on next (list-of none (sym (ap (λ (r : Refusal). r .number) e) ∙ z) .0)
+  pub of-list : Ascending pairLt (pairs labels blocks) → Holds (listTest labels blocks ∷ [])
+  of-list a = (of-least (endOf labels blocks) (badPair labels blocks 0) (list-none a), tt)

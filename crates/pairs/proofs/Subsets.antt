@@ -2,21 +2,23 @@
 use Prim.Native.Nat.{ℕ, _<_}
 use native.Mathlib.Omega.{arith}
 use mathlib.Core.Bool.{Bool, true, _||_}
-use mathlib.Core.Path.{_≡_, ap, sym, _∙_, subst}
+use mathlib.Core.Path.{_≡_, refl, ap, sym, _∙_, subst}
 use mathlib.Core.Logic.{_⊎_, inl, inr, _↔_}
-use mathlib.Core.List.{List}
+use mathlib.Core.List.{List, [], _∷_, _++_}
 use Rattle.columns.specs.Answers.{none}
+use Rattle.columns.specs.Due.{Test}
 use Rattle.columns.specs.Rows.{pairsOf}
 use Rattle.columns.specs.Sets.{Mem, Pair, pairLt, pairEq, Ascending}
 use Rattle.columns.specs.Tests.{all}
 use Rattle.columns.proofs.All.{all-at, all-of}
 use Rattle.columns.proofs.Bools.{or-split, or-left, or-right}
+use Rattle.columns.proofs.Chains.{passed-both, holds-both, none-due}
 use Rattle.columns.proofs.Firsts.{some-in, some-out}
 use Rattle.columns.proofs.Risings.{Rising, of-ascending, listed-in, listed-out}
 use Rattle.columns.proofs.Sets.{pairEq-eq, pairEq-refl}
-use Rattle.pairs.specs.Pairs.{endOf, pairAt, pairs, listRefusal}
+use Rattle.pairs.specs.Pairs.{endOf, pairAt, pairs, listTest}
 use Rattle.pairs.specs.Subset.{amongPairs, subsetb, subsetRefusal}
-use Rattle.pairs.proofs.Refusals.{list-of, list-on}
+use Rattle.pairs.proofs.Refusals.{list-of, of-list}
 use Rattle.pairs.proofs.Walking.{kept}
 
 module _ (labels blocks : List ℕ) where
@@ -44,17 +46,24 @@ module _ (labels blocks : List ℕ) where
 
 -- a call is not refused exactly if both lists ascend
 module _ (selfLabels selfBlocks otherLabels otherBlocks : List ℕ) where
+  abbrev self : List Test
+  self = listTest selfLabels selfBlocks ∷ []
+
+  abbrev other : List Test
+  other = listTest otherLabels otherBlocks ∷ []
+
   pub checked-of : subsetRefusal selfLabels selfBlocks otherLabels otherBlocks .number ≡ 0
       → Ascending pairLt (pairs selfLabels selfBlocks) × Ascending pairLt (pairs otherLabels otherBlocks)
   unfolding subsetRefusal
   checked-of z =
-      let p = list-of selfLabels selfBlocks (listRefusal otherLabels otherBlocks none) z in
-      (p .0, list-of otherLabels otherBlocks none (p .1) .0)
+      let h = passed-both self other refl (subsetRefusal selfLabels selfBlocks otherLabels otherBlocks) refl z in
+      (list-of selfLabels selfBlocks (h .0), list-of otherLabels otherBlocks (h .1))
 
   pub of-checked : Ascending pairLt (pairs selfLabels selfBlocks) → Ascending pairLt (pairs otherLabels otherBlocks)
       → subsetRefusal selfLabels selfBlocks otherLabels otherBlocks ≡ none
   unfolding subsetRefusal
-  of-checked a b = list-on selfLabels selfBlocks (listRefusal otherLabels otherBlocks none) a ∙ list-on otherLabels otherBlocks none b
+  of-checked a b =
+      none-due (self ++ other) (holds-both self other (of-list selfLabels selfBlocks a) (of-list otherLabels otherBlocks b))
 
 module _ (selfLabels selfBlocks otherLabels otherBlocks : List ℕ) (x : Pair) where
   -- what the walk decides, with its ends counted

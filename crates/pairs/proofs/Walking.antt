@@ -65,23 +65,23 @@ abbrev pub kept : ℕ → (ℕ → Pair) → (ℕ → Pair) → Pair → ℕ →
 kept n f g x j = pairEq (g j) x || some n (λ i. pairEq (f i) (g j))
 
 -- i of f and j of g are passed
-pub record Walk (n m : ℕ) (f g : ℕ → Pair) (x : Pair) (i j : ℕ) : Type 0 where
+pub record SubsetWalk (n m : ℕ) (f g : ℕ → Pair) (x : Pair) (i j : ℕ) : Type 0 where
   pub low : i ≤ n
   pub high : j ≤ m
   pub so-far : all j (kept n f g x) ≡ true
   pub passed : (k l : ℕ) → k < i → j ≤ l → l < m → pairLt (f k) (g l) ≡ true
 
 module _ (n m : ℕ) (f g : ℕ → Pair) (x : Pair) where
-  pub walk-start : Walk n m f g x 0 0
+  pub walk-start : SubsetWalk n m f g x 0 0
   walk-start =
       record { low = omega arith; high = omega arith; so-far = all-none (kept n f g x); passed = λ k l h w v. absurd (omega (arith, h)) }
 
-  pub walk-end : (i j : ℕ) → Walk n m f g x i j → m ≤ j → true ≡ all m (kept n f g x)
+  pub walk-end : (i j : ℕ) → SubsetWalk n m f g x i j → m ≤ j → true ≡ all m (kept n f g x)
   walk-end i j w h = all-done (kept n f g x) j m (w .so-far) (omega (arith, w .high))
 
-  module _ (i j : ℕ) (w : Walk n m f g x i j) (h : j < m) where
+  module _ (i j : ℕ) (w : SubsetWalk n m f g x i j) (h : j < m) where
     -- the excluded pair is skipped
-    pub walk-skip : pairEq (g j) x ≡ true → Walk n m f g x i (j + 1)
+    pub walk-skip : pairEq (g j) x ≡ true → SubsetWalk n m f g x i (j + 1)
     walk-skip e = record {
       low = w .low;
       high = omega arith;
@@ -94,7 +94,7 @@ module _ (n m : ℕ) (f g : ℕ → Pair) (x : Pair) where
       before : (k : ℕ) → k < i → pairLt (f k) (g j) ≡ true
       before k a = w .passed k j a (omega arith) h
 
-      pub walk-found : Rising pairLt m g → (ltb r n && pairEq (f r) (g j)) ≡ true → Walk n m f g x (r + 1) (j + 1)
+      pub walk-found : Rising pairLt m g → (ltb r n && pairEq (f r) (g j)) ≡ true → SubsetWalk n m f g x (r + 1) (j + 1)
       walk-found up e =
           let l : r < n = ltb-true r n (and-left (ltb r n) (pairEq (f r) (g j)) e) in
           let b = and-right (ltb r n) (pairEq (f r) (g j)) e in

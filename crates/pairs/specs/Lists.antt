@@ -1,14 +1,15 @@
 -- Lists of pairs that lie flat in two columns, with n + 1 starts: list u is the pairs from start u to before start u + 1.
 use Prim.Native.Nat.{ℕ, _+_, _-_, _≤_, _<_}
 use mathlib.Core.Bool.{Bool, _&&_, _||_}
-use mathlib.Core.List.{List}
+use mathlib.Core.List.{List, [], _∷_}
 use lib.Dec.{ltb}
 use lib.ListN.{getD}
 use Rattle.columns.specs.declared.answers.Refusal.{Refusal}
 use Rattle.columns.specs.Columns.{listed}
-use Rattle.columns.specs.Counting.{some}
+use Rattle.columns.specs.Counting.{first, some}
+use Rattle.columns.specs.Due.{Test, due}
 use Rattle.columns.specs.Sets.{Pair, pairLt, Ascending}
-use Rattle.pairs.specs.Pairs.{shorter, endOf, pairAt, badPair, leastBad}
+use Rattle.pairs.specs.Pairs.{shorter, endOf, pairAt, badPair, leastTest}
 
 abbrev pub startAt : List ℕ → ℕ → ℕ
 startAt starts u = getD starts u 0
@@ -30,11 +31,13 @@ badInLists starts n labels blocks j =
     some n (λ u. ltb j (startAt starts (u + 1)) && badPair labels blocks (startAt starts u) j)
 
 -- 15 at the first bad start, else at the first bad pair
-unfoldable pub listsRefusal : List ℕ → ℕ → List ℕ → List ℕ → Refusal → Refusal
-unfolding leastBad shorter badStart badInLists
-listsRefusal starts n labels blocks next =
-    leastBad (n + 1) (badStart starts (endOf labels blocks))
-    (leastBad (endOf labels blocks) (badInLists starts n labels blocks) next)
+abbrev pub listsTests : List ℕ → ℕ → List ℕ → List ℕ → List Test
+listsTests starts n labels blocks =
+    leastTest (n + 1) (badStart starts (endOf labels blocks)) ∷ leastTest (endOf labels blocks) (badInLists starts n labels blocks) ∷ []
+
+unfoldable pub listsRefusal : List ℕ → ℕ → List ℕ → List ℕ → Refusal
+unfolding due first shorter badStart badInLists
+listsRefusal starts n labels blocks = due (listsTests starts n labels blocks)
 
 -- the starts never fall, and none is past the end
 pub record Starts (starts : List ℕ) (n end : ℕ) : Type 0 where

@@ -5,9 +5,8 @@ use mathlib.Core.List.{List}
 use lib.Dec.{ltb, leb}
 use lib.ListN.{length, getD}
 use Rattle.columns.specs.Limits.{wrongList}
-use Rattle.columns.specs.declared.answers.Refusal.{Refusal}
-use Rattle.columns.specs.Answers.{refusal, unless}
 use Rattle.columns.specs.Counting.{first}
+use Rattle.columns.specs.Due.{Test, test}
 use Rattle.columns.specs.Rows.{pairsOf}
 use Rattle.columns.specs.Sets.{Pair, pairLt}
 
@@ -32,16 +31,10 @@ unfoldable pub badPair : List ℕ → List ℕ → ℕ → ℕ → Bool
 unfolding pairLt pairAt
 badPair labels blocks x j = ltb x j && not (pairLt (pairAt labels blocks (j - 1)) (pairAt labels blocks j))
 
--- 15 at index i if it is below n; else what is tested next
-unfoldable pub badAt : ℕ → ℕ → Refusal → Refusal
-badAt n i next = unless (leb n i) (refusal wrongList i) next
-
--- 15 at the least index below n that is bad; else what is tested next
-unfoldable pub leastBad : ℕ → (ℕ → Bool) → Refusal → Refusal
-unfolding badAt first
-leastBad n bad next = badAt n (first n bad) next
+-- 15 at the least index below n that is bad
+abbrev pub leastTest : ℕ → (ℕ → Bool) → Test
+leastTest n bad = test (leb n (first n bad)) wrongList (first n bad)
 
 -- 15 at the first pair that is not above the one before
-unfoldable pub listRefusal : List ℕ → List ℕ → Refusal → Refusal
-unfolding shorter leastBad badPair
-listRefusal labels blocks next = leastBad (endOf labels blocks) (badPair labels blocks 0) next
+abbrev pub listTest : List ℕ → List ℕ → Test
+listTest labels blocks = leastTest (endOf labels blocks) (badPair labels blocks 0)

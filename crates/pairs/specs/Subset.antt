@@ -4,11 +4,12 @@ use mathlib.Core.Bool.{Bool, not, _&&_, _||_}
 use mathlib.Core.List.{List, [], _∷_}
 use lib.Dec.{ltb, leb}
 use Rattle.columns.specs.declared.answers.Refusal.{Refusal}
-use Rattle.columns.specs.Answers.{Said, none, bit, answering}
+use Rattle.columns.specs.Answers.{Said, bit, answering}
 use Rattle.columns.specs.Counting.{first, some}
+use Rattle.columns.specs.Due.{due}
 use Rattle.columns.specs.Sets.{Pair, pairLt, pairEq}
 use Rattle.columns.specs.Tests.{all}
-use Rattle.pairs.specs.Pairs.{shorter, endOf, pairAt, listRefusal}
+use Rattle.pairs.specs.Pairs.{shorter, endOf, pairAt, badPair, listTest}
 
 -- a pair is in a list
 unfoldable pub amongPairs : List ℕ → List ℕ → Pair → Bool
@@ -29,9 +30,9 @@ notBelow labels blocks n i x = first n (λ k. leb i k && not (pairLt (pairAt lab
 
 -- 15, for self first
 unfoldable pub subsetRefusal : List ℕ → List ℕ → List ℕ → List ℕ → Refusal
-unfolding listRefusal
+unfolding due first shorter badPair
 subsetRefusal selfLabels selfBlocks otherLabels otherBlocks =
-    listRefusal selfLabels selfBlocks (listRefusal otherLabels otherBlocks none)
+    due (listTest selfLabels selfBlocks ∷ listTest otherLabels otherBlocks ∷ [])
 
 unfoldable pub isSubsetOf : List ℕ → List ℕ → List ℕ → List ℕ → Pair → Said
 unfolding answering subsetRefusal subsetb

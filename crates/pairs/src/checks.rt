@@ -1,21 +1,24 @@
 // 15 for the lists of pairs that a call is lent.
 ghost use mathlib.Core.Path.{_≡_};
-ghost use Rattle.columns.specs.Answers.{none};
-ghost use Rattle.pairs.specs.Pairs.{listRefusal};
+ghost use mathlib.Core.List.{[], _∷_};
+ghost use Rattle.columns.specs.Due.{due};
+ghost use Rattle.pairs.specs.Pairs.{listTest};
 ghost use Rattle.pairs.specs.Subset.{subsetRefusal};
 ghost use Rattle.columns.specs.Lent.{was};
-use crate::pairs::bad_at;
 use crate::pairs::first_bad;
 use crate::pairs::shorter;
 use columns::answers::Refusal;
+use columns::checks::or_else;
+use columns::checks::refuse_unless;
+use columns::limits::WRONG_LIST;
 
 // 15 at the first pair that is not above the one before.
 fn list_refusal(labels: &[u16], blocks: &[u16]) -> Refusal
-    ensures { λ r. ⌜ r ≡ listRefusal (was labels) (was blocks) none ⌝ }
+    ensures { λ r. ⌜ r ≡ due (listTest (was labels) (was blocks) ∷ []) ⌝ }
 {
     let end = shorter(labels.len(), blocks.len());
     let bad = first_bad(labels, blocks, 0, end);
-    bad_at(end, bad)
+    refuse_unless(end <= bad, WRONG_LIST, bad as u64)
 }
 
 // 15, for self first.
@@ -27,10 +30,8 @@ pub fn subset_refusal(
 ) -> Refusal
     ensures { λ r. ⌜ r ≡ subsetRefusal (was «self_labels») (was «self_blocks») (was «other_labels») (was «other_blocks») ⌝ }
 {
-    let t = list_refusal(self_labels, self_blocks);
-    let number = t.number;
-    if number != 0 {
-        return t;
-    }
-    list_refusal(other_labels, other_blocks)
+    or_else(
+        list_refusal(self_labels, self_blocks),
+        list_refusal(other_labels, other_blocks),
+    )
 }

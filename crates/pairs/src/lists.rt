@@ -3,17 +3,16 @@
 ghost use mathlib.Core.Path.{_≡_};
 ghost use Prim.Native.Nat.{_+_, _≤_, _<_};
 ghost use lib.ListN.{length, getD};
-ghost use Rattle.columns.specs.Answers.{none};
 ghost use Rattle.columns.specs.Counting.{first};
 ghost use Rattle.pairs.specs.Pairs.{endOf};
 ghost use Rattle.pairs.specs.Lists.{badStart, badInLists, Starts, listsRefusal};
 ghost use Rattle.columns.specs.Lent.{was};
 ghost use Rattle.columns.specs.Limits.{maxStates};
-use crate::pairs::bad_at;
 use crate::pairs::first_bad;
 use crate::pairs::shorter;
 use columns::answers::Refusal;
 use columns::answers::refuse;
+use columns::checks::refuse_unless;
 use columns::limits::WRONG_LIST;
 
 // Start u, as an index.
@@ -80,7 +79,7 @@ fn first_bad_in(n: usize, starts: &[u32], labels: &[u16], blocks: &[u16], end: u
 // before it in its list.
 pub fn lists_refusal(n: usize, starts: &[u32], labels: &[u16], blocks: &[u16]) -> Refusal
     requires { ⌜ (n + 1 ≤ length (now starts)) × (n ≤ maxStates) ⌝ }
-    ensures { λ r. ⌜ r ≡ listsRefusal (was starts) n (was labels) (was blocks) none ⌝ }
+    ensures { λ r. ⌜ r ≡ listsRefusal (was starts) n (was labels) (was blocks) ⌝ }
 {
     let end = shorter(labels.len(), blocks.len());
     let bad = first_bad_start(n + 1, starts, end);
@@ -88,5 +87,5 @@ pub fn lists_refusal(n: usize, starts: &[u32], labels: &[u16], blocks: &[u16]) -
         return refuse(WRONG_LIST, bad as u64);
     }
     let bad = first_bad_in(n, starts, labels, blocks, end);
-    bad_at(end, bad)
+    refuse_unless(end <= bad, WRONG_LIST, bad as u64)
 }

@@ -2,15 +2,10 @@
 ghost use mathlib.Core.Path.{_≡_};
 ghost use Prim.Native.Nat.{_≤_, _<_};
 ghost use lib.ListN.{length};
-ghost use Rattle.columns.specs.Answers.{none};
 ghost use Rattle.columns.specs.Counting.{first};
 ghost use Rattle.columns.specs.Sets.{pairLt, pairEq};
-ghost use Rattle.pairs.specs.Pairs.{shorter, badPair, badAt};
+ghost use Rattle.pairs.specs.Pairs.{shorter, badPair};
 ghost use Rattle.columns.specs.Lent.{was};
-use columns::answers::Refusal;
-use columns::answers::refuse;
-use columns::limits::NONE;
-use columns::limits::WRONG_LIST;
 
 // Whether the pair (a, b) is below (c, d).
 pub fn below(a: u16, b: u16, c: u16, d: u16) -> bool
@@ -66,14 +61,4 @@ pub fn first_bad(labels: &[u16], blocks: &[u16], from: usize, to: usize) -> usiz
         j += 1;
     }
     j
-}
-
-// 15 at index i if it is below n, else none.
-pub fn bad_at(n: usize, i: usize) -> Refusal
-    ensures { λ r. ⌜ r ≡ badAt n i none ⌝ }
-{
-    if i < n {
-        return refuse(WRONG_LIST, i as u64);
-    }
-    refuse(NONE, 0)
 }

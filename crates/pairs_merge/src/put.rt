@@ -18,7 +18,7 @@ fn is_last(labels: &[u16], blocks: &[u16], r: usize, label: u16, block: u16) -> 
 }
 
 // The pair becomes the r-th, unless it is the last of the first r. Returns how many there are then.
-pub fn put(labels: &mut [u16], blocks: &mut [u16], r: usize, label: u16, block: u16) -> usize
+pub fn put(label: u16, block: u16, labels: &mut [u16], blocks: &mut [u16], r: usize) -> usize
     requires { ⌜ (r < length (now labels)) × (r < length (now blocks)) ⌝ }
     ensures { λ t.
         ⌜ (t ≡ putCount (was labels) (was blocks) r (label, block)) × (is labels ≡ putFirst (was labels) (was blocks) r (label, block))

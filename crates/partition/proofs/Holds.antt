@@ -4,7 +4,7 @@ use native.Mathlib.Omega.{arith}
 use borrow.Author.Tests.{ltb-true, leb-true, eqb-true, lt-ltb, le-leb, eq-eqb}
 use mathlib.Core.Bool.{Bool, true, _&&_}
 use mathlib.Core.Path.{_≡_, refl, ap, sym, _∙_}
-use mathlib.Core.List.{List}
+use mathlib.Core.List.{List, [], _∷_}
 use lib.ListN.{length, getD}
 use lib.Dec.{ltb, leb, eqb}
 use Rattle.columns.specs.Limits.{maxStates}
@@ -14,6 +14,7 @@ use Rattle.columns.specs.Inverse.{inverseb}
 use Rattle.columns.proofs.All.{all-at, all-of}
 use Rattle.columns.proofs.Bools.{and-left, and-right, and-both}
 use Rattle.columns.proofs.Inverses.{inverse-of, of-inverse, other-way}
+use Rattle.columns.proofs.Rooms.{roomy-of, of-roomy}
 use Rattle.partition.specs.Partition.{
   Partition,
   Within,
@@ -29,7 +30,6 @@ use Rattle.partition.specs.Partition.{
   lengths,
   consistentb,
   longb,
-  sixLong,
 }
 
 -- a chain of tests taken apart: each one, and the rest
@@ -114,37 +114,29 @@ module _ (p : Partition) where
       (all-of (lieAt (p .element-offset) (p .element-to-block) (p .begin) (p .end) (p .count)) (p .n) (λ s l. of-lies p s (h .lies s l)))
       (eq-eqb _ _ (h .whole))))))
 
-  module _ (a b c d e f : Bool) where
-    six : (a && (b && (c && (d && (e && f))))) ≡ true → Both a b × (Both c d × Both e f)
-    six t =
-        let t1 = split a (b && (c && (d && (e && f)))) t in
-        let t2 = split b (c && (d && (e && f))) (t1 .right) in
-        let t3 = split c (d && (e && f)) (t2 .right) in
-        let t4 = split d (e && f) (t3 .right) in
-        (record { left = t1 .left; right = t2 .left }, (record { left = t3 .left; right = t4 .left }, split e f (t4 .right)))
+  abbrev six : List ℕ
+  six =
+      length (p .elements) ∷ length (p .element-offset) ∷ length (p .element-to-block) ∷ length (p .begin) ∷ length (p .marked-split)
+      ∷ length (p .end) ∷ []
 
   pub long-of : longb p ≡ true → Long p
-  unfolding longb sixLong
+  unfolding longb
   long-of t =
-      let s =
-      six (leb (p .n) (length (p .elements))) (leb (p .n) (length (p .element-offset))) (leb (p .n) (length (p .element-to-block)))
-      (leb (p .n) (length (p .begin))) (leb (p .n) (length (p .marked-split))) (leb (p .n) (length (p .end))) t in
+      let h = roomy-of (p .n) six t in
       record {
-        elements = leb-true _ _ (s .0 .left);
-        element-offset = leb-true _ _ (s .0 .right);
-        element-to-block = leb-true _ _ (s .1 .0 .left);
-        begin = leb-true _ _ (s .1 .0 .right);
-        marked-split = leb-true _ _ (s .1 .1 .left);
-        end = leb-true _ _ (s .1 .1 .right);
+        elements = h .0;
+        element-offset = h .1 .0;
+        element-to-block = h .1 .1 .0;
+        begin = h .1 .1 .1 .0;
+        marked-split = h .1 .1 .1 .1 .0;
+        end = h .1 .1 .1 .1 .1 .0;
       }
 
   pub of-long : Long p → longb p ≡ true
-  unfolding longb sixLong
+  unfolding longb
   of-long h =
-      and-both (le-leb _ _ (h .elements))
-      (and-both (le-leb _ _ (h .element-offset))
-      (and-both (le-leb _ _ (h .element-to-block))
-      (and-both (le-leb _ _ (h .begin)) (and-both (le-leb _ _ (h .marked-split)) (le-leb _ _ (h .end))))))
+      of-roomy (p .n) six
+      (h .elements, (h .element-offset, (h .element-to-block, (h .begin, (h .marked-split, (h .end, tt))))))
 
 -- the bounds of a block given alone
 pub sound-of : (b : Block) → soundb b ≡ true → Within (b .begin) (b .«marked_split») (b .end) maxStates

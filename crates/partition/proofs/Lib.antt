@@ -11,4 +11,5 @@ pub mod SwapKeeps
 pub mod Freshness
 pub mod Stretches
 pub mod Sayings
+pub mod Blocks
 pub mod Determined

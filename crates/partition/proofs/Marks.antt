@@ -11,7 +11,8 @@ use lib.ListN.{length, getD, set}
 use Rattle.columns.specs.Columns.{swapped}
 use Rattle.columns.specs.Inverse.{swappedInverse}
 use Rattle.columns.proofs.All.{lt-or-le}
-use Rattle.partition.specs.Mark.{Marks, marks, marksOf, withMarks, mark, moved, markIn, movedIn, Markable}
+use Rattle.partition.specs.Mark.{Marks, marks, marksOf, withMarks, mark, moved, markIn, movedIn}
+use Rattle.partition.specs.Cores.{Markable}
 use Rattle.partition.specs.Partition.{Partition, Sound}
 use Rattle.partition.specs.Readers.{unmarkedb}
 

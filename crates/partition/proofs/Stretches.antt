@@ -2,6 +2,7 @@
 use Prim.Native.Nat.{ℕ, _≤_, _<_, _-_}
 use native.Mathlib.Omega.{arith}
 use borrow.Author.Tests.{eq-eqb, ne-eqb}
+use mathlib.Core.Bool.{true}
 use mathlib.Core.Path.{_≡_, refl, ap, sym, _∙_}
 use mathlib.Core.List.{List, []}
 use lib.ListN.{length, getD, take, drop, length-drop}
@@ -10,7 +11,7 @@ use Rattle.columns.specs.declared.answers.Refusal.{Refusal}
 use Rattle.partition.specs.Partition.{Partition}
 use Rattle.partition.specs.Checks.{blockRefusal}
 use Rattle.partition.specs.Readers.{stretch, iterBlock, iterBegin}
-use Rattle.partition.proofs.Refusals.{block-ready}
+use Rattle.partition.proofs.Refusals.{argument-ready}
 
 module _ (p : Partition) (b : ℕ) where
   module _ (t : Refusal) (e : t ≡ blockRefusal p b) where
@@ -35,7 +36,7 @@ module _ (p : Partition) (b : ℕ) where
   pub iter-some : blockRefusal p b .number ≡ 0 → 0 < length (iterBlock p b)
   unfolding iterBlock stretch
   iter-some e =
-      let q = block-ready p b (blockRefusal p b) refl e in
+      let q = argument-ready p b (p .count) true (blockRefusal p b) refl e in
       let w = q .sound .consistent .bounds b (q .known) in
       let x = getD (p .begin) b 0 in
       let z = getD (p .end) b 0 in

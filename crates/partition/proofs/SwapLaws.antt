@@ -13,7 +13,8 @@ use Rattle.columns.specs.Columns.{swapped, written}
 use Rattle.columns.proofs.All.{same-or-not, lt-or-le}
 use Rattle.columns.proofs.Lists.{length-written, written-at, written-after}
 use Rattle.partition.specs.Partition.{Partition, Consistent, Long, Sound}
-use Rattle.partition.specs.SwapBlocks.{Blocks, blocks, blocksOf, withBlocks, exchange, renumbered, swap, swapIn, Swappable}
+use Rattle.partition.specs.SwapBlocks.{exchange, renumbered, swap}
+use Rattle.partition.specs.Cores.{Blocks, blocks, blocksOf, withBlocks, swapIn, Swappable}
 use Rattle.partition.proofs.Owned.{owned}
 use Rattle.partition.proofs.Renumbering.{length-renumbered, renumbered-in, renumbered-out}
 

@@ -6,7 +6,8 @@ use lib.ListN.{getD}
 use lib.Dec.{ltb, leb}
 use Rattle.columns.specs.Limits.{inconsistent, maxStates, outOfRange}
 use Rattle.columns.specs.declared.answers.Refusal.{Refusal}
-use Rattle.columns.specs.Answers.{Said, done, refused, bit, refusal, none, unless, answering}
+use Rattle.columns.specs.Answers.{Said, done, refused, bit, answering}
+use Rattle.columns.specs.Due.{test, due}
 use Rattle.partition.specs.Partition.{withinb}
 use Rattle.partition.specs.declared.block.Block.{Block}
 use Rattle.partition.specs.declared.block.BlockAnswer.{BlockAnswer}
@@ -29,9 +30,9 @@ saidBlock a = saidBlockOutcome (a .outcome)
 
 -- a new block from begin to end with this split; 8 at end where the bounds are broken
 unfoldable pub newBlock : ℕ → ℕ → ℕ → Said
-unfolding answering withinb
+unfolding answering due withinb
 newBlock begin split end =
-    answering (unless (withinb begin split end maxStates) (refusal outOfRange end) none) (begin ∷ split ∷ end ∷ [])
+    answering (due (test (withinb begin split end maxStates) outOfRange end ∷ [])) (begin ∷ split ∷ end ∷ [])
 
 -- 14 where the bounds of a block given alone are broken
 unfoldable pub soundb : Block → Bool
@@ -39,8 +40,8 @@ unfolding withinb
 soundb b = withinb (b .begin) (b .«marked_split») (b .end) maxStates
 
 unfoldable pub brokenBlock : Block → Refusal
-unfolding soundb
-brokenBlock b = unless (soundb b) (refusal inconsistent 0) none
+unfolding due soundb
+brokenBlock b = due (test (soundb b) inconsistent 0 ∷ [])
 
 unfoldable pub len : Block → Said
 unfolding answering brokenBlock

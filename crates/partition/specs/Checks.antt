@@ -1,38 +1,40 @@
 -- The refusals of the calls that take a partition, in document 01's order.
 use Prim.Native.Nat.{ℕ}
 use mathlib.Core.Bool.{Bool, true, _&&_}
-use lib.Dec.{ltb, leb}
-use Rattle.columns.specs.Limits.{inconsistent, maxStates, outOfRange, tooShort, wrongStates}
+use mathlib.Core.List.{List, [], _∷_, _++_}
+use Rattle.columns.specs.Limits.{inconsistent, tooShort}
 use Rattle.columns.specs.declared.answers.Refusal.{Refusal}
-use Rattle.columns.specs.Answers.{refusal, none, unless}
+use Rattle.columns.specs.Due.{Test, test, due, statesTest, indexTest}
 use Rattle.partition.specs.Partition.{Partition, consistentb, longb}
 
--- n is from 1 to 4,096
-unfoldable pub sizeb : ℕ → Bool
-sizeb n = leb 1 n && leb n maxStates
+-- 1, 7 (`room`: the call's other slices are long enough)
+abbrev pub sizeTests : Partition → Bool → List Test
+sizeTests p room =
+    statesTest (p .n)
+    ∷ test (longb p && room) tooShort 0
+    ∷ []
 
--- 1, 7 (`room`: the call's other slices are long enough), 14; then what the call tests next
-unfoldable pub checked : Partition → Bool → Refusal → Refusal
-unfolding sizeb longb consistentb
-checked p room next =
-    unless (sizeb (p .n)) (refusal wrongStates 0)
-    (unless (longb p && room) (refusal tooShort 0)
-    (unless (consistentb p) (refusal inconsistent 0) next))
+-- 1, 7, 14
+abbrev pub partitionTests : Partition → Bool → List Test
+partitionTests p room = sizeTests p room ++ (test (consistentb p) inconsistent 0 ∷ [])
 
--- a call that takes the partition alone; with a state; with a block; with two blocks
+-- a call that takes the partition alone
 unfoldable pub partitionRefusal : Partition → Refusal
-unfolding checked
-partitionRefusal p = checked p true none
+unfolding due longb consistentb
+partitionRefusal p = due (partitionTests p true)
 
-unfoldable pub stateRefusal : Partition → ℕ → Refusal
-unfolding checked
-stateRefusal p s = checked p true (unless (ltb s (p .n)) (refusal outOfRange s) none)
+-- with an argument as well, which is below a bound
+unfoldable pub argumentRefusal : Partition → ℕ → ℕ → Bool → Refusal
+unfolding due longb consistentb
+argumentRefusal p i bound room = due (partitionTests p room ++ (indexTest i bound ∷ []))
 
-unfoldable pub blockRefusal : Partition → ℕ → Refusal
-unfolding checked
-blockRefusal p b = checked p true (unless (ltb b (p .count)) (refusal outOfRange b) none)
+-- with a state; with a block; with two blocks
+abbrev pub stateRefusal : Partition → ℕ → Refusal
+stateRefusal p s = argumentRefusal p s (p .n) true
+
+abbrev pub blockRefusal : Partition → ℕ → Refusal
+blockRefusal p b = argumentRefusal p b (p .count) true
 
 unfoldable pub blocksRefusal : Partition → ℕ → ℕ → Refusal
-unfolding checked
-blocksRefusal p l r =
-    checked p true (unless (ltb l (p .count)) (refusal outOfRange l) (unless (ltb r (p .count)) (refusal outOfRange r) none))
+unfolding due longb consistentb
+blocksRefusal p l r = due (partitionTests p true ++ (indexTest l (p .count) ∷ indexTest r (p .count) ∷ []))

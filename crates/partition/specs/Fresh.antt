@@ -1,13 +1,14 @@
 -- What `BlockPartition::new` says and leaves: one block 0 of all states, order 0..n-1, all marked.
 use Prim.Native.Nat.{ℕ}
+use mathlib.Core.Bool.{true}
 use mathlib.Core.List.{List, [], _∷_}
 use lib.ListN.{set}
-use Rattle.columns.specs.Limits.{tooShort, wrongStates}
 use Rattle.columns.specs.declared.answers.Refusal.{Refusal}
-use Rattle.columns.specs.Answers.{Said, refusal, none, unless, leaving}
+use Rattle.columns.specs.Answers.{Said, leaving}
+use Rattle.columns.specs.Due.{due}
 use Rattle.columns.specs.Columns.{written, wiped}
 use Rattle.partition.specs.Partition.{Partition, longb}
-use Rattle.partition.specs.Checks.{sizeb}
+use Rattle.partition.specs.Checks.{sizeTests}
 
 unfoldable pub fresh : Partition → Partition
 unfolding written wiped
@@ -25,8 +26,8 @@ fresh p =
 
 -- 1, 7
 unfoldable pub newRefusal : Partition → Refusal
-unfolding sizeb longb
-newRefusal p = unless (sizeb (p .n)) (refusal wrongStates 0) (unless (longb p) (refusal tooShort 0) none)
+unfolding due longb
+newRefusal p = due (sizeTests p true)
 
 unfoldable pub newPartition : Partition → Said × Partition
 unfolding leaving newRefusal fresh

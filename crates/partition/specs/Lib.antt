@@ -4,5 +4,6 @@ pub mod Block
 pub mod Readers
 pub mod Mark
 pub mod SwapBlocks
+pub mod Cores
 pub mod Fresh
 pub mod Lent

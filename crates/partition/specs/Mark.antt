@@ -1,14 +1,14 @@
 -- What `mark_element` says and leaves.
-use Prim.Native.Nat.{ℕ, _-_, _≤_, _<_}
+use Prim.Native.Nat.{ℕ, _-_}
 use mathlib.Core.Bool.{cond}
 use mathlib.Core.List.{List, []}
 use lib.Dec.{ltb}
-use lib.ListN.{length, getD, set}
+use lib.ListN.{getD, set}
 use Rattle.columns.specs.Answers.{Said, leaving}
 use Rattle.columns.specs.Columns.{swapped}
 use Rattle.columns.specs.Inverse.{swappedInverse}
 use Rattle.partition.specs.Partition.{Partition, parts}
-use Rattle.partition.specs.Checks.{stateRefusal}
+use Rattle.partition.specs.Checks.{argumentRefusal, stateRefusal}
 use Rattle.partition.specs.Readers.{unmarkedb}
 
 -- the columns that marking a state changes
@@ -34,14 +34,6 @@ unfoldable pub markIn : List ℕ → Marks → ℕ → Marks
 unfolding movedIn
 markIn home c s = cond (ltb (getD (c .element-offset) s 0) (getD (c .marked-split) (getD home s 0) 0)) (movedIn home c s) c
 
--- what that asks of the columns
-pub record Markable (home : List ℕ) (c : Marks) (s : ℕ) : Type 0 where
-  pub known : s < length home
-  pub place : s < length (c .element-offset)
-  pub block : getD home s 0 < length (c .marked-split)
-  pub split : getD (c .marked-split) (getD home s 0) 0 ≤ length (c .elements)
-  pub states : (k : ℕ) → k < getD (c .marked-split) (getD home s 0) 0 → getD (c .elements) k 0 < length (c .element-offset)
-
 -- ---- the same of a partition
 abbrev pub marksOf : Partition → Marks
 marksOf p = marks (p .elements) (p .element-offset) (p .marked-split)
@@ -60,5 +52,5 @@ unfolding unmarkedb moved
 mark p s = cond (unmarkedb p s) (moved p s) p
 
 unfoldable pub markElement : Partition → ℕ → Said × Partition
-unfolding leaving stateRefusal mark
+unfolding leaving argumentRefusal mark
 markElement p s = leaving (stateRefusal p s) p [] (mark p s)

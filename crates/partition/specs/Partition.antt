@@ -1,11 +1,12 @@
 -- When six columns hold a partition of n states into count blocks.
 use Prim.Native.Nat.{ℕ, zero, suc, _+_, _-_, _≤_, _<_}
 use mathlib.Core.Bool.{Bool, _&&_}
-use mathlib.Core.List.{List}
+use mathlib.Core.List.{List, [], _∷_}
 use mathlib.Core.Path.{_≡_}
 use lib.ListN.{length, getD}
 use lib.Dec.{ltb, leb, eqb}
 use Rattle.columns.specs.Limits.{maxStates}
+use Rattle.columns.specs.Due.{allLong}
 use Rattle.columns.specs.Tests.{all}
 use Rattle.columns.specs.Inverse.{Inverse, inverseb}
 
@@ -98,11 +99,10 @@ consistentb p =
     && (liesb (p .element-offset) (p .element-to-block) (p .begin) (p .end) (p .n) (p .count)
     && eqb (lengths (p .begin) (p .end) (p .count)) (p .n)))))
 
--- six lengths are at least n
-unfoldable pub sixLong : ℕ → ℕ → ℕ → ℕ → ℕ → ℕ → ℕ → Bool
-sixLong n a b c d e f = leb n a && (leb n b && (leb n c && (leb n d && (leb n e && leb n f))))
-
+-- `Long` as a test
 unfoldable pub longb : Partition → Bool
+unfolding allLong
 longb p =
-    sixLong (p .n) (length (p .elements)) (length (p .element-offset)) (length (p .element-to-block)) (length (p .begin))
-    (length (p .marked-split)) (length (p .end))
+    allLong (p .n)
+    (length (p .elements) ∷ length (p .element-offset) ∷ length (p .element-to-block) ∷ length (p .begin) ∷ length (p .marked-split)
+    ∷ length (p .end) ∷ [])

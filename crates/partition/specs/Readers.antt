@@ -6,7 +6,7 @@ use lib.ListN.{getD, take, drop}
 use lib.Dec.{ltb, eqb}
 use Rattle.columns.specs.Answers.{Said, bit, answering}
 use Rattle.partition.specs.Partition.{Partition}
-use Rattle.partition.specs.Checks.{partitionRefusal, stateRefusal, blockRefusal}
+use Rattle.partition.specs.Checks.{partitionRefusal, argumentRefusal, stateRefusal, blockRefusal}
 
 unfoldable pub numOfBlocks : Partition → Said
 unfolding answering partitionRefusal
@@ -17,7 +17,7 @@ unfolding answering partitionRefusal
 lenOf p = answering (partitionRefusal p) (p .n ∷ [])
 
 unfoldable pub blockNumber : Partition → ℕ → Said
-unfolding answering stateRefusal
+unfolding answering argumentRefusal
 blockNumber p s = answering (stateRefusal p s) (getD (p .element-to-block) s 0 ∷ [])
 
 -- state s stands before its block's marked_split
@@ -25,11 +25,11 @@ unfoldable pub unmarkedb : Partition → ℕ → Bool
 unmarkedb p s = ltb (getD (p .element-offset) s 0) (getD (p .marked-split) (getD (p .element-to-block) s 0) 0)
 
 unfoldable pub isElementMarked : Partition → ℕ → Said
-unfolding answering stateRefusal unmarkedb
+unfolding answering argumentRefusal unmarkedb
 isElementMarked p s = answering (stateRefusal p s) (bit (not (unmarkedb p s)) ∷ [])
 
 unfoldable pub readBlock : Partition → ℕ → Said
-unfolding answering blockRefusal
+unfolding answering argumentRefusal
 readBlock p b = answering (blockRefusal p b) (getD (p .begin) b 0 ∷ getD (p .marked-split) b 0 ∷ getD (p .end) b 0 ∷ [])
 
 -- the states of block b, in their order
@@ -38,14 +38,14 @@ stretch p b = take (getD (p .end) b 0 - getD (p .begin) b 0) (drop (getD (p .beg
 
 -- the block's stretch, and the empty part where the call is refused
 unfoldable pub iterBlock : Partition → ℕ → List ℕ
-unfolding stretch blockRefusal
+unfolding stretch argumentRefusal
 iterBlock p b = cond (eqb (blockRefusal p b .number) 0) (stretch p b) []
 
 -- where that part begins in `elements`: at the block's begin, and at 0 where the call is refused
 unfoldable pub iterBegin : Partition → ℕ → ℕ
-unfolding blockRefusal
+unfolding argumentRefusal
 iterBegin p b = cond (eqb (blockRefusal p b .number) 0) (getD (p .begin) b 0) 0
 
 unfoldable pub iterBlockRefusal : Partition → ℕ → Said
-unfolding answering blockRefusal
+unfolding answering argumentRefusal
 iterBlockRefusal p b = answering (blockRefusal p b) []

@@ -1,25 +1,24 @@
 // The tests that every call makes of the columns it is lent.
 ghost use mathlib.Core.Path.{_≡_};
-ghost use mathlib.Core.Bool.{Bool, true};
+ghost use mathlib.Core.Bool.{true};
 ghost use Prim.Native.Nat.{_≤_, _<_};
 ghost use lib.ListN.{length};
-ghost use Rattle.columns.specs.Answers.{refusal, none, unless};
+ghost use Rattle.columns.specs.Due.{due};
 ghost use Rattle.columns.specs.Inverse.{inverseb};
-ghost use Rattle.partition.specs.Fresh.{newRefusal};
-ghost use Rattle.partition.specs.Partition.{withinb, insideb, blockAt, blocksb, lieAt, liesb, lengths, consistentb, sixLong};
-ghost use Rattle.partition.specs.Checks.{checked, partitionRefusal, stateRefusal, blockRefusal, blocksRefusal};
+ghost use Rattle.partition.specs.Partition.{withinb, insideb, blockAt, blocksb, lieAt, liesb, lengths, consistentb, longb};
+ghost use Rattle.partition.specs.Checks.{sizeTests, partitionTests, argumentRefusal, blocksRefusal};
 ghost use Rattle.columns.specs.Lent.{was};
 ghost use Rattle.partition.specs.Lent.{before};
 ghost use Rattle.columns.specs.Limits.{maxStates};
 use columns::answers::Refusal;
-use columns::answers::refuse;
 use columns::cells::at;
+use columns::checks::index_refusal;
+use columns::checks::long;
+use columns::checks::or_else;
+use columns::checks::refuse_unless;
+use columns::checks::states_refusal;
 use columns::limits::INCONSISTENT;
-use columns::limits::MAX_STATES;
-use columns::limits::NONE;
-use columns::limits::OUT_OF_RANGE;
 use columns::limits::TOO_SHORT;
-use columns::limits::WRONG_STATES;
 
 // Whether each of the first n cells of a is below n and has its own place in b.
 fn inverse_ok(n: usize, a: &[u16], b: &[u16]) -> bool
@@ -45,31 +44,13 @@ fn inverse_ok(n: usize, a: &[u16], b: &[u16]) -> bool
 pub fn within(x: usize, y: usize, z: usize, n: usize) -> bool
     ensures { λ r. ⌜ r ≡ withinb x y z n ⌝ }
 {
-    if z <= x {
-        return false;
-    }
-    if y < x {
-        return false;
-    }
-    if z < y {
-        return false;
-    }
-    if n < z {
-        return false;
-    }
-    true
+    (x < z) & ((x <= y) & ((y <= z) & (z <= n)))
 }
 
 fn inside(x: usize, o: usize, z: usize) -> bool
     ensures { λ r. ⌜ r ≡ insideb x o z ⌝ }
 {
-    if o < x {
-        return false;
-    }
-    if z <= o {
-        return false;
-    }
-    true
+    (x <= o) & (o < z)
 }
 
 fn block_at(n: usize, begin: &[u16], marked_split: &[u16], end: &[u16], b: usize) -> bool
@@ -187,30 +168,8 @@ pub fn consistent(
     if sum == n { true } else { false }
 }
 
-// Whether each of six lengths is at least n.
-pub fn long(n: usize, a: usize, b: usize, c: usize, d: usize, e: usize, f: usize) -> bool
-    ensures { λ r. ⌜ r ≡ sixLong n a b c d e f ⌝ }
-{
-    if a < n {
-        return false;
-    }
-    if b < n {
-        return false;
-    }
-    if c < n {
-        return false;
-    }
-    if d < n {
-        return false;
-    }
-    if e < n {
-        return false;
-    }
-    if f < n { false } else { true }
-}
-
-// The refusal of a call that makes a partition of n states.
-pub fn new_refusal(
+// Whether each of the six columns has n cells.
+pub fn six_long(
     n: usize,
     elements: &[u16],
     element_offset: &[u16],
@@ -218,27 +177,45 @@ pub fn new_refusal(
     begin: &[u16],
     marked_split: &[u16],
     end: &[u16],
-) -> Refusal
-    ensures { λ r. ⌜ r ≡ newRefusal (before elements «element_offset» «element_to_block» begin «marked_split» end n 1) ⌝ }
+) -> bool
+    ensures { λ r. ⌜ r ≡ longb (before elements «element_offset» «element_to_block» begin «marked_split» end n 0) ⌝ }
 {
-    if n < 1 {
-        return refuse(WRONG_STATES, 0);
-    }
-    if MAX_STATES < n {
-        return refuse(WRONG_STATES, 0);
-    }
-    if !long(
+    long(
         n,
-        elements.len(),
-        element_offset.len(),
-        element_to_block.len(),
-        begin.len(),
-        marked_split.len(),
-        end.len(),
-    ) {
-        return refuse(TOO_SHORT, 0);
-    }
-    refuse(NONE, 0)
+        &[
+            elements.len(),
+            element_offset.len(),
+            element_to_block.len(),
+            begin.len(),
+            marked_split.len(),
+            end.len(),
+        ],
+    )
+}
+
+// 1 or 7, the first that is due; `room` says whether the call's other slices are long enough.
+pub fn size_refusal(
+    n: usize,
+    elements: &[u16],
+    element_offset: &[u16],
+    element_to_block: &[u16],
+    begin: &[u16],
+    marked_split: &[u16],
+    end: &[u16],
+    room: bool,
+) -> Refusal
+    ensures { λ r. ⌜ r ≡ due (sizeTests (before elements «element_offset» «element_to_block» begin «marked_split» end n 0) room) ⌝ }
+{
+    let six = six_long(
+        n,
+        elements,
+        element_offset,
+        element_to_block,
+        begin,
+        marked_split,
+        end,
+    );
+    or_else(states_refusal(n), refuse_unless(six & room, TOO_SHORT, 0))
 }
 
 // 1, 7 or 14, the first that is due; `room` says whether the call's other slices are long enough.
@@ -253,29 +230,25 @@ pub fn check(
     end: &[u16],
     room: bool,
 ) -> Refusal
-    ensures { λ r. ⌜ r ≡ checked (before elements «element_offset» «element_to_block» begin «marked_split» end n count) room none ⌝ }
+    ensures { λ r.
+        let given = before elements «element_offset» «element_to_block» begin «marked_split» end n count in
+        ⌜ r ≡ due (partitionTests given room) ⌝ }
 {
-    if n < 1 {
-        return refuse(WRONG_STATES, 0);
-    }
-    if MAX_STATES < n {
-        return refuse(WRONG_STATES, 0);
-    }
-    if !long(
+    let t = size_refusal(
         n,
-        elements.len(),
-        element_offset.len(),
-        element_to_block.len(),
-        begin.len(),
-        marked_split.len(),
-        end.len(),
-    ) {
-        return refuse(TOO_SHORT, 0);
+        elements,
+        element_offset,
+        element_to_block,
+        begin,
+        marked_split,
+        end,
+        room,
+    );
+    let number = t.number;
+    if number != 0 {
+        return t;
     }
-    if !room {
-        return refuse(TOO_SHORT, 0);
-    }
-    if !consistent(
+    let sound = consistent(
         n,
         count,
         elements,
@@ -284,14 +257,12 @@ pub fn check(
         begin,
         marked_split,
         end,
-    ) {
-        return refuse(INCONSISTENT, 0);
-    }
-    refuse(NONE, 0)
+    );
+    refuse_unless(sound, INCONSISTENT, 0)
 }
 
-// The refusal of a call with the partition and a state.
-pub fn state_refusal(
+// The refusal of a call with the partition and an argument, a state or a block, which is below `bound`.
+pub fn argument_refusal(
     n: usize,
     count: usize,
     elements: &[u16],
@@ -300,9 +271,13 @@ pub fn state_refusal(
     begin: &[u16],
     marked_split: &[u16],
     end: &[u16],
-    s: usize,
+    i: usize,
+    bound: usize,
+    room: bool,
 ) -> Refusal
-    ensures { λ r. ⌜ r ≡ stateRefusal (before elements «element_offset» «element_to_block» begin «marked_split» end n count) s ⌝ }
+    ensures { λ r.
+        let given = before elements «element_offset» «element_to_block» begin «marked_split» end n count in
+        ⌜ r ≡ argumentRefusal given i bound room ⌝ }
 {
     let t = check(
         n,
@@ -313,51 +288,9 @@ pub fn state_refusal(
         begin,
         marked_split,
         end,
-        true,
+        room,
     );
-    let number = t.number;
-    if number != 0 {
-        return t;
-    }
-    if n <= s {
-        return refuse(OUT_OF_RANGE, s as u64);
-    }
-    refuse(NONE, 0)
-}
-
-// The refusal of a call with the partition and a block.
-pub fn block_refusal(
-    n: usize,
-    count: usize,
-    elements: &[u16],
-    element_offset: &[u16],
-    element_to_block: &[u16],
-    begin: &[u16],
-    marked_split: &[u16],
-    end: &[u16],
-    b: usize,
-) -> Refusal
-    ensures { λ r. ⌜ r ≡ blockRefusal (before elements «element_offset» «element_to_block» begin «marked_split» end n count) b ⌝ }
-{
-    let t = check(
-        n,
-        count,
-        elements,
-        element_offset,
-        element_to_block,
-        begin,
-        marked_split,
-        end,
-        true,
-    );
-    let number = t.number;
-    if number != 0 {
-        return t;
-    }
-    if count <= b {
-        return refuse(OUT_OF_RANGE, b as u64);
-    }
-    refuse(NONE, 0)
+    or_else(t, index_refusal(i, bound))
 }
 
 // The refusal of a call with the partition and two blocks.
@@ -386,15 +319,5 @@ pub fn blocks_refusal(
         end,
         true,
     );
-    let number = t.number;
-    if number != 0 {
-        return t;
-    }
-    if count <= l {
-        return refuse(OUT_OF_RANGE, l as u64);
-    }
-    if count <= r {
-        return refuse(OUT_OF_RANGE, r as u64);
-    }
-    refuse(NONE, 0)
+    or_else(t, or_else(index_refusal(l, count), index_refusal(r, count)))
 }

@@ -12,9 +12,9 @@ use crate::PartitionOutcome;
 use columns::answers::Answer;
 use columns::answers::finished;
 use columns::answers::refusing;
+use partition::checks::argument_refusal;
 use partition::checks::blocks_refusal;
-use partition::checks::new_refusal;
-use partition::checks::state_refusal;
+use partition::checks::size_refusal;
 use partition::core;
 
 impl BlockPartition {
@@ -34,7 +34,7 @@ impl BlockPartition {
             ⌜ (saidPartition r, left) ≡ newPartition given ⌝ }
     {
         let k = n as usize;
-        let t = new_refusal(
+        let t = size_refusal(
             k,
             &*elements,
             &*element_offset,
@@ -42,6 +42,7 @@ impl BlockPartition {
             &*begin,
             &*marked_split,
             &*end,
+            true,
         );
         let number = t.number;
         if number != 0 {
@@ -82,7 +83,7 @@ impl BlockPartition {
         let n = self.n as usize;
         let count = self.count as usize;
         let s = element as usize;
-        let t = state_refusal(
+        let t = argument_refusal(
             n,
             count,
             &*elements,
@@ -92,6 +93,8 @@ impl BlockPartition {
             &*marked_split,
             end,
             s,
+            n,
+            true,
         );
         let number = t.number;
         if number != 0 {

@@ -18,9 +18,8 @@ use columns::answers::refusing_number;
 use columns::cells::at;
 use partition::block::BlockAnswer;
 use partition::block::BlockOutcome;
-use partition::checks::block_refusal;
+use partition::checks::argument_refusal;
 use partition::checks::check;
-use partition::checks::state_refusal;
 use partition::core;
 
 impl BlockPartition {
@@ -110,7 +109,7 @@ impl BlockPartition {
         let n = self.n as usize;
         let count = self.count as usize;
         let s = element as usize;
-        let t = state_refusal(
+        let t = argument_refusal(
             n,
             count,
             elements,
@@ -120,6 +119,8 @@ impl BlockPartition {
             marked_split,
             end,
             s,
+            n,
+            true,
         );
         let number = t.number;
         if number != 0 {
@@ -146,7 +147,7 @@ impl BlockPartition {
         let n = self.n as usize;
         let count = self.count as usize;
         let s = element as usize;
-        let t = state_refusal(
+        let t = argument_refusal(
             n,
             count,
             elements,
@@ -156,6 +157,8 @@ impl BlockPartition {
             marked_split,
             end,
             s,
+            n,
+            true,
         );
         let number = t.number;
         if number != 0 {
@@ -185,7 +188,7 @@ impl BlockPartition {
         let n = self.n as usize;
         let count = self.count as usize;
         let b = block_index as usize;
-        let t = block_refusal(
+        let t = argument_refusal(
             n,
             count,
             elements,
@@ -195,6 +198,8 @@ impl BlockPartition {
             marked_split,
             end,
             b,
+            count,
+            true,
         );
         let number = t.number;
         if number != 0 {
@@ -228,7 +233,7 @@ impl BlockPartition {
         let n = self.n as usize;
         let count = self.count as usize;
         let b = block_index as usize;
-        let t = block_refusal(
+        let t = argument_refusal(
             n,
             count,
             elements,
@@ -238,6 +243,8 @@ impl BlockPartition {
             marked_split,
             end,
             b,
+            count,
+            true,
         );
         let number = t.number;
         if number != 0 {
@@ -266,7 +273,7 @@ impl BlockPartition {
         let n = self.n as usize;
         let count = self.count as usize;
         let b = block_index as usize;
-        let t = block_refusal(
+        let t = argument_refusal(
             n,
             count,
             elements,
@@ -276,6 +283,8 @@ impl BlockPartition {
             marked_split,
             end,
             b,
+            count,
+            true,
         );
         let number = t.number;
         if number != 0 {

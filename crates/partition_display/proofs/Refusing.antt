@@ -1,20 +1,18 @@
 -- Laws of `displayRefusal`: how a call goes on from partition's own checks, and what holds where it is not refused.
-use Prim.Native.Nat.{ℕ, _≤_, _<_}
+use Prim.Native.Nat.{ℕ, _≤_}
 use native.Mathlib.Omega.{arith}
-use borrow.Author.Tests.{le-leb, lt-leb, leb-true}
+use borrow.Author.Tests.{leb-true}
 use mathlib.Core.Bool.{true}
-use mathlib.Core.List.{List}
-use mathlib.Core.Path.{_≡_, sym, ap, _∙_}
-use lib.Dec.{leb}
+use mathlib.Core.List.{List, [], _∷_}
+use mathlib.Core.Path.{_≡_, refl, ap, _∙_}
 use lib.ListN.{length}
-use Rattle.columns.specs.Limits.{noRoom}
 use Rattle.columns.specs.declared.answers.Refusal.{Refusal}
-use Rattle.columns.specs.Answers.{refusal, none, unless}
-use Rattle.columns.proofs.Chains.{one}
-use Rattle.partition.specs.Checks.{checked}
+use Rattle.columns.specs.Due.{due}
+use Rattle.columns.proofs.Chains.{Holds, passed, passed-both, goes-on, ends}
+use Rattle.partition.specs.Checks.{partitionTests}
 use Rattle.partition.specs.Partition.{Partition, Sound}
-use Rattle.partition.proofs.Refusals.{Checked, checked-of, checked-on, checked-out}
-use Rattle.partition_display.specs.Display.{displayText, displayRefusal}
+use Rattle.partition.proofs.Refusals.{checked-of}
+use Rattle.partition_display.specs.Display.{displayText, textTest, displayRefusal}
 use Rattle.partition_display.specs.Writing.{Wrote, Readable}
 use Rattle.partition_display.proofs.Writes.{wrote-size}
 
@@ -28,37 +26,30 @@ readable-of p s =
       blocks = λ b h. let w = s .consistent .bounds b h in record { rises = omega arith; ends = omega arith };
     }
 
--- the test of the room, which follows partition's own
-abbrev roomed : Partition → ℕ → Refusal
-roomed p room = unless (leb (length (displayText p)) room) (refusal noRoom (length (displayText p))) none
-
 -- the call's checks have answered t
 module _ (p : Partition) (room : ℕ) (t : Refusal) (e : t ≡ displayRefusal p room) (z : t .number ≡ 0) where
-  ready : Checked p true (roomed p room)
+  held : Holds (partitionTests p true) × Holds (textTest (length (displayText p)) room ∷ [])
   unfolding displayRefusal
-  ready = checked-of p true (roomed p room) (sym (ap (λ (r : Refusal). r .number) e) ∙ z)
+  held = passed-both (partitionTests p true) (textTest (length (displayText p)) room ∷ []) refl t e z
 
   pub display-reads : Readable (p .elements) (p .begin) (p .marked-split) (p .end) (p .count)
-  display-reads = readable-of p (ready .sound)
+  display-reads = readable-of p (checked-of p true (held .0) .sound)
 
   pub display-room : length (displayText p) ≤ room
-  display-room = leb-true _ _ (one _ 16 (length (displayText p)) none (λ q. omega arith) (ready .rest) .0)
+  display-room = leb-true _ _ (held .1 .0)
 
 -- partition's own checks have answered t
-module _ (p : Partition) (room : ℕ) (t : Refusal) (e : t ≡ checked p true none) where
+module _ (p : Partition) (room : ℕ) (t : Refusal) (e : t ≡ due (partitionTests p true)) where
   pub display-out : (t .number ≡ 0 → ⊥) → t ≡ displayRefusal p room
   unfolding displayRefusal
-  display-out n = checked-out p true (roomed p room) t e n
+  display-out n = ends (partitionTests p true) (textTest (length (displayText p)) room ∷ []) refl t e n
 
   module _ (z : t .number ≡ 0) where
     pub checked-reads : Readable (p .elements) (p .begin) (p .marked-split) (p .end) (p .count)
-    checked-reads = readable-of p (checked-of p true none (sym (ap (λ (r : Refusal). r .number) e) ∙ z) .sound)
+    checked-reads = readable-of p (checked-of p true (passed (partitionTests p true) refl t e z) .sound)
 
-    pub display-short : {l m : List ℕ} {next : ℕ} → Wrote l 0 (displayText p) m next → room < next →
-        refusal noRoom next ≡ displayRefusal p room
+    pub display-on : {l m : List ℕ} {next : ℕ} → Wrote l 0 (displayText p) m next → due (textTest next room ∷ []) ≡ displayRefusal p room
     unfolding displayRefusal
-    display-short {next = next} w h = sym (checked-on p true (roomed p room) t e z ∙ rw (← wrote-size w, lt-leb next room h))
-
-    pub display-fits : {l m : List ℕ} {next : ℕ} → Wrote l 0 (displayText p) m next → next ≤ room → none ≡ displayRefusal p room
-    unfolding displayRefusal
-    display-fits {next = next} w h = sym (checked-on p true (roomed p room) t e z ∙ rw (← wrote-size w, le-leb next room h))
+    display-on w =
+        ap (λ (k : ℕ). due (textTest k room ∷ [])) (wrote-size w)
+        ∙ goes-on (partitionTests p true) (textTest (length (displayText p)) room ∷ []) refl t e z

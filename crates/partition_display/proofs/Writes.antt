@@ -7,7 +7,7 @@ use mathlib.Core.List.{List, [], _∷_, _++_}
 use lib.ListN.{length, set, drop, length-append}
 use lib.Seq.{sets, sets-eq, set-out, length-sets}
 use Rattle.columns.specs.Columns.{over}
-use Rattle.partition_display.specs.Display.{separator, joined}
+use Rattle.partition_display.specs.Display.{separator, separated}
 use Rattle.partition_display.specs.Writing.{Wrote}
 
 sets-append : (s t l : List ℕ) (i : ℕ) → sets (sets l i s) (i + length s) t ≡ sets l i (s ++ t)
@@ -52,21 +52,21 @@ wrote-length {l} {m} {s} {i} w = ap length (w .text) ∙ length-sets l i s
 module _ (f : ℕ → List ℕ) where
   -- its invariant: k of n texts are written, each with its separator at most `most` bytes
   abbrev pub Joining : ℕ → ℕ → List ℕ → ℕ → List ℕ → ℕ → ℕ → Type 0
-  Joining most n l i m j k = (k ≤ n) × ((j ≤ i + most * k) × Wrote l i (joined k f) m j)
+  Joining most n l i m j k = (k ≤ n) × ((j ≤ i + most * k) × Wrote l i (separated k f) m j)
 
-  pub joined-none : (l : List ℕ) (i : ℕ) → Wrote l i (joined 0 f) l i
-  unfolding joined
-  joined-none l i = wrote-none l i
+  pub separated-none : (l : List ℕ) (i : ℕ) → Wrote l i (separated 0 f) l i
+  unfolding separated
+  separated-none l i = wrote-none l i
 
-  pub joined-more :
-      (k : ℕ) {l m m' m'' : List ℕ} {i j j' j'' : ℕ} → Wrote l i (joined k f) m j → Wrote m j (separator k) m' j' →
+  pub separated-more :
+      (k : ℕ) {l m m' m'' : List ℕ} {i j j' j'' : ℕ} → Wrote l i (separated k f) m j → Wrote m j (separator k) m' j' →
       Wrote m' j' (f k) m'' j''
-      → Wrote l i (joined (k + 1) f) m'' j''
-  unfolding joined
-  joined-more k a s b = rw add-one (wrote-then (wrote-then a s) b)
+      → Wrote l i (separated (k + 1) f) m'' j''
+  unfolding separated
+  separated-more k a s b = rw add-one (wrote-then (wrote-then a s) b)
 
   -- with a text before them, and one behind
-  pub joined-done :
-      (k n : ℕ) {l m m' m'' s t : List ℕ} {i j j' j'' : ℕ} → Wrote l i s m j → Wrote m j (joined k f) m' j' → Wrote m' j' t m'' j'' → k ≡ n
-      → Wrote l i (s ++ joined n f ++ t) m'' j''
-  joined-done k n a w b e = rw (← e) (wrote-then (wrote-then a w) b)
+  pub separated-done :
+      (k n : ℕ) {l m m' m'' s t : List ℕ} {i j j' j'' : ℕ} → Wrote l i s m j → Wrote m j (separated k f) m' j'
+      → Wrote m' j' t m'' j'' → k ≡ n → Wrote l i (s ++ separated n f ++ t) m'' j''
+  separated-done k n a w b e = rw (← e) (wrote-then (wrote-then a w) b)

@@ -7,10 +7,11 @@ use lib.ListN.{length, getD}
 use lib.Dec.{ltb, leb, eqb}
 use Rattle.columns.specs.Limits.{noRoom}
 use Rattle.columns.specs.declared.answers.Refusal.{Refusal}
-use Rattle.columns.specs.Answers.{Said, refusal, none, unless, leaving}
+use Rattle.columns.specs.Due.{Test, test, due}
+use Rattle.columns.specs.Answers.{Said, leaving}
 use Rattle.columns.specs.Columns.{over}
-use Rattle.partition.specs.Partition.{Partition}
-use Rattle.partition.specs.Checks.{checked}
+use Rattle.partition.specs.Partition.{Partition, longb, consistentb}
+use Rattle.partition.specs.Checks.{partitionTests}
 
 -- the digit of x that counts units of this size; a number below the unit has none
 unfoldable pub digit : ℕ → ℕ → List ℕ
@@ -31,33 +32,37 @@ unfoldable pub separator : ℕ → List ℕ
 separator k = cond (eqb k 0) [] (44 ∷ 32 ∷ [])
 
 -- the texts f 0, f 1, .., f (n - 1), with separators
-unfoldable pub joined : ℕ → (ℕ → List ℕ) → List ℕ
+unfoldable pub separated : ℕ → (ℕ → List ℕ) → List ℕ
 unfolding separator
-joined zero f = []
-joined (suc n) f = joined n f ++ separator n ++ f n
+separated zero f = []
+separated (suc n) f = separated n f ++ separator n ++ f n
 
 abbrev pub braced : List ℕ → List ℕ
 braced l = (123 ∷ []) ++ l ++ (125 ∷ [])
 
 -- the block of the places from `from` to `to`
 unfoldable pub blockText : List ℕ → ℕ → ℕ → ℕ → List ℕ
-unfolding joined elementText
-blockText elements from split to = braced (joined (to - from) (λ i. elementText elements split (from + i)))
+unfolding separated elementText
+blockText elements from split to = braced (separated (to - from) (λ i. elementText elements split (from + i)))
 
 -- the blocks of the table, in order
 unfoldable pub blocksText : List ℕ → List ℕ → List ℕ → List ℕ → ℕ → List ℕ
-unfolding joined blockText
+unfolding separated blockText
 blocksText elements begin split end count =
-    braced (joined count (λ b. blockText elements (getD begin b 0) (getD split b 0) (getD end b 0)))
+    braced (separated count (λ b. blockText elements (getD begin b 0) (getD split b 0) (getD end b 0)))
 
 unfoldable pub displayText : Partition → List ℕ
 unfolding blocksText
 displayText p = blocksText (p .elements) (p .begin) (p .marked-split) (p .end) (p .count)
 
--- 1, 7, 14; then 16 with the number of bytes needed
+-- 16 with the number of bytes needed
+abbrev pub textTest : ℕ → ℕ → Test
+textTest needed room = test (leb needed room) noRoom needed
+
+-- 1, 7, 14, 16
 unfoldable pub displayRefusal : Partition → ℕ → Refusal
-unfolding checked displayText
-displayRefusal p room = checked p true (unless (leb (length (displayText p)) room) (refusal noRoom (length (displayText p))) none)
+unfolding due longb consistentb displayText
+displayRefusal p room = due (partitionTests p true ++ (textTest (length (displayText p)) room ∷ []))
 
 -- the text over the first bytes, and its length as the answer
 unfoldable pub displayed : Partition → List ℕ → Said × List ℕ

@@ -1,4 +1,4 @@
--- What the writers leave, and what they go by.
+-- What the writers leave, and what they ask for: what the proofs go by, nothing that a contract of an operation says.
 use Prim.Native.Nat.{ℕ, _+_, _≤_, _<_}
 use mathlib.Core.List.{List}
 use mathlib.Core.Path.{_≡_}

@@ -1,6 +1,6 @@
 // The text of a partition, as `{{2, 3, 0*}, {1}}`: the blocks in order, in each its elements in order, and a star after a
 // marked one.
-mod writers;
+pub mod writers;
 
 ghost use mathlib.Core.Path.{_≡_};
 ghost use Rattle.columns.specs.Answers.{saidNumber};
@@ -11,10 +11,9 @@ use crate::writers::write_blocks;
 use columns::answers::NumberAnswer;
 use columns::answers::Refusal;
 use columns::answers::number;
-use columns::answers::refuse;
 use columns::answers::refusing_number;
+use columns::checks::refuse_unless;
 use columns::limits::NO_ROOM;
-use columns::limits::NONE;
 use partition::checks::check;
 use partition_calls::BlockPartition;
 
@@ -50,10 +49,7 @@ fn display_refusal(
     // Written where there is no room, the text is only measured.
     let mut nowhere = [0u8; 1];
     let needed = write_blocks(count, elements, begin, marked_split, end, &mut nowhere);
-    if room < needed {
-        return refuse(NO_ROOM, needed as u64);
-    }
-    refuse(NONE, 0)
+    refuse_unless(needed <= room, NO_ROOM, needed as u64)
 }
 
 // Writes the text over the first bytes of `text` and answers how many they are.

@@ -15,7 +15,7 @@ use Rattle.columns.proofs.Bools.{cases, contra}
 use Rattle.columns.proofs.Inverses.{other-way}
 use Rattle.columns.proofs.Stores.{stores-hit, stores-miss, length-stores}
 use Rattle.partition_passes.specs.Passes.{homeBy}
-use Rattle.partition_division.specs.Divide.{start, place, unmarkedIn, home, divided}
+use Rattle.partition_division.specs.Divide.{start, position, unmarkedIn, home, divided}
 use Rattle.partition_division.specs.Marked.{markedIn, missing, denseb}
 use Rattle.partition.specs.Partition.{Partition, Consistent, Long, Within, Lies}
 use Rattle.partition_division.proofs.Marked.{
@@ -235,16 +235,16 @@ module _ (p : Partition) (b : ℕ) (v : List ℕ) (h : Consistent p) (g : Long p
 
   -- ---- the states' cells
   module _ (s : ℕ) (w : s < p .n) where
-    pub offset-marked : markedIn p b s ≡ true → getD (divided p b v .element-offset) s 0 ≡ place p b v s
+    pub offset-marked : markedIn p b s ≡ true → getD (divided p b v .element-offset) s 0 ≡ position p b v s
     unfolding divided
     offset-marked y =
-        stores-hit (markedIn p b) (λ s. s) (place p b v) (p .n) (p .element-offset) s (place p b v s) s (omega (arith, g .element-offset)) w
-        y refl
-        (λ t _ _ q. ap (place p b v) q)
+        stores-hit (markedIn p b) (λ s. s) (position p b v) (p .n) (p .element-offset) s (position p b v s) s
+        (omega (arith, g .element-offset)) w y refl
+        (λ t _ _ q. ap (position p b v) q)
 
     pub offset-kept : markedIn p b s ≡ false → getD (divided p b v .element-offset) s 0 ≡ getD (p .element-offset) s 0
     unfolding divided
-    offset-kept y = stores-miss (markedIn p b) (λ s. s) (place p b v) (p .n) (p .element-offset) s
+    offset-kept y = stores-miss (markedIn p b) (λ s. s) (position p b v) (p .n) (p .element-offset) s
         (λ t _ z q. contra (ap (markedIn p b) (sym q) ∙ z) y)
 
     pub block-marked : markedIn p b s ≡ true → getD (divided p b v .element-to-block) s 0 ≡ home p b (getD v s 0)
@@ -259,17 +259,17 @@ module _ (p : Partition) (b : ℕ) (v : List ℕ) (h : Consistent p) (g : Long p
     block-kept y = stores-miss (markedIn p b) (λ s. s) (λ s. home p b (getD v s 0)) (p .n) (p .element-to-block) s
         (λ t _ z q. contra (ap (markedIn p b) (sym q) ∙ z) y)
 
-    element-marked : markedIn p b s ≡ true → getD (divided p b v .elements) (place p b v s) 0 ≡ s
+    element-marked : markedIn p b s ≡ true → getD (divided p b v .elements) (position p b v s) 0 ≡ s
     unfolding divided
     element-marked y =
-        stores-hit (markedIn p b) (place p b v) (λ s. s) (p .n) (p .elements) (place p b v s) s s
+        stores-hit (markedIn p b) (position p b v) (λ s. s) (p .n) (p .elements) (position p b v s) s s
         (omega (arith, place-most p b v h hb s w y, h .bounds b hb .most, g .elements)) w y refl
         (λ t wt z q. place-only p b v t s wt w z y q)
 
     element-kept : markedIn p b s ≡ false → getD (divided p b v .elements) (getD (p .element-offset) s 0) 0 ≡ s
     unfolding divided
     element-kept y =
-        stores-miss (markedIn p b) (place p b v) (λ s. s) (p .n) (p .elements) (getD (p .element-offset) s 0)
+        stores-miss (markedIn p b) (position p b v) (λ s. s) (p .n) (p .elements) (getD (p .element-offset) s 0)
         (λ t wt z q.
         contra
         (marked-there p b v h hb s w (omega (arith, q, place-least p b v t wt z)) (omega (arith, q, place-most p b v h hb t wt z)))
@@ -461,8 +461,9 @@ module _ (p : Partition) (b : ℕ) (v : List ℕ) (h : Consistent p) (g : Long p
           let o = offset-marked s ws y in
           absurd
           (m
-          (sym (owned p h j (place p b v s) (x .known) (omega (arith, f, bg, o)) (omega (arith, t, en, o)))
-          ∙ owned p h b (place p b v s) hb (omega (arith, h .bounds b hb .from, place-least p b v s ws y)) (place-most p b v h hb s ws y))))
+          (sym (owned p h j (position p b v s) (x .known) (omega (arith, f, bg, o)) (omega (arith, t, en, o)))
+          ∙ owned p h b (position p b v s) hb (omega (arith, h .bounds b hb .from, place-least p b v s ws y))
+          (place-most p b v h hb s ws y))))
           (λ (y : markedIn p b s ≡ false).
           let o = offset-kept s ws y in
           block-kept s ws y ∙ at-old j (x .known) (omega (arith, f, bg, o)) (omega (arith, t, en, o)))
@@ -493,8 +494,12 @@ module _ (p : Partition) (b : ℕ) (v : List ℕ) (h : Consistent p) (g : Long p
   unfolding divided
   divided-long =
       record {
-        elements = omega (arith, g .elements, length-stores (markedIn p b) (place p b v) (λ s. s) (p .n) (p .elements));
-        element-offset = omega (arith, g .element-offset, length-stores (markedIn p b) (λ s. s) (place p b v) (p .n) (p .element-offset));
+        elements = omega (arith, g .elements, length-stores (markedIn p b) (position p b v) (λ s. s) (p .n) (p .elements));
+        element-offset = omega (
+          arith,
+          g .element-offset,
+          length-stores (markedIn p b) (λ s. s) (position p b v) (p .n) (p .element-offset),
+        );
         element-to-block = omega (
           arith,
           g .element-to-block,

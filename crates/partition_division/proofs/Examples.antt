@@ -5,6 +5,7 @@ use mathlib.Core.List.{List, [], _∷_}
 use Rattle.columns.specs.Answers.{Said, done, leaving}
 use Rattle.columns.specs.Columns.{swapped, over, listed, written}
 use Rattle.columns.specs.Counting.{many, first, stores}
+use Rattle.columns.specs.Due.{due, allLong}
 use Rattle.columns.specs.Inverse.{inverseb, inverseAt}
 use Rattle.columns.specs.Tests.{all}
 use Rattle.partition.specs.Partition.{
@@ -18,25 +19,23 @@ use Rattle.partition.specs.Partition.{
   liesb,
   lengths,
   consistentb,
-  sixLong,
   longb,
 }
-use Rattle.partition.specs.Checks.{checked}
 use Rattle.partition.specs.SwapBlocks.{swap}
-use Rattle.partition_division.specs.Marked.{chosen, markedIn, numbered, below, absent, missing, denseb, lenAt}
+use Rattle.partition_division.specs.Marked.{markedFrom, markedIn, numbered, below, absent, missing, denseb, lenAt}
 use Rattle.partition_division.specs.Divide.{
   numberedBefore,
   start,
-  place,
+  position,
   unmarkedIn,
   home,
   divided,
   largest,
   largestOf,
-  unmarked,
+  blockUnmarked,
   partitionMarked,
 }
-use Rattle.partition_division.specs.Division.{Work, work, roomb, unfit, refusalFor, divisionRefusal, partitionMarkedWith}
+use Rattle.partition_division.specs.Division.{Work, work, roomb, refusalFor, divisionRefusal, partitionMarkedWith}
 
 abbrev pub four : ℕ → ℕ → ℕ → ℕ → List ℕ
 four a b c d = a ∷ b ∷ c ∷ d ∷ []
@@ -63,7 +62,7 @@ pub examples :
     )
     ∷ (done (0 ∷ 1 ∷ 3 ∷ []), (parts (four 2 3 1 0) (four 3 2 0 1) (four 2 1 0 0) (four 0 2 3 9) (four 2 3 4 9) (four 2 3 4 9) 4 3, five 0))
     ∷ [])
-unfolding partitionMarkedWith divisionRefusal refusalFor roomb unfit leaving checked consistentb longb sixLong inverseb inverseAt all
-    blocksb blockAt withinb liesb lieAt insideb lengths stores many first swap chosen markedIn numbered below absent missing denseb lenAt
-    numberedBefore start place unmarkedIn home divided largest largestOf unmarked partitionMarked
+unfolding partitionMarkedWith divisionRefusal refusalFor roomb leaving due consistentb longb allLong inverseb inverseAt all
+    blocksb blockAt withinb liesb lieAt insideb lengths stores many first swap markedFrom markedIn numbered below absent missing denseb
+    lenAt numberedBefore start position unmarkedIn home divided largest largestOf blockUnmarked partitionMarked
 examples = refl

@@ -3,9 +3,11 @@ pub mod Largest
 pub mod Divided
 pub mod Noting
 pub mod DivideLaws
+pub mod Layouts
 pub mod PartitionMarked
 pub mod Others
 pub mod Unfit
+pub mod Theorems
 pub mod Examples
 pub mod Sayings
 pub mod Determined

@@ -15,8 +15,9 @@ use Rattle.partition.specs.Partition.{Partition, Consistent, Long, Sound}
 use Rattle.partition.specs.SwapBlocks.{exchange, swap}
 use Rattle.partition.proofs.SwapKeeps.{swap-begin, swap-split, swap-end}
 use Rattle.partition.proofs.SwapLaws.{exchange-other}
-use Rattle.partition_division.specs.Marked.{markedIn, missing, denseb, lenAt, Ready}
-use Rattle.partition_division.specs.Divide.{place, unmarkedIn, home, divided, largestOf, unmarked, partitionMarked}
+use Rattle.partition_division.specs.Marked.{markedIn, missing, denseb, lenAt}
+use Rattle.partition_division.specs.Steps.{Dividable}
+use Rattle.partition_division.specs.Divide.{position, unmarkedIn, home, divided, largestOf, blockUnmarked, partitionMarked}
 use Rattle.partition_division.proofs.Marked.{place-least, place-most}
 use Rattle.partition_division.proofs.Divided.{
   home-where,
@@ -86,13 +87,13 @@ module _ (p : Partition) (b : ℕ) (v : List ℕ) (h : Consistent p) (g : Long p
               swap-end (divided p b v) OK LONG b l B l-known j ∙ ap (λ (x : ℕ). getD (divided p b v .end) x 0) (stays j w m)
               ∙ end-still p b v h g hb mk d j (away j w m) m;
           positions = λ k o.
-              stores-miss (markedIn p b) (place p b v) (λ s. s) (p .n) (p .elements) k
+              stores-miss (markedIn p b) (position p b v) (λ s. s) (p .n) (p .elements) k
               (λ s w y q.
               ⊎-elim (λ x. omega (arith, q, x, place-least p b v s w y)) (λ x. omega (arith, q, x, place-most p b v h hb s w y)) o);
         }
 
-  alone : OthersStay p b (unmarked p b)
-  unfolding unmarked
+  alone : OthersStay p b (blockUnmarked p b)
+  unfolding blockUnmarked
   alone =
       record {
         begins = λ j w m. refl;
@@ -101,7 +102,7 @@ module _ (p : Partition) (b : ℕ) (v : List ℕ) (h : Consistent p) (g : Long p
         positions = λ k o. refl;
       }
 
-module _ (p : Partition) (b : ℕ) (v : List ℕ) (y : Ready p b v) where
+module _ (p : Partition) (b : ℕ) (v : List ℕ) (y : Dividable p b v) where
   pub partitionMarked-others : OthersStay p b (partitionMarked p b v)
   partitionMarked-others =
       ⊎-elim (λ e. subst (OthersStay p b) (sym (by-one p b v y e))
@@ -111,7 +112,7 @@ module _ (p : Partition) (b : ℕ) (v : List ℕ) (y : Ready p b v) where
       (same-or-not (lenAt p b) 1)
 
   pub partitionMarked-sound : Sound (partitionMarked p b v)
-  unfolding unmarked divided swap
+  unfolding blockUnmarked divided swap
   partitionMarked-sound =
       record {
         small =
@@ -123,7 +124,7 @@ module _ (p : Partition) (b : ℕ) (v : List ℕ) (y : Ready p b v) where
 
   -- a lone state makes no block
   pub count-alone : lenAt p b ≡ 1 → partitionMarked p b v .count ≡ p .count
-  unfolding unmarked
+  unfolding blockUnmarked
   count-alone e = ap (λ (r : Partition). r .count) (by-one p b v y e)
 
   -- each number makes one where something is unmarked; where nothing is, number 0 keeps the index

@@ -13,11 +13,13 @@ use Rattle.columns.specs.Counting.{first}
 use Rattle.columns.specs.Tests.{all}
 use Rattle.columns.proofs.All.{same-or-not}
 use Rattle.columns.proofs.Bools.{cases, contra}
-use Rattle.partition_division.specs.Divide.{home, divided, largest, largestOf, unmarked, partitionMarked}
+use Rattle.partition_division.specs.Divide.{home, divided, largest, largestOf, blockUnmarked, partitionMarked}
 use Rattle.partition_passes.specs.Passes.{largestIn, lengthIn}
-use Rattle.partition_division.specs.Marked.{markedIn, missing, denseb, lenAt, Ready}
+use Rattle.partition_division.specs.Marked.{markedIn, missing, denseb, lenAt}
+use Rattle.partition_division.specs.Steps.{Dividable}
 use Rattle.partition.specs.Partition.{Partition, parts, Consistent, Long, Sound}
-use Rattle.partition.specs.SwapBlocks.{Blocks, blocksOf, withBlocks, exchange, swap, swapIn, Swappable}
+use Rattle.partition.specs.SwapBlocks.{exchange, swap}
+use Rattle.partition.specs.Cores.{Blocks, blocksOf, withBlocks, swapIn, Swappable}
 use Rattle.partition_division.proofs.Divided.{
   home-only,
   home-where,
@@ -201,6 +203,20 @@ module _ (p : Partition) (b : ℕ) (v : List ℕ) (h : Consistent p) (g : Long p
         ))
         (same-or-not j l)
 
+    -- of equals it is the last
+    r-last : (j : ℕ) → l < j → p .count ≤ j → j < r .count → lenAt r j < lenAt r b
+    r-last j a w w' =
+        let m : j ≡ b → ⊥ = λ e. omega (arith, e, hb, w) in
+        let m' : j ≡ l → ⊥ = λ e. omega (arith, e, a) in
+        let i : p .count + (j - p .count) ≡ j = omega (arith, w) in
+        omega (
+          arith,
+          len-swap b ∙ ap (lenAt q) (exchange-left b l b refl),
+          len-swap j ∙ ap (lenAt q) (exchange-other b l j m m'),
+          ap (lenAt q) i,
+          is-l .last (j - p .count) (omega (arith, w, w', r-count)) (omega (arith, a, w)),
+        )
+
     -- the old index and the new blocks are unmarked
     q-unmarked : (j : ℕ) → (j ≡ b) ⊎ (p .count ≤ j) → j < q .count → getD (q .marked-split) j 0 ≡ getD (q .end) j 0
     unfolding q divided
@@ -229,8 +245,8 @@ module _ (p : Partition) (b : ℕ) (v : List ℕ) (h : Consistent p) (g : Long p
         let x = there p h b s w e in
         marked-of p b v s e (omega (arith, a, mk, h .bounds b hb .from, x .0, x .1 .0))
 
-    alone-spread : Splits p b v (unmarked p b)
-    unfolding unmarked
+    alone-spread : Splits p b v (blockUnmarked p b)
+    unfolding blockUnmarked
     alone-spread =
         record {
           outside = λ s w m. refl;
@@ -241,8 +257,8 @@ module _ (p : Partition) (b : ℕ) (v : List ℕ) (h : Consistent p) (g : Long p
           apart = λ s t ws wt ys et yt e. contra (alone-marked t wt et) yt;
         }
 
-    alone-ok : Consistent (unmarked p b)
-    unfolding unmarked
+    alone-ok : Consistent (blockUnmarked p b)
+    unfolding blockUnmarked
     alone-ok =
         record {
           some = h .some;
@@ -266,8 +282,8 @@ module _ (p : Partition) (b : ℕ) (v : List ℕ) (h : Consistent p) (g : Long p
           whole = h .whole;
         }
 
-    alone-long : Long (unmarked p b)
-    unfolding unmarked
+    alone-long : Long (blockUnmarked p b)
+    unfolding blockUnmarked
     alone-long =
         record {
           elements = g .elements;
@@ -279,8 +295,9 @@ module _ (p : Partition) (b : ℕ) (v : List ℕ) (h : Consistent p) (g : Long p
         }
 
 alone-unmarked : (p : Partition) (b : ℕ) → Consistent p → Long p → b < p .count
-    → (j : ℕ) → (j ≡ b) ⊎ (p .count ≤ j) → j < unmarked p b .count → getD (unmarked p b .marked-split) j 0 ≡ getD (unmarked p b .end) j 0
-unfolding unmarked
+    → (j : ℕ) → (j ≡ b) ⊎ (p .count ≤ j) → j < blockUnmarked p b .count
+    → getD (blockUnmarked p b .marked-split) j 0 ≡ getD (blockUnmarked p b .end) j 0
+unfolding blockUnmarked
 alone-unmarked p b h g hb j w w' =
     ⊎-elim
     (λ (e : j ≡ b).
@@ -289,12 +306,12 @@ alone-unmarked p b h g hb j w w' =
     ∙ ap (λ (x : ℕ). getD (p .end) x 0) (sym e))
     (λ (e : p .count ≤ j). absurd (omega (arith, e, w'))) w
 
-nothing-new : (p : Partition) (b j : ℕ) → p .count ≤ j → j < unmarked p b .count → ⊥
-unfolding unmarked
+nothing-new : (p : Partition) (b j : ℕ) → p .count ≤ j → j < blockUnmarked p b .count → ⊥
+unfolding blockUnmarked
 nothing-new p b j w w' = omega arith
 
-module _ (p : Partition) (b : ℕ) (v : List ℕ) (y : Ready p b v) where
-  pub by-one : lenAt p b ≡ 1 → partitionMarked p b v ≡ unmarked p b
+module _ (p : Partition) (b : ℕ) (v : List ℕ) (y : Dividable p b v) where
+  pub by-one : lenAt p b ≡ 1 → partitionMarked p b v ≡ blockUnmarked p b
   unfolding partitionMarked
   by-one e = rw (eq-eqb (lenAt p b) 1 e)
 
@@ -352,18 +369,29 @@ module _ (p : Partition) (b : ℕ) (v : List ℕ) (y : Ready p b v) where
       (r-top p b v (y .sound .consistent) (y .sound .long) (y .known) (y .some) (y .dense m)))
       (same-or-not (lenAt p b) 1)
     where
-      none : lenAt p b ≡ 1 → (j : ℕ) → p .count ≤ j → j < unmarked p b .count → lenAt (unmarked p b) j ≤ lenAt (unmarked p b) b
+      none : lenAt p b ≡ 1 → (j : ℕ) → p .count ≤ j → j < blockUnmarked p b .count
+          → lenAt (blockUnmarked p b) j ≤ lenAt (blockUnmarked p b) b
       none e j w w' = absurd (nothing-new p b j w w')
 
+  -- and those behind the one that was the largest are smaller
+  pub partitionMarked-last :
+      (lenAt p b ≡ 1 → ⊥) → (j : ℕ) → largestOf p (divided p b v) b < j → p .count ≤ j → j < partitionMarked p b v .count
+      → lenAt (partitionMarked p b v) j < lenAt (partitionMarked p b v) b
+  unfolding r q l
+  partitionMarked-last m j a =
+      subst (λ (t : Partition). p .count ≤ j → j < t .count → lenAt t j < lenAt t b) (sym (by-more m))
+      (r-last p b v (y .sound .consistent) (y .sound .long) (y .known) (y .some) (y .dense m) j a)
+
 -- what the code has read and left is the definition
-module _ (p : Partition) (b : ℕ) (v : List ℕ) (y : Ready p b v) (x z : ℕ) (ex : x ≡ getD (p .begin) b 0) (ez : z ≡ getD (p .end) b 0) where
+module _ (p : Partition) (b : ℕ) (v : List ℕ) (y : Dividable p b v) (x z : ℕ) (ex : x ≡ getD (p .begin) b 0)
+    (ez : z ≡ getD (p .end) b 0) where
   pub read-length : z - x ≡ lenAt p b
   unfolding lenAt lengthIn
   read-length = omega (arith, ex, ez)
 
   pub core-one : z - x ≡ 1 → (s : List ℕ) → s ≡ set (p .marked-split) b z →
       parts (p .elements) (p .element-offset) (p .element-to-block) (p .begin) s (p .end) (p .n) (p .count) ≡ partitionMarked p b v
-  unfolding unmarked
+  unfolding blockUnmarked
   core-one e s es = ap (λ (w : List ℕ). parts (p .elements) (p .element-offset) (p .element-to-block) (p .begin) w (p .end) (p .n)
       (p .count)) (es ∙ ap (λ (w : ℕ). set (p .marked-split) b w) ez) ∙ sym (by-one p b v y (sym read-length ∙ e))
 

@@ -1,46 +1,33 @@
 -- Laws of the refusals 9 and 10, by what the code has read, and what holds where nothing is refused.
-use Prim.Native.Nat.{ℕ, _-_, _≤_, _<_}
+use Prim.Native.Nat.{ℕ, _+_, _-_, _≤_, _<_}
 use native.Mathlib.Omega.{arith}
 use borrow.Author.Tests.{ltb-true, leb-true, lt-ltb, le-ltb, eq-eqb, ne-eqb}
-use mathlib.Core.Bool.{Bool, true, false, cond, _&&_}
+use mathlib.Core.Bool.{Bool, true, false, cond, _||_}
 use mathlib.Core.Path.{_≡_, refl, ap, sym, _∙_}
-use mathlib.Core.List.{List}
+use mathlib.Core.List.{List, _∷_}
 use lib.ListN.{length, getD}
 use lib.Dec.{ltb, leb, eqb}
-use Rattle.columns.specs.Limits.{notDense, nothingMarked, outOfRange}
-use Rattle.columns.specs.Answers.{refusal, none, unless}
+use Rattle.columns.specs.Limits.{notDense, nothingMarked}
+use Rattle.columns.specs.declared.answers.Refusal.{Refusal}
+use Rattle.columns.specs.Answers.{refusal, none}
+use Rattle.columns.specs.Due.{due, indexTest, allLong}
 use Rattle.columns.specs.Counting.{first}
 use Rattle.columns.specs.Tests.{all}
 use Rattle.columns.proofs.Bools.{and-left, and-right}
-use Rattle.columns.proofs.Chains.{one}
+use Rattle.columns.proofs.Chains.{passed-both}
+use Rattle.columns.proofs.Rooms.{Roomy, roomy-of}
 use Rattle.partition.specs.Partition.{Partition}
+use Rattle.partition.specs.Checks.{partitionTests}
 use Rattle.partition.proofs.Refusals.{checked-of}
-use Rattle.partition_division.specs.Marked.{chosen, markedIn, numbered, absent, missing, denseb, lenAt, Ready}
-use Rattle.partition_passes.specs.Passes.{lengthIn, held}
-use Rattle.partition_division.specs.Division.{unfit, roomb, Work, refusalFor, divisionRefusal}
-
--- the other slices are long enough
-pub record Roomy (n v a b c : ℕ) : Type 0 where
-  pub numbers : n ≤ v
-  pub first : n < a
-  pub second : n < b
-  pub third : n < c
-
-pub room-of : (n v a b c : ℕ) → roomb n v a b c ≡ true → Roomy n v a b c
-unfolding roomb
-room-of n v a b c t =
-    let t1 = and-right (leb n v) (ltb n a && (ltb n b && ltb n c)) t in
-    let t2 = and-right (ltb n a) (ltb n b && ltb n c) t1 in
-    record {
-      numbers = leb-true n v (and-left (leb n v) (ltb n a && (ltb n b && ltb n c)) t);
-      first = ltb-true n a (and-left (ltb n a) (ltb n b && ltb n c) t1);
-      second = ltb-true n b (and-left (ltb n b) (ltb n c) t2);
-      third = ltb-true n c (and-right (ltb n b) (ltb n c) t2);
-    }
+use Rattle.partition_division.specs.Marked.{markedFrom, markedIn, numbered, absent, missing, denseb, lenAt}
+use Rattle.partition_division.specs.Steps.{Dividable}
+use Rattle.partition_passes.specs.Passes.{lengthIn}
+use Rattle.partition_passes.specs.Invariants.{tallied}
+use Rattle.partition_division.specs.Division.{unfitTests, roomb, refusalFor}
 
 module _ (p : Partition) (b : ℕ) (v : List ℕ) (m z : ℕ) (em : m ≡ getD (p .marked-split) b 0) (ez : z ≡ getD (p .end) b 0) where
-  pub unfit-nine : z ≤ m → refusal nothingMarked b ≡ unfit p b v
-  unfolding unfit
+  pub unfit-nine : z ≤ m → refusal nothingMarked b ≡ due (unfitTests p b v)
+  unfolding due
   unfit-nine h = rw (le-ltb (getD (p .marked-split) b 0) (getD (p .end) b 0) (omega (arith, em, ez)))
 
   module _ (mk : m < z) (x : ℕ) (ex : x ≡ getD (p .begin) b 0) where
@@ -51,62 +38,62 @@ module _ (p : Partition) (b : ℕ) (v : List ℕ) (m z : ℕ) (em : m ≡ getD (
     unfolding lenAt lengthIn
     length-is = omega (arith, ex, ez)
 
-    pub unfit-alone : z - x ≡ 1 → none ≡ unfit p b v
-    unfolding unfit
+    pub unfit-alone : z - x ≡ 1 → none ≡ due (unfitTests p b v)
+    unfolding due
     unfit-alone e = rw (some, eq-eqb (lenAt p b) 1 (sym length-is ∙ e))
 
     module _ (ne : z - x ≡ 1 → ⊥) (j : ℕ) (t : Bool)
-        (ej : j ≡ first (p .n) (λ k. eqb (held (chosen (p .element-offset) (p .element-to-block) b m) (λ s. getD v s 0) (p .n) k) 0))
-        (et : t ≡ all (p .n) (λ s. cond (chosen (p .element-offset) (p .element-to-block) b m s) (ltb (getD v s 0) j) true)) where
+        (ej : j ≡ first (p .n) (λ k. eqb (tallied (markedFrom (p .element-offset) (p .element-to-block) b m) (λ s. getD v s 0) (p .n) k) 0))
+        (et : t ≡ all (p .n) (λ s. cond (markedFrom (p .element-offset) (p .element-to-block) b m s) (ltb (getD v s 0) j) true)) where
       more : eqb (lenAt p b) 1 ≡ false
       more = ne-eqb (lenAt p b) 1 (λ e. ne (length-is ∙ e))
 
       j-is : j ≡ missing p b v
-      unfolding missing absent numbered markedIn held
+      unfolding missing absent numbered markedIn tallied
       j-is = ej ∙
-          ap (λ (y : ℕ). first (p .n) (λ k. eqb (held (chosen (p .element-offset) (p .element-to-block) b y) (λ s. getD v s 0) (p .n) k) 0))
+          ap
+          (λ (y : ℕ).
+          first (p .n) (λ k. eqb (tallied (markedFrom (p .element-offset) (p .element-to-block) b y) (λ s. getD v s 0) (p .n) k) 0))
           em
 
       t-is : t ≡ denseb p b v
       unfolding denseb markedIn
       t-is =
-          et ∙ ap (λ (y : ℕ). all (p .n) (λ s. cond (chosen (p .element-offset) (p .element-to-block) b y s) (ltb (getD v s 0) j) true)) em
-          ∙ ap (λ (y : ℕ). all (p .n) (λ s. cond (chosen (p .element-offset) (p .element-to-block) b (getD (p .marked-split) b 0) s)
+          et
+          ∙ ap (λ (y : ℕ). all (p .n) (λ s. cond (markedFrom (p .element-offset) (p .element-to-block) b y s) (ltb (getD v s 0) j) true)) em
+          ∙ ap (λ (y : ℕ). all (p .n) (λ s. cond (markedFrom (p .element-offset) (p .element-to-block) b (getD (p .marked-split) b 0) s)
           (ltb (getD v s 0) y) true)) j-is
 
-      pub unfit-dense : t ≡ true → none ≡ unfit p b v
-      unfolding unfit
+      pub unfit-dense : t ≡ true → none ≡ due (unfitTests p b v)
+      unfolding due
       unfit-dense e = rw (some, more, sym t-is ∙ e)
 
-      pub unfit-ten : t ≡ false → refusal notDense j ≡ unfit p b v
-      unfolding unfit
+      pub unfit-ten : t ≡ false → refusal notDense j ≡ due (unfitTests p b v)
+      unfolding due
       unfit-ten e = rw (some, more, sym t-is ∙ e, j-is)
 
 -- ---- what holds where nothing is refused
-dense-of : (a c : Bool) (x : ℕ) → cond a none (unless c (refusal notDense x) none) .number ≡ 0 → a ≡ false → c ≡ true
-dense-of true c x e q = absurd (Rattle.columns.proofs.Bools.contra refl q)
-dense-of false true x e q = refl
-dense-of false false x e q = absurd (omega arith)
+pub record DivisionReady (p : Partition) (b : ℕ) (v works : List ℕ) : Type 0 where
+  pub ready : Dividable p b v
+  pub numbers : p .n ≤ length v
+  pub rooms : Roomy (p .n + 1) works
 
-pub record DivisionReady (p : Partition) (b : ℕ) (v : List ℕ) (w : Work) : Type 0 where
-  pub ready : Ready p b v
-  pub room : Roomy (p .n) (length v) (length (w .old-elements)) (length (w .block-sizes)) (length (w .spare))
-
-pub division-ready : (p : Partition) (b : ℕ) (v : List ℕ) (w : Work) → divisionRefusal p b v w .number ≡ 0 → DivisionReady p b v w
-unfolding divisionRefusal refusalFor unfit
-division-ready p b v w e =
-    let r = roomb (p .n) (length v) (length (w .old-elements)) (length (w .block-sizes)) (length (w .spare)) in
-    let c = checked-of p r (unless (ltb b (p .count)) (refusal outOfRange b) (unfit p b v)) e in
-    let k = one (ltb b (p .count)) 8 b (unfit p b v) (λ q. omega arith) (c .rest) in
-    let m =
-    one (ltb (getD (p .marked-split) b 0) (getD (p .end) b 0)) 9 b
-    (cond (eqb (lenAt p b) 1) none (unless (denseb p b v) (refusal notDense (missing p b v)) none)) (λ q. omega arith) (k .1) in
+pub division-ready :
+    (p : Partition) (b : ℕ) (v works : List ℕ) (t : Refusal) → t ≡ refusalFor p b v works → t .number ≡ 0 → DivisionReady p b v works
+unfolding refusalFor roomb
+division-ready p b v works t e z =
+    let r = roomb (p .n) (length v) works in
+    let h = passed-both (partitionTests p r) (indexTest b (p .count) ∷ unfitTests p b v) refl t e z in
+    let c = checked-of p r (h .0) in
+    let l = leb (p .n) (length v) in
+    let w = allLong (p .n + 1) works in
     record {
       ready = record {
         sound = c .sound;
-        known = ltb-true _ _ (k .0);
-        some = ltb-true _ _ (m .0);
-        dense = λ n. dense-of (eqb (lenAt p b) 1) (denseb p b v) (missing p b v) (m .1) (ne-eqb (lenAt p b) 1 n);
+        known = ltb-true _ _ (h .1 .0);
+        some = ltb-true _ _ (h .1 .1 .0);
+        dense = λ n. sym (ap (λ (x : Bool). x || denseb p b v) (ne-eqb (lenAt p b) 1 n)) ∙ h .1 .1 .1 .0;
       };
-      room = room-of (p .n) (length v) (length (w .old-elements)) (length (w .block-sizes)) (length (w .spare)) (c .enough);
+      numbers = leb-true _ _ (and-left l w (c .enough));
+      rooms = roomy-of (p .n + 1) works (and-right l w (c .enough));
     }

@@ -1,22 +1,21 @@
 -- The marked states of a block and their numbers. p is the partition that is lent, b the block, v the column of the numbers.
-use Prim.Native.Nat.{ℕ, _+_, _-_, _<_}
-use mathlib.Core.Path.{_≡_}
+use Prim.Native.Nat.{ℕ}
 use mathlib.Core.Bool.{Bool, true, _&&_, cond}
 use mathlib.Core.List.{List}
 use lib.ListN.{getD}
 use lib.Dec.{ltb, leb, eqb}
 use Rattle.columns.specs.Tests.{all}
 use Rattle.columns.specs.Counting.{many, first}
-use Rattle.partition.specs.Partition.{Partition, Sound}
+use Rattle.partition.specs.Partition.{Partition}
 use Rattle.partition_passes.specs.Passes.{lengthIn}
 
--- state s is in block b, at position m or after it
-unfoldable pub chosen : List ℕ → List ℕ → ℕ → ℕ → ℕ → Bool
-chosen offset block b m s = eqb (getD block s 0) b && leb m (getD offset s 0)
+-- state s is a marked one of block b, whose marks begin at position m
+unfoldable pub markedFrom : List ℕ → List ℕ → ℕ → ℕ → ℕ → Bool
+markedFrom offset block b m s = eqb (getD block s 0) b && leb m (getD offset s 0)
 
 -- state s is a marked one of block b
 unfoldable pub markedIn : Partition → ℕ → ℕ → Bool
-markedIn p b s = chosen (p .element-offset) (p .element-to-block) b (getD (p .marked-split) b 0) s
+markedIn p b s = markedFrom (p .element-offset) (p .element-to-block) b (getD (p .marked-split) b 0) s
 
 -- state s is a marked one of block b, and its number is k; is below k
 unfoldable pub numbered : Partition → ℕ → List ℕ → ℕ → ℕ → Bool
@@ -40,10 +39,3 @@ denseb p b v = all (p .n) (λ s. cond (markedIn p b s) (ltb (getD v s 0) (missin
 unfoldable pub lenAt : Partition → ℕ → ℕ
 unfolding lengthIn
 lenAt p b = lengthIn (p .begin) (p .end) b
-
--- what a call may go by once it is checked: block b has a marked state, and its numbers are dense unless it is alone
-pub record Ready (p : Partition) (b : ℕ) (v : List ℕ) : Type 0 where
-  pub sound : Sound p
-  pub known : b < p .count
-  pub some : getD (p .marked-split) b 0 < getD (p .end) b 0
-  pub dense : (lenAt p b ≡ 1 → ⊥) → denseb p b v ≡ true

@@ -1,15 +1,16 @@
 // What `partition_marked_with` refuses. No work memory is touched: numbers are noted in a local array.
 ghost use mathlib.Core.Path.{_≡_};
-ghost use mathlib.Core.Bool.{Bool, true, cond};
-ghost use mathlib.Core.List.{List};
+ghost use mathlib.Core.Bool.{true, cond};
+ghost use mathlib.Core.List.{List, [], _∷_};
 ghost use Prim.Native.Nat.{ℕ, _≤_, _<_};
 ghost use lib.Dec.{eqb, ltb};
 ghost use lib.ListN.{length, getD, set};
+ghost use Rattle.columns.specs.Due.{due};
 ghost use Rattle.columns.specs.Counting.{first};
 ghost use Rattle.columns.specs.Tests.{all};
-ghost use Rattle.partition_division.specs.Marked.{chosen};
-ghost use Rattle.partition_passes.specs.Passes.{held};
-ghost use Rattle.partition_division.specs.Division.{roomb, unfit, refusalFor};
+ghost use Rattle.partition_division.specs.Marked.{markedFrom};
+ghost use Rattle.partition_passes.specs.Invariants.{tallied};
+ghost use Rattle.partition_division.specs.Division.{unfitTests, refusalFor};
 ghost use Rattle.columns.specs.Lent.{was, is};
 ghost use Rattle.partition.specs.Lent.{before};
 ghost use Rattle.partition.specs.Partition.{parts};
@@ -17,17 +18,17 @@ ghost use Rattle.columns.specs.Limits.{maxStates};
 use columns::answers::Refusal;
 use columns::answers::refuse;
 use columns::cells::at;
+use columns::checks::long;
 use columns::limits::MAX_STATES;
 use columns::limits::NONE;
 use columns::limits::NOT_DENSE;
 use columns::limits::NOTHING_MARKED;
-use columns::limits::OUT_OF_RANGE;
-use partition::checks::check;
+use partition::checks::argument_refusal;
 
-// Whether state s is in block b, at place m or after it.
-fn is_chosen(element_offset: &[u16], element_to_block: &[u16], b: usize, m: usize, s: usize) -> bool
+// Whether state s is a marked one of block b, whose marks begin at place m.
+fn is_marked(element_offset: &[u16], element_to_block: &[u16], b: usize, m: usize, s: usize) -> bool
     requires { ⌜ (s < length (now «element_offset»)) × (s < length (now «element_to_block»)) ⌝ }
-    ensures { λ r. ⌜ r ≡ chosen (was «element_offset») (was «element_to_block») b m s ⌝ }
+    ensures { λ r. ⌜ r ≡ markedFrom (was «element_offset») (was «element_to_block») b m s ⌝ }
 {
     if at(element_to_block, s) != b {
         return false;
@@ -49,7 +50,7 @@ fn note_one(n: usize, k: usize, seen: &mut [u16])
     }
 }
 
-// Notes which numbers below n the chosen states have, in cells that are 0.
+// Notes which numbers below n the marked states have, in cells that are 0.
 fn note(
     n: usize,
     element_offset: &[u16],
@@ -64,11 +65,11 @@ fn note(
     requires { ⌜ ((k : ℕ) → getD (now seen) k 0 ≡ 0) ⌝ }
     ensures { λ _.
         ⌜ ((k : ℕ) → k < n → eqb (getD (is seen) k 0) 0
-        ≡ eqb (held (chosen (was «element_offset») (was «element_to_block») b m) (λ s. getD (was numbers) s 0) n k) 0) ⌝ }
+        ≡ eqb (tallied (markedFrom (was «element_offset») (was «element_to_block») b m) (λ s. getD (was numbers) s 0) n k) 0) ⌝ }
 {
     let mut s = 0;
     while s < n {
-        if is_chosen(element_offset, element_to_block, b, m, s) {
+        if is_marked(element_offset, element_to_block, b, m, s) {
             note_one(n, at(numbers, s), &mut *seen);
         }
         s += 1;
@@ -90,7 +91,7 @@ fn first_zero(n: usize, a: &[u16]) -> usize
     k
 }
 
-// The least number that no chosen state has. It takes no work memory.
+// The least number that no marked state has. It takes no work memory.
 fn least_missing(
     n: usize,
     element_offset: &[u16],
@@ -102,7 +103,8 @@ fn least_missing(
     requires { ⌜ (n ≤ length (now «element_offset»)) × (n ≤ length (now «element_to_block»)) × (n ≤ length (now numbers))
         × (n ≤ maxStates) ⌝ }
     ensures { λ r.
-        ⌜ r ≡ first n (λ k. eqb (held (chosen (was «element_offset») (was «element_to_block») b m) (λ s. getD (was numbers) s 0) n k) 0) ⌝ }
+        let marked = markedFrom (was «element_offset») (was «element_to_block») b m in
+        ⌜ r ≡ first n (λ k. eqb (tallied marked (λ s. getD (was numbers) s 0) n k) 0) ⌝ }
 {
     let mut seen = [0u16; MAX_STATES];
     note(
@@ -117,7 +119,7 @@ fn least_missing(
     first_zero(n, &seen)
 }
 
-// Whether state s has a number below k, if it is chosen.
+// Whether state s has a number below k, if it is marked.
 fn below_at(
     element_offset: &[u16],
     element_to_block: &[u16],
@@ -128,15 +130,15 @@ fn below_at(
     numbers: &[u16],
 ) -> bool
     requires { ⌜ (s < length (now «element_offset»)) × (s < length (now «element_to_block»)) × (s < length (now numbers)) ⌝ }
-    ensures { λ r. ⌜ r ≡ cond (chosen (was «element_offset») (was «element_to_block») b m s) (ltb (getD (was numbers) s 0) k) true ⌝ }
+    ensures { λ r. ⌜ r ≡ cond (markedFrom (was «element_offset») (was «element_to_block») b m s) (ltb (getD (was numbers) s 0) k) true ⌝ }
 {
-    if !is_chosen(element_offset, element_to_block, b, m, s) {
+    if !is_marked(element_offset, element_to_block, b, m, s) {
         return true;
     }
     if at(numbers, s) < k { true } else { false }
 }
 
-// Whether every chosen state has a number below k.
+// Whether every marked state has a number below k.
 fn all_below(
     n: usize,
     element_offset: &[u16],
@@ -148,7 +150,7 @@ fn all_below(
 ) -> bool
     requires { ⌜ (n ≤ length (now «element_offset»)) × (n ≤ length (now «element_to_block»)) × (n ≤ length (now numbers)) ⌝ }
     ensures { λ r.
-        ⌜ r ≡ all n (λ s. cond (chosen (was «element_offset») (was «element_to_block») b m s) (ltb (getD (was numbers) s 0) k) true) ⌝ }
+        ⌜ r ≡ all n (λ s. cond (markedFrom (was «element_offset») (was «element_to_block») b m s) (ltb (getD (was numbers) s 0) k) true) ⌝ }
 {
     let mut s = 0;
     while s < n {
@@ -158,22 +160,6 @@ fn all_below(
         s += 1;
     }
     true
-}
-
-// Whether the other slices are long enough: numbers for n states, n + 1 cells of work each.
-fn room(n: usize, v: usize, a: usize, b: usize, c: usize) -> bool
-    ensures { λ r. ⌜ r ≡ roomb n v a b c ⌝ }
-{
-    if v < n {
-        return false;
-    }
-    if a <= n {
-        return false;
-    }
-    if b <= n {
-        return false;
-    }
-    if c <= n { false } else { true }
 }
 
 // 9 or 10, the first that is due, for block b of columns that are checked, whatever the elements are.
@@ -193,8 +179,9 @@ fn unfit_refusal(
         × (n ≤ maxStates) ⌝ }
     ensures { λ r.
         ⌜ ((elements : List ℕ) (count : ℕ)
-        → r ≡ unfit (parts elements (was «element_offset») (was «element_to_block») (was begin) (was «marked_split») (was end) n count) b
-        (was numbers)) ⌝ }
+        → r ≡ due (unfitTests
+        (parts elements (was «element_offset») (was «element_to_block») (was begin) (was «marked_split») (was end) n count) b
+        (was numbers))) ⌝ }
 {
     let m = at(marked_split, b);
     let z = at(end, b);
@@ -228,12 +215,13 @@ pub fn division_refusal(
     block_sizes: usize,
     spare: usize,
 ) -> Refusal
+    requires { ⌜ n < 65536 ⌝ }
     ensures { λ r.
         let given = before elements «element_offset» «element_to_block» begin «marked_split» end n count in
-        ⌜ r ≡ refusalFor given b (was numbers) «old_elements» «block_sizes» spare ⌝ }
+        ⌜ r ≡ refusalFor given b (was numbers) («old_elements» ∷ «block_sizes» ∷ spare ∷ []) ⌝ }
 {
-    let v = numbers.len();
-    let t = check(
+    let works = long(n + 1, &[old_elements, block_sizes, spare]);
+    let t = argument_refusal(
         n,
         count,
         elements,
@@ -242,14 +230,13 @@ pub fn division_refusal(
         begin,
         marked_split,
         end,
-        room(n, v, old_elements, block_sizes, spare),
+        b,
+        count,
+        (n <= numbers.len()) & works,
     );
     let number = t.number;
     if number != 0 {
         return t;
-    }
-    if count <= b {
-        return refuse(OUT_OF_RANGE, b as u64);
     }
     unfit_refusal(
         n,

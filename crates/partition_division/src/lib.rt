@@ -1,6 +1,7 @@
 // `partition_marked_with` (block_partition.rs): the marked states of a block, divided by number.
 ghost use mathlib.Core.Path.{_≡_};
-ghost use Rattle.partition_division.specs.Division.{saidDivision, countAfter, work, partitionMarkedWith};
+ghost use Rattle.partition_division.specs.Division.{saidDivision, work, partitionMarkedWith};
+ghost use Rattle.partition_calls.specs.Saying.{countSaid};
 ghost use Rattle.columns.specs.Lent.{was, is, Cleared};
 ghost use Rattle.partition.specs.Lent.{before, after};
 
@@ -49,7 +50,7 @@ pub fn partition_marked_with(
     ensures { λ r.
         let given = before elements «element_offset» «element_to_block» begin «marked_split» end (partition .n) (partition .count) in
         let left = after elements «element_offset» «element_to_block» begin «marked_split» end (partition .n)
-        (countAfter r (partition .count)) in
+        (countSaid (saidDivision r) (partition .count)) in
         ⌜ (saidDivision r, (left, work (is «old_elements») (is «block_sizes») (is spare)))
         ≡ partitionMarkedWith given «block_index» (was numbers) (work (was «old_elements») (was «block_sizes») (was spare)) ⌝ }
 {

@@ -5,22 +5,25 @@ use borrow.Author.Tests.{eqb-true}
 use mathlib.Core.Bool.{Bool, true, false, cond, _&&_}
 use mathlib.Core.Logic.{_⊎_, ⊎-elim}
 use mathlib.Core.Path.{_≡_, refl, ap, sym, _∙_}
-use mathlib.Core.List.{List, [], map}
-use lib.Dec.{ltb, eqb}
+use mathlib.Core.List.{List, [], _∷_, map}
+use lib.Dec.{eqb}
 use lib.ListN.{length, getD, take, length-map}
 use lib.Seq.{getD-take, length-take-le, take-all}
-use Rattle.columns.specs.Limits.{inconsistent, maxStates, outOfRange, tooShort, wrongStates}
+use Rattle.columns.specs.Limits.{inconsistent, maxStates, tooShort, wrongStates}
 use Rattle.columns.specs.declared.answers.Refusal.{Refusal}
-use Rattle.columns.specs.Answers.{Said, done, refused, refusal, none, unless, leaving}
+use Rattle.columns.specs.Answers.{Said, done, refused, refusal, leaving}
+use Rattle.columns.specs.Due.{test, due, inRange, indexTest}
 use Rattle.columns.proofs.All.{lt-or-le}
 use Rattle.columns.proofs.Bools.{bool-ext}
+use Rattle.columns.proofs.Rooms.{range-high}
 use Rattle.partition.specs.declared.block.Block.{Block}
-use Rattle.partition.specs.Checks.{sizeb, blocksRefusal}
+use Rattle.partition.specs.Checks.{blocksRefusal}
 use Rattle.partition.specs.Partition.{Partition, parts, Long, Consistent, Within, Lies, lengths, consistentb, longb}
 use Rattle.partition.specs.SwapBlocks.{swap, swapBlocks}
 use Rattle.partition.proofs.Holds.{long-of, of-long, consistent-of, of-consistent}
-use Rattle.partition.proofs.Refusals.{size-high, blocks-ready}
-use Rattle.partition_records.specs.Records.{begins, splits, ends, lent, noBlock, exchanged, went, swapNumbers, swapRecords}
+use Rattle.partition.proofs.Refusals.{blocks-ready}
+use Rattle.partition_records.specs.Records.{begins, splits, ends, lent, noBlock, exchanged, swapRecords}
+use Rattle.partition_records.specs.Tables.{went, swapNumbers}
 use Rattle.partition_records.proofs.Fields.{field-at, take-map}
 
 -- ---- two lists with the same first n records
@@ -88,21 +91,21 @@ module _ (e o b : List ℕ) (n count : ℕ) where
   module _ (l r : ℕ) where
     abbrev chain : Bool → Bool → Bool → Refusal
     chain size long consistent =
-        unless size (refusal wrongStates 0)
-        (unless (long && true) (refusal tooShort 0)
-        (unless consistent (refusal inconsistent 0) (unless (ltb l count) (refusal outOfRange l)
-        (unless (ltb r count) (refusal outOfRange r) none))))
+        due
+        (test size wrongStates 0 ∷ test (long && true) tooShort 0 ∷ test consistent inconsistent 0 ∷ indexTest l count ∷ indexTest r
+        count ∷ [])
 
     abbrev P : List Block → Partition
     P bs = lent e o b bs n count
 
-    chain-of : (bs : List Block) → blocksRefusal (P bs) l r ≡ chain (sizeb n) (longb (P bs)) (consistentb (P bs))
+    chain-of : (bs : List Block) → blocksRefusal (P bs) l r ≡ chain (inRange 1 n maxStates) (longb (P bs)) (consistentb (P bs))
     unfolding blocksRefusal
     chain-of bs = refl
 
     -- n is out of its range
     chain-high : maxStates < n → (bs : List Block) → blocksRefusal (P bs) l r ≡ refusal wrongStates 0
-    chain-high h bs = chain-of bs ∙ ap (λ (s : Bool). chain s (longb (P bs)) (consistentb (P bs))) (size-high n h)
+    unfolding due
+    chain-high h bs = chain-of bs ∙ ap (λ (s : Bool). chain s (longb (P bs)) (consistentb (P bs))) (range-high 1 n maxStates h)
 
     chain-alike : (bs cs : List Block) → ((k : ℕ) → k < n → getD bs k noBlock ≡ getD cs k noBlock) → n ≤ length bs → n ≤ length cs
         → blocksRefusal (P bs) l r ≡ blocksRefusal (P cs) l r
@@ -113,7 +116,7 @@ module _ (e o b : List ℕ) (n count : ℕ) where
         let sound : consistentb (P bs) ≡ consistentb (P cs) = bool-ext (consistentb (P bs)) (consistentb (P cs))
         (λ t. of-consistent (P cs) (consistent-alike bs cs f (consistent-of (P bs) t)))
         (λ t. of-consistent (P bs) (consistent-alike cs bs g (consistent-of (P cs) t))) in
-        chain-of bs ∙ (λ i. chain (sizeb n) (long i) (sound i)) ∙ sym (chain-of cs)
+        chain-of bs ∙ (λ i. chain (inRange 1 n maxStates) (long i) (sound i)) ∙ sym (chain-of cs)
 
     -- the list's first m records, all of them or as many as there may be blocks, are refused as it is
     refused-alike : (bs : List Block) (m : ℕ) → m ≤ length bs → (m ≡ length bs) ⊎ (m ≡ maxStates)

@@ -61,17 +61,17 @@ module _ (i j : ℕ) (bs : List Block) where
   ends-exchanged = field-exchanged (λ (b : Block). b .end) refl i j bs
 
 -- ---- the first i of xs over the front of t
-abbrev pub laid : List Block → List Block → ℕ → List Block
-laid xs t i = take i xs ++ drop i t
+abbrev pub laidRecords : List Block → List Block → ℕ → List Block
+laidRecords xs t i = take i xs ++ drop i t
 
 module _ (xs t : List Block) (i : ℕ) where
-  pub length-laid : i ≤ length xs → i ≤ length t → length (laid xs t i) ≡ length t
+  pub length-laid : i ≤ length xs → i ≤ length t → length (laidRecords xs t i) ≡ length t
   length-laid h w = length-front t (take i xs) i (length-take-le i xs h ∙ sym (length-take-le i t w))
 
-  pub laid-front : i ≤ length xs → take i (laid xs t i) ≡ take i xs
+  pub laid-front : i ≤ length xs → take i (laidRecords xs t i) ≡ take i xs
   laid-front h = take-at (take i xs) (drop i t) i (length-take-le i xs h)
 
-  pub laid-more : i < length xs → i < length t → set (laid xs t i) i (getD xs i noBlock) ≡ laid xs t (i + 1)
+  pub laid-more : i < length xs → i < length t → set (laidRecords xs t i) i (getD xs i noBlock) ≡ laidRecords xs t (i + 1)
   laid-more h w =
       rw (
         add-one,

@@ -1,2 +1,3 @@
 pub mod Unmark
 pub mod Records
+pub mod Tables

@@ -1,10 +1,8 @@
 -- A partition whose block table is a list of block records, and what `swap_blocks` says and leaves of it.
 use Prim.Native.Nat.{ℕ}
-use mathlib.Core.Bool.{Bool, true, false}
-use mathlib.Core.List.{List, [], map, _++_}
-use lib.ListN.{getD, set, take, drop, replicate}
-use Rattle.columns.specs.Limits.{maxStates}
-use Rattle.columns.specs.Answers.{Said, done, refused, leaving}
+use mathlib.Core.List.{List, [], map}
+use lib.ListN.{getD, set}
+use Rattle.columns.specs.Answers.{Said, leaving}
 use Rattle.partition.specs.declared.block.Block.{Block}
 use Rattle.partition.specs.Checks.{blocksRefusal}
 use Rattle.partition.specs.Partition.{Partition, parts}
@@ -27,21 +25,6 @@ lent e o b bs n count = parts e o b (begins bs) (splits bs) (ends bs) n count
 abbrev pub noBlock : Block
 noBlock = record { begin = 0; «marked_split» = 0; end = 0 }
 
-unfoldable pub blank : List Block
-blank = replicate maxStates noBlock
-
--- whether what is said is that the call was done
-unfoldable pub went : Said → Bool
-went (done values) = true
-went (refused number place) = false
-
--- what the column form says of the records' fields, and the numbers that it leaves
-unfoldable pub swapNumbers : List ℕ → List ℕ → List ℕ → List Block → ℕ → ℕ → ℕ → ℕ → Said × List ℕ
-unfolding leaving blocksRefusal swap
-swapNumbers e o b bs n count l r =
-    let p = lent e o b bs n count in
-    leaving (blocksRefusal p l r) b [] (swap p l r .element-to-block)
-
 -- the records i and j exchanged
 unfoldable pub exchanged : ℕ → ℕ → List Block → List Block
 exchanged i j bs = set (set bs i (getD bs j noBlock)) j (getD bs i noBlock)
@@ -52,10 +35,3 @@ unfolding leaving blocksRefusal swap exchanged
 swapRecords e o b bs n count l r =
     let p = lent e o b bs n count in
     leaving (blocksRefusal p l r) (b, bs) [] (swap p l r .element-to-block, exchanged l r bs)
-
--- the same on the first len records of a table; those behind stay
-unfoldable pub swapFirst : List ℕ → List ℕ → List ℕ → List Block → ℕ → ℕ → ℕ → ℕ → ℕ → Said × (List ℕ × List Block)
-unfolding swapRecords
-swapFirst e o b t len n count l r =
-    let s = swapRecords e o b (take len t) n count l r in
-    (s .0, (s .1 .0, s .1 .1 ++ drop len t))

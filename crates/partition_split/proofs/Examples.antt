@@ -2,6 +2,7 @@
 use mathlib.Core.Path.{_≡_, refl}
 use mathlib.Core.List.{[], _∷_}
 use Rattle.columns.specs.Answers.{done}
+use Rattle.columns.specs.Due.{allLong}
 use Rattle.columns.specs.Counting.{stores}
 use Rattle.columns.specs.Inverse.{inverseb, inverseAt}
 use Rattle.columns.specs.Tests.{all}
@@ -16,7 +17,6 @@ use Rattle.partition.specs.Partition.{
   liesb,
   lengths,
   consistentb,
-  sixLong,
   longb,
 }
 use Rattle.partition_split.specs.Split.{splitMarked}
@@ -37,5 +37,5 @@ turned = parts (1 ∷ 2 ∷ 0 ∷ []) (2 ∷ 0 ∷ 1 ∷ []) (0 ∷ 0 ∷ 0 ∷ 
 pub examples :
     (splitMarked three 0 (1 ∷ 0 ∷ 0 ∷ []) ∷ splitMarked three 0 (1 ∷ 1 ∷ 1 ∷ []) ∷ [])
     ≡ ((done (2 ∷ []), parted) ∷ (done (1 ∷ []), turned) ∷ [])
-unfolding splitMarked consistentb longb sixLong inverseb inverseAt all blocksb blockAt withinb liesb lieAt insideb lengths stores
+unfolding splitMarked consistentb longb allLong inverseb inverseAt all blocksb blockAt withinb liesb lieAt insideb lengths stores
 examples = refl

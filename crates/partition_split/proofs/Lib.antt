@@ -7,5 +7,6 @@ pub mod Homes
 pub mod Marking
 pub mod Steps
 pub mod Answering
+pub mod Theorems
 pub mod Examples
 pub mod Determined

@@ -63,7 +63,7 @@ module _ (p : Partition) (g : Sound p) (b : ℕ) (w : b < p .count) (c : List �
       made = sym made-at ∙ parts-both p b e (λ q. nz (q ∙ sym ez)) (λ q. eqb-false e x nx (q ∙ sym ex))
 
       -- the cut is inside the block, and there is room for one block more
-      pub record Ready : Type 0 where
+      pub record Cuttable : Type 0 where
         pub from : x < e
         pub to : e < z
         pub small : z < 65536
@@ -71,7 +71,7 @@ module _ (p : Partition) (g : Sound p) (b : ℕ) (w : b < p .count) (c : List �
         pub known : (k : ℕ) → k < z → getD l k 0 < length (p .element-to-block)
         pub long : z ≤ length l
 
-      pub cut-ready : Ready
+      pub cut-ready : Cuttable
       unfolding reordered
       cut-ready =
           let a = apart p b c g w made in

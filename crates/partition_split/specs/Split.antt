@@ -3,14 +3,12 @@ use Prim.Native.Nat.{ℕ, zero, suc, _+_, _-_}
 use mathlib.Core.Bool.{Bool, not, _&&_, cond}
 use mathlib.Core.List.{List, [], _∷_}
 use lib.ListN.{length, getD, set}
-use lib.Dec.{ltb, leb, eqb}
-use Rattle.columns.specs.Limits.{outOfRange}
-use Rattle.columns.specs.declared.answers.NumberAnswer.{NumberAnswer}
+use lib.Dec.{leb, eqb}
 use Rattle.columns.specs.declared.answers.Refusal.{Refusal}
-use Rattle.columns.specs.Answers.{Said, done, refused, saidNumber, refusal, none, unless, leaving}
+use Rattle.columns.specs.Answers.{Said, leaving}
 use Rattle.columns.specs.Columns.{swapped}
 use Rattle.columns.specs.Inverse.{swappedInverse}
-use Rattle.partition.specs.Checks.{checked}
+use Rattle.partition.specs.Checks.{argumentRefusal}
 use Rattle.partition.specs.Partition.{Partition}
 use Rattle.partition.specs.Readers.{unmarkedb}
 use Rattle.partition.specs.SwapBlocks.{renumbered}
@@ -88,22 +86,13 @@ split p b c =
 
 -- 1, 7 (a byte for each state), 14, 8
 unfoldable pub splitRefusal : Partition → ℕ → List ℕ → Refusal
-unfolding checked
-splitRefusal p b c = checked p (leb (p .n) (length c)) (unless (ltb b (p .count)) (refusal outOfRange b) none)
+unfolding argumentRefusal
+splitRefusal p b c = argumentRefusal p b (p .count) (leb (p .n) (length c))
 
 -- done says the block count
 unfoldable pub splitMarked : Partition → ℕ → List ℕ → Said × Partition
 unfolding leaving splitRefusal split
 splitMarked p b c = leaving (splitRefusal p b c) p (split p b c .count ∷ []) (split p b c)
-
--- the block count after an answer: the one it says, and the old one where it is a refusal
-abbrev pub countSaid : Said → ℕ → ℕ
-countSaid (done []) old = old
-countSaid (done (k ∷ _)) old = k
-countSaid (refused _ _) old = old
-
-abbrev pub countAfter : NumberAnswer → ℕ → ℕ
-countAfter a old = countSaid (saidNumber a) old
 
 -- state s is a marked one of block b and chosen
 unfoldable pub taken : Partition → ℕ → List ℕ → ℕ → Bool

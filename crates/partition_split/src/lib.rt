@@ -1,16 +1,17 @@
 // `split_marked` (block_partition.rs): the chosen ones among the marked states of a block become a block of their own.
 ghost use mathlib.Core.Path.{_≡_};
 ghost use Rattle.columns.specs.Answers.{saidNumber};
-ghost use Rattle.partition_split.specs.Split.{splitMarked, countAfter};
+ghost use Rattle.partition_split.specs.Split.{splitMarked};
+ghost use Rattle.partition_calls.specs.Saying.{countSaid};
 ghost use Rattle.columns.specs.Lent.{was};
 ghost use Rattle.partition.specs.Lent.{before, after};
 
-pub mod checks;
 pub mod core;
 
 use columns::answers::NumberAnswer;
 use columns::answers::number;
 use columns::answers::refusing_number;
+use partition::checks::argument_refusal;
 use partition_calls::BlockPartition;
 
 // Splits a block by the choice, a byte for each state: 0 no, others yes. The chosen ones among its marked states become a new last
@@ -29,13 +30,13 @@ pub fn split_marked(
     ensures { λ r.
         let given = before elements «element_offset» «element_to_block» begin «marked_split» end (partition .n) (partition .count) in
         let left = after elements «element_offset» «element_to_block» begin «marked_split» end (partition .n)
-        (countAfter r (partition .count)) in
+        (countSaid (saidNumber r) (partition .count)) in
         ⌜ (saidNumber r, left) ≡ splitMarked given «block_index» (was choice) ⌝ }
 {
     let n = partition.n as usize;
     let count = partition.count as usize;
     let b = block_index as usize;
-    let t = checks::split_refusal(
+    let t = argument_refusal(
         n,
         count,
         &*elements,
@@ -45,7 +46,8 @@ pub fn split_marked(
         &*marked_split,
         &*end,
         b,
-        choice,
+        count,
+        n <= choice.len(),
     );
     let refused = t.number;
     if refused != 0 {

@@ -103,7 +103,7 @@ fn done(
     used: usize,
 ) -> usize {
     if operation == ITER_BLOCK {
-        return part(out, used, part_of(case, narrow));
+        return part(part_of(case, narrow), out, used);
     }
     let answer = called(
         operation,
@@ -122,7 +122,7 @@ fn done(
         h,
         i,
     );
-    let at = said(out, used, answer);
+    let at = said(answer, out, used);
     show(
         kinds,
         case,

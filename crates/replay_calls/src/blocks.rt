@@ -25,6 +25,6 @@ pub fn of_numbers(operation: usize, case: Case) -> Said {
         BLOCK_HAS_MARKED => flag(given(case).has_marked()),
         BLOCK_HAS_UNMARKED => flag(given(case).has_unmarked()),
         TAU_HAT => number(tau_hat(case.number(0))),
-        _ => flag(is_tau_hat(case.number(0), case.number(1))),
+        _ => flag(is_tau_hat(case.number(1), case.number(0))),
     }
 }

@@ -33,19 +33,47 @@ fn called(
             let element_to_block = column(cells, case, 0);
             let begin = column(cells, case, 1);
             let end = column(cells, case, 2);
+            let elements = &mut *a;
+            let element_offset = &mut *b;
+            let marked_split = &mut *c;
             plain(partition(case).mark_element(
-                a,
-                b,
+                elements,
+                element_offset,
                 element_to_block,
                 begin,
-                c,
+                marked_split,
                 end,
                 case.number(2),
             ))
         }
-        INCOMING => number(incoming(t, source, label, target, a, b)),
-        REACHABLE => number(reachable(t, source, label, target, hidden, case.number(5), a, b)),
-        _ => plain(sort_topological(t, source, label, target, hidden, case.flag(5), a, b, c)),
+        INCOMING => {
+            let rows = &mut *a;
+            let spare = &mut *b;
+            number(incoming(t, source, label, target, rows, spare))
+        }
+        REACHABLE => {
+            let start = case.number(5);
+            let reached = &mut *a;
+            let queue = &mut *b;
+            number(reachable(t, source, label, target, hidden, start, reached, queue))
+        }
+        _ => {
+            let reversed = case.flag(5);
+            let places = &mut *a;
+            let marks = &mut *b;
+            let stack = &mut *c;
+            plain(sort_topological(
+                t,
+                source,
+                label,
+                target,
+                hidden,
+                reversed,
+                places,
+                marks,
+                stack,
+            ))
+        }
     }
 }
 

@@ -31,17 +31,37 @@ fn called(
 ) -> Said {
     let p = partition(case);
     match operation {
-        BLOCKPARTITION_NEW => made(BlockPartition::new(p.n, a, b, c, d, e, f)),
+        BLOCKPARTITION_NEW => {
+            let elements = &mut *a;
+            let element_offset = &mut *b;
+            let element_to_block = &mut *c;
+            let begin = &mut *d;
+            let marked_split = &mut *e;
+            let end = &mut *f;
+            made(BlockPartition::new(
+                p.n,
+                elements,
+                element_offset,
+                element_to_block,
+                begin,
+                marked_split,
+                end,
+            ))
+        }
         SWAP_BLOCKS => {
             let elements = column(cells, case, 0);
             let element_offset = column(cells, case, 1);
+            let element_to_block = &mut *a;
+            let begin = &mut *b;
+            let marked_split = &mut *c;
+            let end = &mut *d;
             plain(p.swap_blocks(
                 elements,
                 element_offset,
-                a,
-                b,
-                c,
-                d,
+                element_to_block,
+                begin,
+                marked_split,
+                end,
                 case.number(2),
                 case.number(3),
             ))
@@ -54,26 +74,47 @@ fn called(
             let begin = column(cells, case, 4);
             let end = column(cells, case, 5);
             let count = case.number(4);
+            let elements = &mut *a;
+            let element_offset = &mut *b;
+            let marked_split = &mut *c;
+            let order = &mut *d;
+            let spare = &mut *e;
             plain(mark_backward_closure(
                 table(case),
                 source,
                 label,
                 target,
                 count,
-                a,
-                b,
+                elements,
+                element_offset,
                 element_to_block,
                 begin,
-                c,
+                marked_split,
                 end,
                 case.number(5),
-                d,
-                e,
+                order,
+                spare,
             ))
         }
         _ => {
             let choice = byte_column(bytes, case, 0);
-            number(split_marked(p, a, b, c, d, e, f, case.number(2), choice))
+            let elements = &mut *a;
+            let element_offset = &mut *b;
+            let element_to_block = &mut *c;
+            let begin = &mut *d;
+            let marked_split = &mut *e;
+            let end = &mut *f;
+            number(split_marked(
+                p,
+                elements,
+                element_offset,
+                element_to_block,
+                begin,
+                marked_split,
+                end,
+                case.number(2),
+                choice,
+            ))
         }
     }
 }

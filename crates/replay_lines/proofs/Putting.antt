@@ -9,23 +9,23 @@ use mathlib.Core.Path.{_≡_, refl, ap, sym, _∙_, _∙⁻¹_}
 use lib.ListN.{length, getD, set, take}
 use lib.Seq.{take-suc, take-all}
 use borrow.Author.Tests.{lt-ltb, le-ltb}
-use Rattle.replay_lines.specs.Text.{put, puts}
+use Rattle.replay_lines.specs.Text.{putByte, puts}
 use Rattle.replay_lines.specs.Spelling.{spelled, spelledAll}
 
-pub put-room : (out : List ℕ) (used byte : ℕ) → used < 65536 → (used + 1, set out used byte) ≡ put out used byte
-unfolding put
+pub put-room : (out : List ℕ) (used byte : ℕ) → used < 65536 → (used + 1, set out used byte) ≡ putByte out used byte
+unfolding putByte
 put-room out used byte h =
     sym (ap (λ b. cond b (used + 1, set out used byte) (1, set out 0 byte)) (lt-ltb used 65536 h))
 
-pub put-full : (out : List ℕ) (used byte : ℕ) → 65536 ≤ used → (1, set out 0 byte) ≡ put out used byte
-unfolding put
+pub put-full : (out : List ℕ) (used byte : ℕ) → 65536 ≤ used → (1, set out 0 byte) ≡ putByte out used byte
+unfolding putByte
 put-full out used byte h =
     sym (ap (λ b. cond b (used + 1, set out used byte) (1, set out 0 byte)) (le-ltb used 65536 h))
 
 pub puts-append : (a b : List ℕ) (s : ℕ × List ℕ) → puts (a ++ b) s ≡ puts b (puts a s)
 unfolding puts
 puts-append [] b s = refl
-puts-append (x ∷ a) b s = puts-append a b (put (s .1) (s .0) x)
+puts-append (x ∷ a) b s = puts-append a b (putByte (s .1) (s .0) x)
 
 -- the same text, written otherwise
 pub puts-as : (a b : List ℕ) (s : ℕ × List ℕ) {t : ℕ × List ℕ} → t ≡ puts a s → a ≡ b → t ≡ puts b s
@@ -36,7 +36,7 @@ pub puts-then : (a b : List ℕ) (s : ℕ × List ℕ) {t u : ℕ × List ℕ} �
 puts-then a b s f g = g ∙ (ap (puts b) f ∙⁻¹ puts-append a b s)
 
 -- a byte and then a text
-pub put-then : (x : ℕ) (b : List ℕ) (s : ℕ × List ℕ) {t u : ℕ × List ℕ} → t ≡ put (s .1) (s .0) x → u ≡ puts b t → u ≡ puts (x ∷ b) s
+pub put-then : (x : ℕ) (b : List ℕ) (s : ℕ × List ℕ) {t u : ℕ × List ℕ} → t ≡ putByte (s .1) (s .0) x → u ≡ puts b t → u ≡ puts (x ∷ b) s
 unfolding puts
 put-then x b s f g = g ∙ ap (puts b) f
 
@@ -47,7 +47,7 @@ puts-none = refl
 
 -- the loop over the bytes of a word
 pub word-turn : (l : List ℕ) (i : ℕ) (s : ℕ × List ℕ) {t u : ℕ × List ℕ}
-    → t ≡ puts (take i l) s → u ≡ put (t .1) (t .0) (getD l i 0) → i < length l → u ≡ puts (take (i + 1) l) s
+    → t ≡ puts (take i l) s → u ≡ putByte (t .1) (t .0) (getD l i 0) → i < length l → u ≡ puts (take (i + 1) l) s
 word-turn l i s {t} f g h =
     rw (add-one, take-suc l i 0) (puts-then (take i l) (getD l i 0 ∷ []) s f (put-then (getD l i 0) [] t g puts-none))
 

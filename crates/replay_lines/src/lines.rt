@@ -2,7 +2,7 @@
 ghost use mathlib.Core.Path.{_≡_};
 ghost use Prim.Native.Nat.{_≤_};
 ghost use lib.ListN.{length};
-ghost use Rattle.replay_lines.specs.Text.{put, puts};
+ghost use Rattle.replay_lines.specs.Text.{putByte, puts};
 ghost use Rattle.replay_lines.specs.Spelling.{badText};
 use crate::input::BLANK;
 use crate::input::Buffer;
@@ -74,11 +74,11 @@ pub fn read_word(first: Input, buffer: &mut Buffer, into: &mut [u8]) -> Cells
 
 // A line whose answer is written up to its end.
 pub fn end_case(rest: Input, out: &mut Buffer, used: usize) -> Answered
-    ensures { λ r. ⌜ (r .rest ≡ rest) × ((r .used, now (out .exit)) ≡ put (now (out .entry)) used 10) ⌝ }
+    ensures { λ r. ⌜ (r .rest ≡ rest) × ((r .used, now (out .exit)) ≡ putByte (now (out .entry)) used 10) ⌝ }
 {
     Answered {
         rest,
-        used: byte(out, used, b'\n'),
+        used: byte(b'\n', out, used),
     }
 }
 
@@ -86,10 +86,10 @@ pub fn end_case(rest: Input, out: &mut Buffer, used: usize) -> Answered
 pub fn bad_case(rest: Input, place: usize, out: &mut Buffer, used: usize) -> Answered
     ensures { λ r. ⌜ (r .rest ≡ rest) × ((r .used, now (out .exit)) ≡ puts (badText place) (used, now (out .entry))) ⌝ }
 {
-    let said = word(out, used, b"bad");
-    let at = number(out, said, place as u64);
+    let said = word(b"bad", out, used);
+    let at = number(place as u64, out, said);
     Answered {
         rest,
-        used: byte(out, at, b'\n'),
+        used: byte(b'\n', out, at),
     }
 }

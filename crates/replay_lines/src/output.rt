@@ -2,7 +2,7 @@
 ghost use mathlib.Core.Path.{_≡_};
 ghost use lib.ListN.{take};
 ghost use Rattle.columns.specs.Answers.{refused as refusedWith};
-ghost use Rattle.replay_lines.specs.Text.{put, puts};
+ghost use Rattle.replay_lines.specs.Text.{putByte, puts};
 ghost use Rattle.replay_lines.specs.Told.{told};
 ghost use Rattle.replay_lines.specs.Spelling.{spelled, spelledAll, columnText, partText, saidText};
 use crate::answers::Said;
@@ -22,8 +22,8 @@ pub fn flush(out: &[u8], used: usize) -> bool {
 }
 
 // One byte more. A full buffer is written first.
-pub fn byte(out: &mut Buffer, used: usize, byte: u8) -> usize
-    ensures { λ r. ⌜ (r, now (out .exit)) ≡ put (now (out .entry)) used byte ⌝ }
+pub fn byte(byte: u8, out: &mut Buffer, used: usize) -> usize
+    ensures { λ r. ⌜ (r, now (out .exit)) ≡ putByte (now (out .entry)) used byte ⌝ }
 {
     if used < 65536 {
         out[used] = byte;
@@ -35,26 +35,26 @@ pub fn byte(out: &mut Buffer, used: usize, byte: u8) -> usize
 }
 
 // The bytes of a word.
-pub fn word(out: &mut Buffer, used: usize, word: &[u8]) -> usize
+pub fn word(word: &[u8], out: &mut Buffer, used: usize) -> usize
     ensures { λ r. ⌜ (r, now (out .exit)) ≡ puts (now (word .entry)) (used, now (out .entry)) ⌝ }
 {
     let mut at = used;
     let mut i = 0;
     while i < word.len() {
-        at = byte(out, at, word[i]);
+        at = byte(word[i], out, at);
         i += 1;
     }
     at
 }
 
 // A blank and a number.
-pub fn number(out: &mut Buffer, used: usize, value: u64) -> usize
+pub fn number(value: u64, out: &mut Buffer, used: usize) -> usize
     ensures { λ r. ⌜ (r, now (out .exit)) ≡ puts (spelled value) (used, now (out .entry)) ⌝ }
 {
     let mut digits = [0u8; 20];
     let count = io::decimal(value, &mut digits);
-    let at = byte(out, used, b' ');
-    word(out, at, &digits[..count])
+    let at = byte(b' ', out, used);
+    word(&digits[..count], out, at)
 }
 
 fn wide(cell: u16) -> u64
@@ -64,7 +64,7 @@ fn wide(cell: u16) -> u64
 }
 
 // The first `count` cells of a slice, with a blank before each.
-pub fn cells(out: &mut Buffer, used: usize, cells: &[u16], count: usize) -> usize
+pub fn cells(cells: &[u16], count: usize, out: &mut Buffer, used: usize) -> usize
     ensures { λ r. ⌜ (r, now (out .exit)) ≡ puts (spelledAll (take count (now (cells .entry)))) (used, now (out .entry)) ⌝ }
 {
     let mut at = used;
@@ -73,18 +73,18 @@ pub fn cells(out: &mut Buffer, used: usize, cells: &[u16], count: usize) -> usiz
         if i == count {
             return at;
         }
-        at = number(out, at, wide(cells[i]));
+        at = number(wide(cells[i]), out, at);
         i += 1;
     }
     at
 }
 
 // The first `count` cells of a slice at return.
-pub fn column(out: &mut Buffer, used: usize, column: &[u16], count: usize) -> usize
+pub fn column(column: &[u16], count: usize, out: &mut Buffer, used: usize) -> usize
     ensures { λ r. ⌜ (r, now (out .exit)) ≡ puts (columnText (take count (now (column .entry)))) (used, now (out .entry)) ⌝ }
 {
-    let at = word(out, used, b" |");
-    cells(out, at, column, count)
+    let at = word(b" |", out, used);
+    cells(column, count, out, at)
 }
 
 fn widest(byte: u8) -> u64
@@ -94,7 +94,7 @@ fn widest(byte: u8) -> u64
 }
 
 // The first `count` bytes of a slice, as numbers, with a blank before each.
-fn byte_cells(out: &mut Buffer, used: usize, cells: &[u8], count: usize) -> usize
+fn byte_cells(cells: &[u8], count: usize, out: &mut Buffer, used: usize) -> usize
     ensures { λ r. ⌜ (r, now (out .exit)) ≡ puts (spelledAll (take count (now (cells .entry)))) (used, now (out .entry)) ⌝ }
 {
     let mut at = used;
@@ -103,31 +103,31 @@ fn byte_cells(out: &mut Buffer, used: usize, cells: &[u8], count: usize) -> usiz
         if i == count {
             return at;
         }
-        at = number(out, at, widest(cells[i]));
+        at = number(widest(cells[i]), out, at);
         i += 1;
     }
     at
 }
 
 // The first `count` bytes of text at return.
-pub fn bytes(out: &mut Buffer, used: usize, text: &[u8], count: usize) -> usize
+pub fn bytes(text: &[u8], count: usize, out: &mut Buffer, used: usize) -> usize
     ensures { λ r. ⌜ (r, now (out .exit)) ≡ puts (columnText (take count (now (text .entry)))) (used, now (out .entry)) ⌝ }
 {
-    let at = word(out, used, b" |");
-    byte_cells(out, at, text, count)
+    let at = word(b" |", out, used);
+    byte_cells(text, count, out, at)
 }
 
 // A part of a lent slice.
-pub fn part(out: &mut Buffer, used: usize, part: &[u16]) -> usize
+pub fn part(part: &[u16], out: &mut Buffer, used: usize) -> usize
     ensures { λ r. ⌜ (r, now (out .exit)) ≡ puts (partText (now (part .entry))) (used, now (out .entry)) ⌝ }
 {
-    let a = word(out, used, b"part");
-    let b = number(out, a, part.len() as u64);
-    cells(out, b, part, part.len())
+    let a = word(b"part", out, used);
+    let b = number(part.len() as u64, out, a);
+    cells(part, part.len(), out, b)
 }
 
 // The first `count` numbers of an answer.
-fn numbers(out: &mut Buffer, used: usize, numbers: [u64; 6], count: usize) -> usize
+fn numbers(numbers: [u64; 6], count: usize, out: &mut Buffer, used: usize) -> usize
     ensures { λ r. ⌜ (r, now (out .exit)) ≡ puts (spelledAll (take count numbers)) (used, now (out .entry)) ⌝ }
 {
     let mut at = used;
@@ -136,29 +136,29 @@ fn numbers(out: &mut Buffer, used: usize, numbers: [u64; 6], count: usize) -> us
         if i == count {
             return at;
         }
-        at = number(out, at, numbers[i]);
+        at = number(numbers[i], out, at);
         i += 1;
     }
     at
 }
 
 // What is refused: a number and a place.
-fn refused(out: &mut Buffer, used: usize, refusal: u64, place: u64) -> usize
+fn refused(refusal: u64, place: u64, out: &mut Buffer, used: usize) -> usize
     ensures { λ r. ⌜ (r, now (out .exit)) ≡ puts (saidText (refusedWith refusal place)) (used, now (out .entry)) ⌝ }
 {
-    let a = word(out, used, b"refused");
-    let b = number(out, a, refusal);
-    number(out, b, place)
+    let a = word(b"refused", out, used);
+    let b = number(refusal, out, a);
+    number(place, out, b)
 }
 
 // What an answer says.
-pub fn said(out: &mut Buffer, used: usize, said: Said) -> usize
+pub fn said(said: Said, out: &mut Buffer, used: usize) -> usize
     ensures { λ r. ⌜ (r, now (out .exit)) ≡ puts (saidText (told said)) (used, now (out .entry)) ⌝ }
 {
     let given = said.numbers;
     if said.refused {
-        return refused(out, used, given[0], given[1]);
+        return refused(given[0], given[1], out, used);
     }
-    let at = word(out, used, b"done");
-    numbers(out, at, given, said.count)
+    let at = word(b"done", out, used);
+    numbers(given, said.count, out, at)
 }

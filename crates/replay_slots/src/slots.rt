@@ -124,15 +124,15 @@ fn show_slot(
 ) -> usize {
     let count = case.length(k);
     match k {
-        0 => show_column(out, used, a, count),
-        1 => show_column(out, used, b, count),
-        2 => show_column(out, used, c, count),
-        3 => show_column(out, used, d, count),
-        4 => show_column(out, used, e, count),
-        5 => show_column(out, used, f, count),
-        6 => show_column(out, used, g, count),
-        7 => show_column(out, used, h, count),
-        8 => show_column(out, used, i, count),
+        0 => show_column(a, count, out, used),
+        1 => show_column(b, count, out, used),
+        2 => show_column(c, count, out, used),
+        3 => show_column(d, count, out, used),
+        4 => show_column(e, count, out, used),
+        5 => show_column(f, count, out, used),
+        6 => show_column(g, count, out, used),
+        7 => show_column(h, count, out, used),
+        8 => show_column(i, count, out, used),
         _ => used,
     }
 }
@@ -159,7 +159,7 @@ fn show_kind(
         b'm' => show_slot(case, k, a, b, c, d, e, f, g, h, i, out, used),
         b'r' => show_slot(case, k, a, b, c, d, e, f, g, h, i, out, used),
         b'k' => show_slot(case, k, a, b, c, d, e, f, g, h, i, out, used),
-        b't' => show_bytes(out, used, text, case.length(k)),
+        b't' => show_bytes(text, case.length(k), out, used),
         _ => used,
     }
 }

@@ -28,33 +28,33 @@ pub fn dividing(
     case: Case,
     cells: &[u16],
     to: Filled,
-    a: &mut [u16],
-    b: &mut [u16],
-    c: &mut [u16],
-    d: &mut [u16],
-    e: &mut [u16],
-    f: &mut [u16],
-    g: &mut [u16],
-    h: &mut [u16],
-    i: &mut [u16],
+    elements: &mut [u16],
+    element_offset: &mut [u16],
+    element_to_block: &mut [u16],
+    begin: &mut [u16],
+    marked_split: &mut [u16],
+    end: &mut [u16],
+    old_elements: &mut [u16],
+    block_sizes: &mut [u16],
+    spare: &mut [u16],
 ) -> Said
-    requires { ⌜ Counts (to .a) (now a) × Counts (to .b) (now b) × Counts (to .c) (now c) ⌝ }
-    requires { ⌜ Counts (to .d) (now d) × Counts (to .e) (now e) × Counts (to .f) (now f) ⌝ }
-    requires { ⌜ Counts (to .g) (now g) × Counts (to .h) (now h) × Counts (to .i) (now i) ⌝ }
+    requires { ⌜ Counts (to .a) (now elements) × Counts (to .b) (now «element_offset») × Counts (to .c) (now «element_to_block») ⌝ }
+    requires { ⌜ Counts (to .d) (now begin) × Counts (to .e) (now «marked_split») × Counts (to .f) (now end) ⌝ }
+    requires { ⌜ Counts (to .g) (now «old_elements») × Counts (to .h) (now «block_sizes») × Counts (to .i) (now spare) ⌝ }
 {
     let numbers = column(cells, case, 0);
     divided(partition_marked_with(
         partition(case),
-        &mut a[..to.a],
-        &mut b[..to.b],
-        &mut c[..to.c],
-        &mut d[..to.d],
-        &mut e[..to.e],
-        &mut f[..to.f],
+        &mut elements[..to.a],
+        &mut element_offset[..to.b],
+        &mut element_to_block[..to.c],
+        &mut begin[..to.d],
+        &mut marked_split[..to.e],
+        &mut end[..to.f],
         case.number(2),
         numbers,
-        &mut g[..to.g],
-        &mut h[..to.h],
-        &mut i[..to.i],
+        &mut old_elements[..to.g],
+        &mut block_sizes[..to.h],
+        &mut spare[..to.i],
     ))
 }

@@ -14,12 +14,12 @@ fn called(
     operation: usize,
     case: Case,
     cells: &[u16],
-    a: &mut [u16],
-    b: &mut [u16],
-    c: &mut [u16],
-    d: &mut [u16],
-    e: &mut [u16],
-    f: &mut [u16],
+    labels: &mut [u16],
+    blocks: &mut [u16],
+    pushed_labels: &mut [u16],
+    pushed_blocks: &mut [u16],
+    order: &mut [u16],
+    spare: &mut [u16],
 ) -> Said {
     let t = table(case);
     let source = column(cells, case, 0);
@@ -47,12 +47,12 @@ fn called(
             marked_split,
             end,
             state,
-            a,
-            b,
-            c,
-            d,
-            e,
-            f,
+            labels,
+            blocks,
+            pushed_labels,
+            pushed_blocks,
+            order,
+            spare,
         )),
         _ => {
             let state_to_key = column(cells, case, 9);
@@ -70,12 +70,12 @@ fn called(
                 end,
                 state,
                 state_to_key,
-                a,
-                b,
-                c,
-                d,
-                e,
-                f,
+                labels,
+                blocks,
+                pushed_labels,
+                pushed_blocks,
+                order,
+                spare,
             ))
         }
     }

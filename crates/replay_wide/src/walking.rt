@@ -39,32 +39,51 @@ fn called(
     let count = case.number(4);
     let state = case.number(5);
     match operation {
-        BRANCHING_BISIM_SIGNATURE => number(branching_bisim_signature(
-            t,
-            source,
-            label,
-            target,
-            count,
-            elements,
-            element_offset,
-            element_to_block,
-            begin,
-            marked_split,
-            end,
-            state,
-            a,
-            b,
-            c,
-            d,
-            e,
-            f,
-            g,
-            h,
-        )),
+        BRANCHING_BISIM_SIGNATURE => {
+            let labels = &mut *a;
+            let blocks = &mut *b;
+            let pushed_labels = &mut *c;
+            let pushed_blocks = &mut *d;
+            let order = &mut *e;
+            let spare = &mut *f;
+            let marks = &mut *g;
+            let queue = &mut *h;
+            number(branching_bisim_signature(
+                t,
+                source,
+                label,
+                target,
+                count,
+                elements,
+                element_offset,
+                element_to_block,
+                begin,
+                marked_split,
+                end,
+                state,
+                labels,
+                blocks,
+                pushed_labels,
+                pushed_blocks,
+                order,
+                spare,
+                marks,
+                queue,
+            ))
+        }
         _ => {
             let starts = wide_column(lists, case, 9);
             let given_labels = column(cells, case, 10);
             let given_blocks = column(cells, case, 11);
+            let labels = &mut *a;
+            let blocks = &mut *b;
+            let own_labels = &mut *c;
+            let own_blocks = &mut *d;
+            let high = &mut *e;
+            let low = &mut *f;
+            let end_high = &mut *g;
+            let end_low = &mut *h;
+            let tree = &mut *i;
             number(branching_bisim_signature_sorted(
                 t,
                 source,
@@ -81,15 +100,15 @@ fn called(
                 starts,
                 given_labels,
                 given_blocks,
-                a,
-                b,
-                c,
-                d,
-                e,
-                f,
-                g,
-                h,
-                i,
+                labels,
+                blocks,
+                own_labels,
+                own_blocks,
+                high,
+                low,
+                end_high,
+                end_low,
+                tree,
             ))
         }
     }

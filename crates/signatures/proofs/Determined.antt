@@ -26,5 +26,5 @@ branching-bisim-signature-inductive t p s keys out works = determined same-numbe
 pub tau-hat : (labels : ℕ) → DeterminedAnswer saidNumber (tauHat labels)
 tau-hat labels = determined-answer same-number
 
-pub is-tau-hat : (label labels : ℕ) → DeterminedAnswer saidFlag (isTauHat label labels)
-is-tau-hat label labels = determined-answer same-flag
+pub is-tau-hat : (labels label : ℕ) → DeterminedAnswer saidFlag (isTauHat labels label)
+is-tau-hat labels label = determined-answer same-flag

@@ -2,7 +2,7 @@
 use Prim.Native.Nat.{ℕ}
 use borrow.Author.Tests.{eqb-true, eq-eqb}
 use mathlib.Core.Path.{_≡_, refl, subst}
-use mathlib.Core.Logic.{_⊎_, inl, inr}
+use mathlib.Core.Logic.{_⊎_, inl, inr, _↔_}
 use mathlib.Core.Bool.{Bool, true, false, _&&_, cond}
 use mathlib.Core.List.{List}
 use lib.Dec.{eqb}
@@ -10,7 +10,7 @@ use lib.ListN.{getD}
 use Rattle.columns.specs.Sets.{Mem, Pair, pairLt, Ascending}
 use Rattle.columns.proofs.Bools.{and-left, and-right, and-both, fails, contra}
 use Rattle.signatures.specs.Inductive.{inertb, keyedAt, inductivePushed, inductiveSignature}
-use Rattle.signatures.specs.Strong.{pairAt}
+use Rattle.signatures.specs.Strong.{rowPair}
 use Rattle.signatures.proofs.Rows.{pushed-in, pushed-out}
 use Rattle.signatures.proofs.Sigs.{sig-in, sig-out, sig-ascending}
 use Rattle.table.specs.Lts.{Lts, Step}
@@ -25,7 +25,7 @@ module _ (t : Lts) (home : List ℕ) (marked : ℕ → Bool) (keys : List ℕ) (
   given a u = cond (keyed a u) (t .labels, getD keys u 0) (a, getD home u 0)
 
   by : (i : ℕ) → keyedAt t home marked keys (getD home s 0) i ≡ given (getD (t .label) i 0) (getD (t .target) i 0)
-  unfolding keyedAt inertb pairAt given keyed
+  unfolding keyedAt inertb rowPair given keyed
   by i = refl
 
   give : (a u : ℕ) → Step t s a u → Mem (given a u) (inductiveSignature t home marked keys s)
@@ -96,6 +96,13 @@ module _ (t : Lts) (home : List ℕ) (marked : ℕ → Bool) (keys : List ℕ) (
             other = λ x y z. contra (and-both (and-both (eq-eqb _ _ x) (eq-eqb _ _ y)) z) e;
             pair = q;
           })
+
+  pub inductive-exactly : (p : Pair) → Mem p (inductiveSignature t home marked keys s) ↔ (KeyOf p ⊎ StepOf p)
+  inductive-exactly p = (inductive-out p, back)
+    where
+      back : KeyOf p ⊎ StepOf p → Mem p (inductiveSignature t home marked keys s)
+      back (inl k) = rw (k .pair) (inductive-key (k .target) (k .step) (k .stays) (k .is-marked))
+      back (inr k) = rw (k .pair) (inductive-other (k .label) (k .target) (k .step) (k .other))
 
   pub inductive-ascending : Ascending pairLt (inductiveSignature t home marked keys s)
   unfolding inductiveSignature

@@ -1,7 +1,6 @@
 pub mod Works
 pub mod Picks
 pub mod Outcomes
-pub mod Ready
 pub mod Pushing
 pub mod Keys
 pub mod Sigs
@@ -9,5 +8,7 @@ pub mod Rows
 pub mod StrongSigs
 pub mod InductiveSigs
 pub mod Renumbered
+pub mod Signed
+pub mod Theorems
 pub mod Examples
 pub mod Determined

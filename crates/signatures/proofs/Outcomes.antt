@@ -8,32 +8,31 @@ use borrow.Author.Tests.{eq-eqb, ne-eqb}
 use Rattle.columns.specs.declared.answers.Refusal.{Refusal}
 use Rattle.columns.specs.Answers.{Said, done, refused}
 use Rattle.columns.specs.Sets.{Pair}
-use Rattle.signatures.specs.Pairs.{Columns, signature, fits, pairsOver}
-use Rattle.signatures.specs.Signing.{Left, finishing, signing, cleared}
+use Rattle.signatures.specs.Pairs.{Columns, fits, pairsOver}
+use Rattle.signatures.specs.Signing.{Left, finishing, signing, allZero}
 
-module _ (r : Refusal) (pushed : List Pair) (out : Columns) (works : List (List ℕ)) where
+module _ (r : Refusal) (pushed : ℕ) (pairs : List Pair) (out : Columns) (works : List (List ℕ)) where
   pub signing-refused : (s : Said) → (r .number ≡ 0 → ⊥) → s ≡ refused (r .number) (r .place) →
-      _≡_ {A = Said × Left} (s, (out, works)) (signing r pushed out works)
+      _≡_ {A = Said × Left} (s, (out, works)) (signing r pushed pairs out works)
   unfolding signing
   signing-refused s n e = rw (ne-eqb (r .number) 0 n, e)
 
   -- a call whose checks are passed writes its signature, or has no room
   pub signing-on :
-      (d : ℕ) (pairs : List Pair) (w : List (List ℕ)) → r .number ≡ 0 → d ≡ length pushed → pairs ≡ signature pushed →
-      cleared w ≡ cleared works
-      → finishing d pairs out w ≡ signing r pushed out works
+      (d : ℕ) (l : List Pair) (w : List (List ℕ)) → r .number ≡ 0 → d ≡ pushed → l ≡ pairs → allZero w ≡ allZero works
+      → finishing d l out w ≡ signing r pushed pairs out works
   unfolding finishing signing
-  signing-on d pairs w z e f g = rw (eq-eqb (r .number) 0 z, e, f, g)
+  signing-on d l w z e f g = rw (eq-eqb (r .number) 0 z, e, f, g)
 
 module _ (pushed : ℕ) (pairs : List Pair) (out : Columns) (works : List (List ℕ)) where
   pub finish-short :
-      (s : Said) (w : List (List ℕ)) → fits pushed out ≡ false → s ≡ refused 16 pushed → w ≡ cleared works
+      (s : Said) (w : List (List ℕ)) → fits pushed out ≡ false → s ≡ refused 16 pushed → w ≡ allZero works
       → _≡_ {A = Said × Left} (s, (out, w)) (finishing pushed pairs out works)
   unfolding finishing
   finish-short s w f e g = rw (f, e, g)
 
   pub finish-done :
       (s : Said) (o : Columns) (w : List (List ℕ)) → fits pushed out ≡ true → s ≡ done (length pairs ∷ []) → o ≡ pairsOver pairs out
-      → w ≡ cleared works → _≡_ {A = Said × Left} (s, (o, w)) (finishing pushed pairs out works)
+      → w ≡ allZero works → _≡_ {A = Said × Left} (s, (o, w)) (finishing pushed pairs out works)
   unfolding finishing
   finish-done s o w f e h g = rw (f, e, h, g)

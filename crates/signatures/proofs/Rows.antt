@@ -24,13 +24,13 @@ module _ (t : Lts) (s : ℕ) (g : ℕ → Pair) (h : ℕ → ℕ → Pair) (by :
       (Memᴰ·map g (members-in (λ i. eqb (getD (t .source) i 0) s) (t .m) (r .row) (r .below) (eq-eqb _ _ (sym (r .source)))))
 
   -- the step that gives a pair
-  pub record Given (p : Pair) : Type 0 where
+  pub record GivenBy (p : Pair) : Type 0 where
     pub label : ℕ
     pub target : ℕ
     pub step : Step t s label target
     pub pair : p ≡ h label target
 
-  pub pushed-out : (p : Pair) → Mem p (map g (ownRows t s)) → Given p
+  pub pushed-out : (p : Pair) → Mem p (map g (ownRows t s)) → GivenBy p
   unfolding ownRows
   pushed-out p m =
       let f = Memᴰ·of-map g (members (t .m) (λ i. eqb (getD (t .source) i 0) s)) m in

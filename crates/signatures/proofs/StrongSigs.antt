@@ -5,7 +5,7 @@ use mathlib.Core.Logic.{_↔_}
 use mathlib.Core.List.{List}
 use lib.ListN.{getD}
 use Rattle.columns.specs.Sets.{Mem, Pair, pairLt, Ascending}
-use Rattle.signatures.specs.Strong.{pairAt, strongPushed, strongSignature}
+use Rattle.signatures.specs.Strong.{rowPair, strongPushed, strongSignature}
 use Rattle.signatures.proofs.Rows.{pushed-in, pushed-out}
 use Rattle.signatures.proofs.Sigs.{sig-in, sig-out, sig-ascending, sig-ext}
 use Rattle.table.specs.Lts.{Lts, Step}
@@ -18,14 +18,14 @@ pub record Leads (t : Lts) (home : List ℕ) (s a b : ℕ) : Type 0 where
 
 module _ (t : Lts) (home : List ℕ) (s : ℕ) where
   pub strong-in : (a u : ℕ) → Step t s a u → Mem {A = Pair} (a, getD home u 0) (strongSignature t home s)
-  unfolding strongSignature strongPushed pairAt
+  unfolding strongSignature strongPushed rowPair
   strong-in a u k =
-      sig-in (strongPushed t home s) (a, getD home u 0) (pushed-in t s (pairAt t home) (λ x v. (x, getD home v 0)) (λ i. refl) a u k)
+      sig-in (strongPushed t home s) (a, getD home u 0) (pushed-in t s (rowPair t home) (λ x v. (x, getD home v 0)) (λ i. refl) a u k)
 
   pub strong-out : (a b : ℕ) → Mem {A = Pair} (a, b) (strongSignature t home s) → Leads t home s a b
-  unfolding strongSignature strongPushed pairAt
+  unfolding strongSignature strongPushed rowPair
   strong-out a b m =
-      let f = pushed-out t s (pairAt t home) (λ x v. (x, getD home v 0)) (λ i. refl) (a, b) (sig-out (strongPushed t home s) (a, b) m) in
+      let f = pushed-out t s (rowPair t home) (λ x v. (x, getD home v 0)) (λ i. refl) (a, b) (sig-out (strongPushed t home s) (a, b) m) in
       record {
         target = f .target;
         step = subst (λ (x : ℕ). Step t s x (f .target)) (λ i. sym (f .pair) i .0) (f .step);

@@ -1,49 +1,22 @@
 -- Work slices, however many: that each is long enough, and what they are left as.
-use Prim.Native.Nat.{ℕ, _+_, _≤_}
-use borrow.Author.Tests.{leb-true}
-use mathlib.Core.Bool.{Bool, true, false, _&&_}
+use Prim.Native.Nat.{ℕ, _+_}
+use mathlib.Core.Bool.{true}
 use mathlib.Core.Path.{_≡_, refl, ap, ap₂, sym, _∙_}
 use mathlib.Core.List.{List, [], _∷_, _++_, map, map-id, map-map, map-append}
-use lib.Dec.{leb}
 use lib.ListN.{length}
 use Rattle.columns.specs.Columns.{zeros}
-use Rattle.columns.proofs.Bools.{and-left, and-right}
-use Rattle.signatures.specs.Signing.{allLong, roomy, cleared}
+use Rattle.columns.proofs.Rooms.{Roomy, roomy-of}
+use Rattle.signatures.specs.Signing.{roomy, allZero}
 use Rattle.table.specs.Lts.{Lts}
 
 -- ---- they are long enough
 -- every slice has n + m + 1 cells
 abbrev pub Wide : Lts → List (List ℕ) → Type 0
-Wide t [] = Unit {0}
-Wide t (a ∷ works) = (t .n + t .m + 1 ≤ length a) × Wide t works
+Wide t works = Roomy (t .n + t .m + 1) (map (λ w. length w) works)
 
-pub roomy-of : (t : Lts) (works : List (List ℕ)) → roomy t works ≡ true → Wide t works
+pub wide-of : (t : Lts) (works : List (List ℕ)) → roomy t works ≡ true → Wide t works
 unfolding roomy
-roomy-of t [] e = tt
-roomy-of t (a ∷ works) e =
-    let k = t .n + t .m + 1 in
-    let ls = map (λ (w : List ℕ). length w) works in
-    (leb-true k (length a) (and-left (leb k (length a)) (allLong k ls) e), roomy-of t works (and-right (leb k (length a)) (allLong k ls) e))
-
--- lengths tested in two parts
-pub long-append : (k : ℕ) (l m : List ℕ) → (allLong k l && allLong k m) ≡ allLong k (l ++ m)
-unfolding allLong
-long-append k [] m = refl
-long-append k (x ∷ l) m = go (long-append k l m) (leb k x)
-  where
-    go : (allLong k l && allLong k m) ≡ allLong k (l ++ m) → (b : Bool) → ((b && allLong k l) && allLong k m) ≡ (b && allLong k (l ++ m))
-    go ih true = ih
-    go ih false = refl
-
--- a length tested twice
-pub long-again : (k : ℕ) (l : List ℕ) (x : ℕ) → allLong k (l ++ (x ∷ x ∷ [])) ≡ allLong k (l ++ (x ∷ []))
-unfolding allLong
-long-again k [] x = go (leb k x)
-  where
-    go : (b : Bool) → (b && (b && true)) ≡ (b && true)
-    go true = refl
-    go false = refl
-long-again k (y ∷ l) x = ap (λ (b : Bool). leb k y && b) (long-again k l x)
+wide-of t works e = roomy-of (t .n + t .m + 1) (map (λ w. length w) works) e
 
 -- ---- what they are left as
 -- two lists, slice by slice
@@ -60,18 +33,18 @@ each-map f g [] (b ∷ before) e = absurd e
 each-map f g (a ∷ works) [] e = absurd e
 each-map f g (a ∷ works) (b ∷ before) e = ap₂ _∷_ (e .0) (each-map f g works before (e .1))
 
-pub zeroed : (works before : List (List ℕ)) → Each (λ a b. a ≡ zeros (length b)) works before → works ≡ cleared before
-unfolding cleared
+pub zeroed : (works before : List (List ℕ)) → Each (λ a b. a ≡ zeros (length b)) works before → works ≡ allZero before
+unfolding allZero
 zeroed works before e = sym (map-id works) ∙ each-map (λ a. a) (λ b. zeros (length b)) works before e
 
 -- they are left alike where they are as long as before
-pub level : (works before : List (List ℕ)) → Each (λ a b. length a ≡ length b) works before → cleared works ≡ cleared before
-unfolding cleared
+pub level : (works before : List (List ℕ)) → Each (λ a b. length a ≡ length b) works before → allZero works ≡ allZero before
+unfolding allZero
 level works before e =
     sym (map-map zeros (λ (w : List ℕ). length w) works)
     ∙ ap (map zeros) (each-map (λ w. length w) (λ w. length w) works before e)
     ∙ map-map zeros (λ (w : List ℕ). length w) before
 
-pub cleared-append : (l m : List (List ℕ)) → cleared l ++ cleared m ≡ cleared (l ++ m)
-unfolding cleared
+pub cleared-append : (l m : List (List ℕ)) → allZero l ++ allZero m ≡ allZero (l ++ m)
+unfolding allZero
 cleared-append l m = sym (map-append (λ (w : List ℕ). zeros (length w)) l m)

@@ -2,8 +2,8 @@
 use Prim.Native.Nat.{ℕ}
 use mathlib.Core.List.{List, map}
 use lib.Dec.{eqb}
-use lib.ListN.{getD}
-use Rattle.columns.specs.Answers.{Said, none}
+use lib.ListN.{length, getD}
+use Rattle.columns.specs.Answers.{Said}
 use Rattle.columns.specs.Counting.{members}
 use Rattle.columns.specs.Sets.{Pair}
 use Rattle.partition.specs.Partition.{Partition}
@@ -17,18 +17,19 @@ unfolding members
 ownRows t s = members (t .m) (λ i. eqb (getD (t .source) i 0) s)
 
 -- row i as a pair: its label, and the block of its target. `home` has the block of each state
-unfoldable pub pairAt : Lts → List ℕ → ℕ → Pair
-pairAt t home i = (getD (t .label) i 0, getD home (getD (t .target) i 0) 0)
+unfoldable pub rowPair : Lts → List ℕ → ℕ → Pair
+rowPair t home i = (getD (t .label) i 0, getD home (getD (t .target) i 0) 0)
 
 unfoldable pub strongPushed : Lts → List ℕ → ℕ → List Pair
-unfolding ownRows pairAt
-strongPushed t home s = map (pairAt t home) (ownRows t s)
+unfolding ownRows rowPair
+strongPushed t home s = map (rowPair t home) (ownRows t s)
 
 unfoldable pub strongSignature : Lts → List ℕ → ℕ → List Pair
 unfolding signature strongPushed
 strongSignature t home s = signature (strongPushed t home s)
 
 unfoldable pub strongBisimSignature : Lts → Partition → ℕ → Columns → List (List ℕ) → Said × Left
-unfolding signing signatureRefusal roomy strongPushed
+unfolding signing signatureRefusal roomy strongPushed strongSignature
 strongBisimSignature t p s out works =
-    signing (signatureRefusal t p s (roomy t works) none) (strongPushed t (p .element-to-block) s) out works
+    let home = p .element-to-block in
+    signing (signatureRefusal t p s (roomy t works)) (length (strongPushed t home s)) (strongSignature t home s) out works

@@ -1,15 +1,15 @@
 -- tau_hat, a label beside those of the table: the number of labels.
 use Prim.Native.Nat.{ℕ}
-use mathlib.Core.Bool.{_&&_}
 use mathlib.Core.List.{[], _∷_}
-use lib.Dec.{leb, eqb}
-use Rattle.columns.specs.Limits.{maxLabels, wrongLabels}
+use lib.Dec.{eqb}
 use Rattle.columns.specs.declared.answers.Refusal.{Refusal}
-use Rattle.columns.specs.Answers.{Said, refusal, none, unless, bit, answering}
+use Rattle.columns.specs.Answers.{Said, bit, answering}
+use Rattle.columns.specs.Due.{due, labelsTest}
 
 -- 2
 unfoldable pub labelsRefusal : ℕ → Refusal
-labelsRefusal labels = unless (leb 1 labels && leb labels maxLabels) (refusal wrongLabels 0) none
+unfolding due
+labelsRefusal labels = due (labelsTest labels ∷ [])
 
 unfoldable pub tauHat : ℕ → Said
 unfolding answering labelsRefusal
@@ -17,4 +17,4 @@ tauHat labels = answering (labelsRefusal labels) (labels ∷ [])
 
 unfoldable pub isTauHat : ℕ → ℕ → Said
 unfolding answering labelsRefusal
-isTauHat label labels = answering (labelsRefusal labels) (bit (eqb label labels) ∷ [])
+isTauHat labels label = answering (labelsRefusal labels) (bit (eqb label labels) ∷ [])

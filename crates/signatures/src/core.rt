@@ -5,7 +5,7 @@ ghost use mathlib.Core.Bool.{cond};
 ghost use Prim.Native.Nat.{ℕ, _≤_, _<_};
 ghost use lib.ListN.{length, getD};
 ghost use Rattle.columns.specs.Rows.{pairsOf};
-ghost use Rattle.signatures.specs.Inductive.{inertb, markedIn, inductivePushed};
+ghost use Rattle.signatures.specs.Inductive.{inertb, markedBy, inductivePushed};
 ghost use Rattle.signatures.specs.Strong.{strongPushed};
 ghost use Rattle.table.specs.Lts.{Valid};
 ghost use Rattle.columns.specs.Lent.{was, is};
@@ -61,7 +61,7 @@ pub fn inert(label: &[u16], target: &[u16], element_to_block: &[u16], b: usize, 
 fn marked(element_offset: &[u16], element_to_block: &[u16], marked_split: &[u16], u: usize) -> bool
     requires { ⌜ (u < length (now «element_offset»)) × (u < length (now «element_to_block»))
         × (getD (now «element_to_block») u 0 < length (now «marked_split»)) ⌝ }
-    ensures { λ r. ⌜ r ≡ markedIn (was «element_offset») (was «element_to_block») (was «marked_split») u ⌝ }
+    ensures { λ r. ⌜ r ≡ markedBy (was «element_offset») (was «element_to_block») (was «marked_split») u ⌝ }
 {
     let split = at(marked_split, at(element_to_block, u));
     if at(element_offset, u) < split {
@@ -101,7 +101,7 @@ pub fn push_inductive(
         let system = ltsOf table source label target in
         ⌜ (pairsOf r (is «pushed_labels») (is «pushed_blocks»)
         ≡ inductivePushed system (was «element_to_block»)
-        (markedIn (was «element_offset») (was «element_to_block») (was «marked_split»)) (was «state_to_key») state) × (r ≤ table .m) ⌝ }
+        (markedBy (was «element_offset») (was «element_to_block») (was «marked_split»)) (was «state_to_key») state) × (r ≤ table .m) ⌝ }
 {
     let m = table.m as usize;
     let tau_hat = table.labels;

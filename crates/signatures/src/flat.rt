@@ -29,20 +29,20 @@ pub fn has_room(d: usize, labels: usize, blocks: usize) -> bool
 }
 
 // The pairs that the numbers of `order` name, over the first cells of x and y.
-fn write_pairs(x: &mut [u16], y: &mut [u16], order: &[u16], a: &[u16], b: &[u16])
+fn write_pairs(a: &[u16], b: &[u16], order: &[u16], x: &mut [u16], y: &mut [u16])
     requires { ⌜ (length (now order) ≤ length (now x)) × (length (now order) ≤ length (now y)) ⌝ }
     ensures { λ _. ⌜ (is x ≡ over (map (cell (was a)) (was order)) (was x)) × (is y ≡ over (map (cell (was b)) (was order)) (was y)) ⌝ }
 {
-    gather(x, order, a);
-    gather(y, order, b);
+    gather(a, order, x);
+    gather(b, order, y);
 }
 
 // The first d pairs pushed, as a signature over the first cells of `labels` and `blocks`. Returns the number of its pairs.
 // The first d cells of `order` and half as many of `spare` are used, and zero then.
 pub fn flatten(
-    d: usize,
     pushed_labels: &[u16],
     pushed_blocks: &[u16],
+    d: usize,
     labels: &mut [u16],
     blocks: &mut [u16],
     order: &mut [u16],
@@ -58,13 +58,13 @@ pub fn flatten(
     ensures { λ _. ⌜ (is order ≡ wiped d (was order)) × (is spare ≡ wiped (d / 2) (was spare)) ⌝ }
 {
     let r = pick_rows(
-        &mut order[..d],
-        spare,
         pushed_labels,
         pushed_blocks,
         pushed_blocks,
+        &mut order[..d],
+        spare,
     );
-    write_pairs(labels, blocks, &order[..r], pushed_labels, pushed_blocks);
+    write_pairs(pushed_labels, pushed_blocks, &order[..r], labels, blocks);
     clear(&mut order[..d]);
     r
 }
@@ -83,11 +83,11 @@ pub fn wipe(a: &mut [u16], b: &mut [u16], c: &mut [u16], d: &mut [u16])
 // The signature of the first d pairs pushed over the first cells of `labels` and `blocks`, or 16 where they have no room for all d.
 // Every cell of the four work slices is zero then.
 pub fn sign(
-    d: usize,
     labels: &mut [u16],
     blocks: &mut [u16],
     pushed_labels: &mut [u16],
     pushed_blocks: &mut [u16],
+    d: usize,
     order: &mut [u16],
     spare: &mut [u16],
 ) -> NumberAnswer
@@ -104,9 +104,9 @@ pub fn sign(
         return refusing_number(refuse(NO_ROOM, d as u64));
     }
     let r = flatten(
-        d,
         &*pushed_labels,
         &*pushed_blocks,
+        d,
         labels,
         blocks,
         &mut *order,

@@ -6,13 +6,13 @@ ghost use Rattle.signatures.specs.Inductive.{branchingBisimSignatureIndu
 ghost use Rattle.columns.specs.Lent.{was, is};
 ghost use Rattle.partition.specs.Lent.{before};
 ghost use Rattle.table.specs.Lent.{ltsOf};
-use crate::checks::roomy;
-use crate::checks::signature_refusal;
 use crate::core::push_inductive;
 use crate::flat::sign;
 use columns::answers::NumberAnswer;
 use columns::answers::refusing_number;
 use table::Table;
+use table::checks::works_long;
+use table_partition::argument_refusal;
 
 // (tau_hat, key of t) for each hidden step of a state to a marked state of its block, and (a, block of t) for each other step; tau_hat is
 // the number of labels. Work: the pairs pushed, and two columns for the sort.
@@ -45,16 +45,19 @@ pub fn branching_bisim_signature_inductive(
         ⌜ (saidNumber r, ((is labels, is blocks), workLeft))
         ≡ branchingBisimSignatureInductive system given state (was «state_to_key») (was labels, was blocks) work ⌝ }
 {
+    let n = table.n as usize;
     let s = state as usize;
-    let room = roomy(
+    let room = works_long(
         table,
-        pushed_labels.len(),
-        pushed_blocks.len(),
-        order.len(),
-        spare.len(),
+        &[
+            pushed_labels.len(),
+            pushed_blocks.len(),
+            order.len(),
+            spare.len(),
+        ],
     );
-    let keys = table.n as usize <= state_to_key.len();
-    let t = signature_refusal(
+    let keys = n <= state_to_key.len();
+    let t = argument_refusal(
         table,
         source,
         label,
@@ -67,6 +70,7 @@ pub fn branching_bisim_signature_inductive(
         marked_split,
         end,
         s,
+        n,
         keys & room,
     );
     let number = t.number;
@@ -87,11 +91,11 @@ pub fn branching_bisim_signature_inductive(
         &mut *pushed_blocks,
     );
     sign(
-        d,
         labels,
         blocks,
         pushed_labels,
         pushed_blocks,
+        d,
         order,
         spare,
     )

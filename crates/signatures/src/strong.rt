@@ -6,13 +6,13 @@ ghost use Rattle.signatures.specs.Strong.{strongBisimSignature};
 ghost use Rattle.columns.specs.Lent.{was, is};
 ghost use Rattle.partition.specs.Lent.{before};
 ghost use Rattle.table.specs.Lent.{ltsOf};
-use crate::checks::roomy;
-use crate::checks::signature_refusal;
 use crate::core::push_strong;
 use crate::flat::sign;
 use columns::answers::NumberAnswer;
 use columns::answers::refusing_number;
 use table::Table;
+use table::checks::works_long;
+use table_partition::argument_refusal;
 
 // (a, block of t) for each step of a state. Work: the pairs pushed, and two columns for the sort.
 pub fn strong_bisim_signature(
@@ -42,15 +42,18 @@ pub fn strong_bisim_signature(
         let workLeft = is «pushed_labels» ∷ is «pushed_blocks» ∷ is order ∷ is spare ∷ [] in
         ⌜ (saidNumber r, ((is labels, is blocks), workLeft)) ≡ strongBisimSignature system given state (was labels, was blocks) work ⌝ }
 {
+    let n = table.n as usize;
     let s = state as usize;
-    let room = roomy(
+    let room = works_long(
         table,
-        pushed_labels.len(),
-        pushed_blocks.len(),
-        order.len(),
-        spare.len(),
+        &[
+            pushed_labels.len(),
+            pushed_blocks.len(),
+            order.len(),
+            spare.len(),
+        ],
     );
-    let t = signature_refusal(
+    let t = argument_refusal(
         table,
         source,
         label,
@@ -63,6 +66,7 @@ pub fn strong_bisim_signature(
         marked_split,
         end,
         s,
+        n,
         room,
     );
     let number = t.number;
@@ -80,11 +84,11 @@ pub fn strong_bisim_signature(
         &mut *pushed_blocks,
     );
     sign(
-        d,
         labels,
         blocks,
         pushed_labels,
         pushed_blocks,
+        d,
         order,
         spare,
     )

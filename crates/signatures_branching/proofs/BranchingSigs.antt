@@ -14,7 +14,7 @@ use Rattle.columns.proofs.Bools.{and-left, and-right, and-both, contra, fails}
 use Rattle.columns.proofs.Members.{members-in, members-out}
 use Rattle.signatures.specs.Inductive.{inertb}
 use Rattle.signatures.specs.Pairs.{signature}
-use Rattle.signatures.specs.Strong.{pairAt}
+use Rattle.signatures.specs.Strong.{rowPair}
 use Rattle.signatures.proofs.Sigs.{sig-in, sig-out, sig-ascending}
 use Rattle.table.specs.Lts.{Lts, Step, Valid}
 use Rattle.table.specs.Reach.{Walk}
@@ -47,7 +47,7 @@ module _ (t : Lts) (v : Valid t) (home : List ℕ) (s : ℕ) where
   of-outer i e z h = contra e (ap not (and-both (eq-eqb _ _ z) (eq-eqb _ _ h)))
 
   pub branching-in : (a b : ℕ) → Leaves t home s a b → Mem {A = Pair} (a, b) (branchingSignature t home s)
-  unfolding branchingSignature branchingPushed pairAt
+  unfolding branchingSignature branchingPushed rowPair
   branching-in a b l =
       let r = step-row t (l .through) a (l .target) (l .step) in
       let f : ℕ → Bool = λ i. inertly t home s (getD (t .source) i 0) && outerb t home (getD home s 0) i in
@@ -55,17 +55,17 @@ module _ (t : Lts) (v : Valid t) (home : List ℕ) (s : ℕ) where
       let e : _≡_ {A = Pair} (getD (t .label) (r .row) 0, getD home (getD (t .target) (r .row) 0) 0) (a, b) =
       λ i. (sym (r .label) i, h i) in
       sig-in (branchingPushed t home s) (a, b)
-      (subst (λ (p : Pair). Mem p (map (pairAt t home) (members (t .m) f))) e
-      (Memᴰ·map (pairAt t home)
+      (subst (λ (p : Pair). Mem p (map (rowPair t home) (members (t .m) f))) e
+      (Memᴰ·map (rowPair t home)
       (members-in f (t .m) (r .row) (r .below)
       (and-both (ap (inertly t home s) (sym (r .source)) ∙ inertly-of t v home s (l .through) (l .reached))
       (outer-of (r .row) (λ z q. l .outer (r .label ∙ z) (ap (λ (u : ℕ). getD home u 0) (r .target) ∙ q)))))))
 
   pub branching-out : (a b : ℕ) → Mem {A = Pair} (a, b) (branchingSignature t home s) → Leaves t home s a b
-  unfolding branchingSignature branchingPushed pairAt
+  unfolding branchingSignature branchingPushed rowPair
   branching-out a b m =
       let f : ℕ → Bool = λ i. inertly t home s (getD (t .source) i 0) && outerb t home (getD home s 0) i in
-      let g = Memᴰ·of-map (pairAt t home) (members (t .m) f) (sig-out (branchingPushed t home s) (a, b) m) in
+      let g = Memᴰ·of-map (rowPair t home) (members (t .m) f) (sig-out (branchingPushed t home s) (a, b) m) in
       let q = members-out f (t .m) (g .0) (g .1) in
       let x = getD (t .source) (g .0) 0 in
       let u = getD (t .target) (g .0) 0 in

@@ -13,8 +13,14 @@ use Rattle.table.specs.Search.{Search}
 use Rattle.table.proofs.Searching.{search-found}
 use Rattle.table.proofs.Walks.{via-walk, walk-via}
 use Rattle.signatures_branching.specs.Branching.{inertEdge, inertly}
-use Rattle.signatures_branching.specs.Visiting.{Lists}
 use Rattle.signatures_branching.proofs.InertSteps.{inert-state}
+
+-- the first k cells of a column name the states that s reaches in its block, each once
+pub record ListsReached (t : Lts) (home : List ℕ) (s : ℕ) (queue : List ℕ) (k : ℕ) : Type 0 where
+  pub state : (j : ℕ) → j < k → getD queue j 0 < t .n
+  pub reached : (j : ℕ) → j < k → inertly t home s (getD queue j 0) ≡ true
+  pub once : (i j : ℕ) → i < k → j < k → getD queue i 0 ≡ getD queue j 0 → i ≡ j
+  pub all : (u : ℕ) → u < t .n → inertly t home s u ≡ true → (j : ℕ) × (j < k) × (getD queue j 0 ≡ u)
 
 module _ (t : Lts) (v : Valid t) (home : List ℕ) (s : ℕ) where
   -- a state is reached exactly if there is a walk along hidden rows that stay in the block
@@ -27,7 +33,7 @@ module _ (t : Lts) (v : Valid t) (home : List ℕ) (s : ℕ) where
   of-inertly u e = via-walk (inertEdge t home (getD home s 0)) (t .n) s u e
 
   module _ (marks queue : List ℕ) (k : ℕ) (h : Search (inertEdge t home (getD home s 0)) (t .n) s marks queue k k) where
-    pub search-lists : Lists t home s queue k
+    pub search-lists : ListsReached t home s queue k
     search-lists = record {
       state = h .state;
       reached = λ j w. inertly-of (getD queue j 0) (h .sound (getD queue j 0) (h .marked j w));

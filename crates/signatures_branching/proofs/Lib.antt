@@ -6,5 +6,6 @@ pub mod BranchingSigs
 pub mod InertSteps
 pub mod Matches
 pub mod BranchingAlike
+pub mod Theorems
 pub mod Examples
 pub mod Determined

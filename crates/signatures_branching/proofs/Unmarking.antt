@@ -11,17 +11,17 @@ use Rattle.columns.proofs.All.{same-or-not}
 use Rattle.columns.proofs.Lists.{zeros-of}
 
 -- a state is not marked, or stands in the queue from k on
-abbrev pub Left : List ℕ → ℕ → List ℕ → ℕ → ℕ → Type 0
-Left queue tail marks k u = (getD marks u 0 ≡ 0) ⊎ ((j : ℕ) × (k ≤ j) × (j < tail) × (getD queue j 0 ≡ u))
+abbrev pub MarksFrom : List ℕ → ℕ → List ℕ → ℕ → ℕ → Type 0
+MarksFrom queue tail marks k u = (getD marks u 0 ≡ 0) ⊎ ((j : ℕ) × (k ≤ j) × (j < tail) × (getD queue j 0 ≡ u))
 
-module _ (queue : List ℕ) (tail : ℕ) (marks : List ℕ) (k : ℕ) (h : (u : ℕ) → Left queue tail marks k u) where
-  pub unmark-more : (x : ℕ) → x ≡ getD queue k 0 → x < length marks → (u : ℕ) → Left queue tail (set marks x 0) (k + 1) u
+module _ (queue : List ℕ) (tail : ℕ) (marks : List ℕ) (k : ℕ) (h : (u : ℕ) → MarksFrom queue tail marks k u) where
+  pub unmark-more : (x : ℕ) → x ≡ getD queue k 0 → x < length marks → (u : ℕ) → MarksFrom queue tail (set marks x 0) (k + 1) u
   unmark-more x e w u = go (same-or-not u x) (h u)
     where
       cleared : u ≡ x → getD (set marks x 0) u 0 ≡ 0
       cleared q = ap (λ (y : ℕ). getD (set marks x 0) y 0) q ∙ getD-set-same marks x 0 0 w
 
-      go : (u ≡ x) ⊎ (u ≡ x → ⊥) → Left queue tail marks k u → Left queue tail (set marks x 0) (k + 1) u
+      go : (u ≡ x) ⊎ (u ≡ x → ⊥) → MarksFrom queue tail marks k u → MarksFrom queue tail (set marks x 0) (k + 1) u
       go (inl q) l = inl (cleared q)
       go (inr n) (inl z) = inl (getD-set-other marks x u 0 0 n ∙ z)
       go (inr n) (inr j) =
@@ -31,6 +31,6 @@ module _ (queue : List ℕ) (tail : ℕ) (marks : List ℕ) (k : ℕ) (h : (u : 
   pub unmark-done : tail ≤ k → marks ≡ zeros (length marks)
   unmark-done w = zeros-of marks (λ u. go u (h u))
     where
-      go : (u : ℕ) → Left queue tail marks k u → getD marks u 0 ≡ 0
+      go : (u : ℕ) → MarksFrom queue tail marks k u → getD marks u 0 ≡ 0
       go u (inl z) = z
       go u (inr j) = absurd (omega (arith, j .1, j .2, w))

@@ -20,17 +20,18 @@ use Rattle.columns.proofs.Owners.{by-numbers, one-owner, owned-few}
 use Rattle.columns.proofs.Sums.{sum-cong}
 use Rattle.columns.proofs.TwoColumns.{length-pairs}
 use Rattle.signatures.specs.Pairs.{signature}
-use Rattle.signatures.specs.Strong.{pairAt}
+use Rattle.signatures.specs.Strong.{rowPair}
 use Rattle.signatures.proofs.Sigs.{sig-same}
 use Rattle.table.specs.Lts.{Lts, Valid}
-use Rattle.signatures_branching.specs.Branching.{inertly, outerb, branchingPushed}
-use Rattle.signatures_branching.specs.Visiting.{outerPairs, outerOf, Lists, Visits}
+use Rattle.signatures_branching.specs.Branching.{inertly, outerb, outerPairs, branchingPushed, branchingSignature}
+use Rattle.signatures_branching.specs.Visiting.{outerOf, Visits}
+use Rattle.signatures_branching.proofs.Endings.{ListsReached}
 
 pub length-outer : (t : Lts) (home : List ℕ) (b x : ℕ) →
     length (outerPairs t home b x) ≡ many (t .m) (λ i. eqb (getD (t .source) i 0) x && outerb t home b i)
 unfolding outerPairs
 length-outer t home b x =
-    length-map (members (t .m) (λ i. eqb (getD (t .source) i 0) x && outerb t home b i)) (pairAt t home)
+    length-map (members (t .m) (λ i. eqb (getD (t .source) i 0) x && outerb t home b i)) (rowPair t home)
     ∙ length-members (λ i. eqb (getD (t .source) i 0) x && outerb t home b i) (t .m)
 
 module _ (t : Lts) (home : List ℕ) (b : ℕ) (queue : List ℕ) (k : ℕ) where
@@ -51,7 +52,7 @@ module _ (t : Lts) (home : List ℕ) (b : ℕ) (queue : List ℕ) (k : ℕ) wher
   pub visited-few : ((i j : ℕ) → i < k → j < k → getD queue i 0 ≡ getD queue j 0 → i ≡ j) → length (outerOf t home b queue k) ≤ t .m
   visited-few once = omega (arith, by-states, owned-few (t .m) (λ i. getD (t .source) i 0) (outerb t home b) (λ j. getD queue j 0) k once)
 
-module _ (t : Lts) (v : Valid t) (home : List ℕ) (s : ℕ) (queue : List ℕ) (k : ℕ) (l : Lists t home s queue k) where
+module _ (t : Lts) (v : Valid t) (home : List ℕ) (s : ℕ) (queue : List ℕ) (k : ℕ) (l : ListsReached t home s queue k) where
   -- a row is counted for one state of the list, if its source is reached
   row-once : (x : ℕ) (o : Bool) → x < t .n → many k (λ j. eqb x (getD queue j 0) && o) ≡ one-if (inertly t home s x && o)
   row-once x o h = go (inertly t home s x && o) refl
@@ -85,11 +86,10 @@ module _ (t : Lts) (v : Valid t) (home : List ℕ) (s : ℕ) (queue : List ℕ) 
       by-rows t home b queue k
       ∙ sum-cong (λ i. many k (λ j. eqb (getD (t .source) i 0) (getD queue j 0) && outerb t home b i)) (λ i. one-if (f i)) (t .m)
       (λ i w. row-once (getD (t .source) i 0) (outerb t home b i) (v .fields i w .source))
-      ∙ sym (many-sum (t .m) f) ∙ sym (length-members f (t .m)) ∙ sym (length-map (members (t .m) f) (pairAt t home))
+      ∙ sym (many-sum (t .m) f) ∙ sym (length-members f (t .m)) ∙ sym (length-map (members (t .m) f) (rowPair t home))
 
-  pub visited-signature : signature (laid (λ j. outerPairs t home (getD home s 0) (getD queue j 0)) k) ≡ signature
-      (branchingPushed t home s)
-  unfolding branchingPushed outerPairs
+  pub visited-signature : signature (laid (λ j. outerPairs t home (getD home s 0) (getD queue j 0)) k) ≡ branchingSignature t home s
+  unfolding branchingSignature branchingPushed outerPairs
   visited-signature =
       sig-same (laid (λ j. outerPairs t home (getD home s 0) (getD queue j 0)) k) (branchingPushed t home s) there back
     where
@@ -97,19 +97,19 @@ module _ (t : Lts) (v : Valid t) (home : List ℕ) (s : ℕ) (queue : List ℕ) 
       there p m =
           let r = laid-out (λ j. outerPairs t home (getD home s 0) (getD queue j 0)) p k m in
           let x = getD queue (r .0) 0 in
-          let g = Memᴰ·of-map (pairAt t home) (members (t .m) (λ i. eqb (getD (t .source) i 0) x && outerb t home (getD home s 0) i)) (r .2)
-          in
+          let g = Memᴰ·of-map (rowPair t home) (members (t .m) (λ i. eqb (getD (t .source) i 0) x && outerb t home (getD home s 0) i))
+          (r .2) in
           let q = members-out (λ i. eqb (getD (t .source) i 0) x && outerb t home (getD home s 0) i) (t .m) (g .0) (g .1) in
           let e = eqb-true _ _ (and-left (eqb (getD (t .source) (g .0) 0) x) (outerb t home (getD home s 0) (g .0)) (q .1)) in
           subst (λ (z : Pair). Mem z (branchingPushed t home s)) (g .2)
-          (Memᴰ·map (pairAt t home)
+          (Memᴰ·map (rowPair t home)
           (members-in (λ i. inertly t home s (getD (t .source) i 0) && outerb t home (getD home s 0) i) (t .m) (g .0) (q .0)
           (and-both (ap (inertly t home s) e ∙ l .reached (r .0) (r .1))
           (and-right (eqb (getD (t .source) (g .0) 0) x) (outerb t home (getD home s 0) (g .0)) (q .1)))))
 
       back : (p : Pair) → Mem p (branchingPushed t home s) → Mem p (laid (λ j. outerPairs t home (getD home s 0) (getD queue j 0)) k)
       back p m =
-          let g = Memᴰ·of-map (pairAt t home) (members (t .m)
+          let g = Memᴰ·of-map (rowPair t home) (members (t .m)
           (λ i. inertly t home s (getD (t .source) i 0) && outerb t home (getD home s 0) i)) m in
           let q = members-out (λ i. inertly t home s (getD (t .source) i 0) && outerb t home (getD home s 0) i) (t .m) (g .0) (g .1) in
           let x = getD (t .source) (g .0) 0 in
@@ -117,7 +117,7 @@ module _ (t : Lts) (v : Valid t) (home : List ℕ) (s : ℕ) (queue : List ℕ) 
           in
           laid-in (λ j. outerPairs t home (getD home s 0) (getD queue j 0)) p (r .0) k (r .1)
           (subst (λ (z : Pair). Mem z (outerPairs t home (getD home s 0) (getD queue (r .0) 0))) (g .2)
-          (Memᴰ·map (pairAt t home)
+          (Memᴰ·map (rowPair t home)
           (members-in (λ i. eqb (getD (t .source) i 0) (getD queue (r .0) 0) && outerb t home (getD home s 0) i) (t .m) (g .0) (q .0)
           (and-both (eq-eqb _ _ (sym (r .2))) (and-right (inertly t home s x) (outerb t home (getD home s 0) (g .0)) (q .1))))))
 

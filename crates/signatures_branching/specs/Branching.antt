@@ -3,15 +3,16 @@
 use Prim.Native.Nat.{ℕ}
 use mathlib.Core.Bool.{Bool, not, _&&_}
 use mathlib.Core.List.{List, map}
-use lib.ListN.{getD}
-use Rattle.columns.specs.Answers.{Said, none}
+use lib.Dec.{eqb}
+use lib.ListN.{length, getD}
+use Rattle.columns.specs.Answers.{Said}
 use Rattle.columns.specs.Counting.{members}
 use Rattle.columns.specs.Sets.{Pair}
 use Rattle.partition.specs.Partition.{Partition}
 use Rattle.signatures.specs.Inductive.{inertb}
 use Rattle.signatures.specs.Pairs.{Columns, signature}
 use Rattle.signatures.specs.Signing.{Left, roomy, signing, signatureRefusal}
-use Rattle.signatures.specs.Strong.{pairAt}
+use Rattle.signatures.specs.Strong.{rowPair}
 use Rattle.table.specs.Lts.{Lts}
 use Rattle.table.specs.Reach.{via, someRow}
 
@@ -30,16 +31,22 @@ unfoldable pub outerb : Lts → List ℕ → ℕ → ℕ → Bool
 unfolding inertb
 outerb t home b i = not (inertb (t .label) (t .target) home b i)
 
+-- the pairs of the rows of x that are visible or lead to another block than b
+unfoldable pub outerPairs : Lts → List ℕ → ℕ → ℕ → List Pair
+unfolding rowPair members outerb
+outerPairs t home b x = map (rowPair t home) (members (t .m) (λ i. eqb (getD (t .source) i 0) x && outerb t home b i))
+
 unfoldable pub branchingPushed : Lts → List ℕ → ℕ → List Pair
-unfolding pairAt members inertly outerb
+unfolding rowPair members inertly outerb
 branchingPushed t home s =
-    map (pairAt t home) (members (t .m) (λ i. inertly t home s (getD (t .source) i 0) && outerb t home (getD home s 0) i))
+    map (rowPair t home) (members (t .m) (λ i. inertly t home s (getD (t .source) i 0) && outerb t home (getD home s 0) i))
 
 unfoldable pub branchingSignature : Lts → List ℕ → ℕ → List Pair
 unfolding signature branchingPushed
 branchingSignature t home s = signature (branchingPushed t home s)
 
 unfoldable pub branchingBisimSignature : Lts → Partition → ℕ → Columns → List (List ℕ) → Said × Left
-unfolding signing signatureRefusal roomy branchingPushed
+unfolding signing signatureRefusal roomy branchingPushed branchingSignature
 branchingBisimSignature t p s out works =
-    signing (signatureRefusal t p s (roomy t works) none) (branchingPushed t (p .element-to-block) s) out works
+    let home = p .element-to-block in
+    signing (signatureRefusal t p s (roomy t works)) (length (branchingPushed t home s)) (branchingSignature t home s) out works

@@ -4,8 +4,8 @@ ghost use mathlib.Core.List.{_++_};
 ghost use mathlib.Core.Logic.{_⊎_};
 ghost use Prim.Native.Nat.{ℕ, _+_, _≤_, _<_};
 ghost use lib.ListN.{length, getD};
-ghost use Rattle.signatures_branching.specs.Branching.{branchingPushed};
-ghost use Rattle.signatures_branching.specs.Visiting.{outerPairs, Visits};
+ghost use Rattle.signatures_branching.specs.Branching.{outerPairs, branchingPushed, branchingSignature};
+ghost use Rattle.signatures_branching.specs.Visiting.{Visits};
 ghost use Rattle.columns.specs.Rows.{pairsOf};
 ghost use Rattle.signatures.specs.Pairs.{signature};
 ghost use Rattle.table.specs.Lts.{Valid};
@@ -105,7 +105,7 @@ fn visit(
         let u = at(target, i);
         let stays = inert(label, target, element_to_block, b, i);
         if stays {
-            high = append(&mut *marks, &mut *queue, high, u);
+            high = append(u, &mut *marks, &mut *queue, high);
             i += 1;
         } else {
             pushed_labels[k] = label[i];
@@ -205,8 +205,8 @@ pub fn push_branching(
     ensures { λ r.
         let system = ltsOf table source label target in
         ⌜ (r ≡ length (branchingPushed system (was «element_to_block») state))
-        × (signature (pairsOf r (is «pushed_labels») (is «pushed_blocks»))
-        ≡ signature (branchingPushed system (was «element_to_block») state)) × (r ≤ table .m) ⌝ }
+        × (signature (pairsOf r (is «pushed_labels») (is «pushed_blocks»)) ≡ branchingSignature system (was «element_to_block») state)
+        × (r ≤ table .m) ⌝ }
     ensures { λ _. ⌜ Cleared marks × Cleared queue ⌝ }
 {
     let reached = reach(

@@ -13,10 +13,10 @@ pub mod core;
 use columns::answers::NumberAnswer;
 use columns::answers::refusing_number;
 use columns::cells::clear;
-use signatures::checks::roomy;
-use signatures::checks::signature_refusal;
 use signatures::flat::sign;
 use table::Table;
+use table::checks::works_long;
+use table_partition::argument_refusal;
 
 // Over states reached by hidden steps that stay in the state's block, (a, block of t) for each visible step and each hidden step into
 // another block. Work: the pairs pushed, two columns for the sort, and a mark for each state and a queue for the search.
@@ -51,15 +51,18 @@ pub fn branching_bisim_signature(
 {
     let n = table.n as usize;
     let s = state as usize;
-    let front = roomy(
+    let room = works_long(
         table,
-        pushed_labels.len(),
-        pushed_blocks.len(),
-        order.len(),
-        spare.len(),
+        &[
+            pushed_labels.len(),
+            pushed_blocks.len(),
+            order.len(),
+            spare.len(),
+            marks.len(),
+            queue.len(),
+        ],
     );
-    let back = roomy(table, marks.len(), queue.len(), queue.len(), queue.len());
-    let t = signature_refusal(
+    let t = argument_refusal(
         table,
         source,
         label,
@@ -72,7 +75,8 @@ pub fn branching_bisim_signature(
         marked_split,
         end,
         s,
-        front & back,
+        n,
+        room,
     );
     let number = t.number;
     if number != 0 {
@@ -93,11 +97,11 @@ pub fn branching_bisim_signature(
         &mut *queue,
     );
     sign(
-        d,
         labels,
         blocks,
         pushed_labels,
         pushed_blocks,
+        d,
         order,
         spare,
     )

@@ -37,15 +37,15 @@ use Rattle.pairs_merge.specs.Merged.{Heads, heads}
 use Rattle.pairs_merge.specs.Rest.{restOf, leftOf, leftIn, mergeOf}
 use Rattle.signatures.specs.Inductive.{inertb}
 use Rattle.signatures.specs.Pairs.{signature}
-use Rattle.signatures.specs.Strong.{ownRows, pairAt}
+use Rattle.signatures.specs.Strong.{ownRows, rowPair}
 use Rattle.signatures.proofs.Sigs.{sig-in, sig-out}
 use Rattle.pairs.specs.Lists.{listAt}
 use Rattle.table.specs.Lts.{Lts}
-use Rattle.signatures_branching.specs.Branching.{outerb}
-use Rattle.signatures_branching.specs.Visiting.{outerPairs}
+use Rattle.signatures_branching.specs.Branching.{outerb, outerPairs}
 use Rattle.signatures_branching.proofs.Visited.{length-outer}
 use Rattle.signatures_sorted.specs.Sorted.{sortedAt, sortedPushed, sortedSignature}
-use Rattle.signatures_sorted.specs.Taking.{innerRow, innerTargets, Opened}
+use Rattle.signatures_sorted.specs.Joining.{Opened}
+use Rattle.signatures_sorted.specs.Taking.{innerRow, innerTargets}
 use Rattle.signatures_sorted.proofs.Openings.{rest-opened, left-opened}
 use Rattle.signatures_sorted.proofs.SortedSigs.{sorted-ascending}
 
@@ -76,7 +76,7 @@ module _ (t : Lts) (home : List ℕ) (given : ℕ → List Pair) (s : ℕ) where
       (t .m))
       ∙ sum-cong (λ i. one-if (mine i && not (inert i)) + cond (mine i && inert i) (length (given (getD (t .target) i 0))) 0)
       (λ i. cond (mine i) (length (sortedAt t home given (getD home s 0) i)) 0) (t .m)
-      (λ i w. row (given (getD (t .target) i 0)) (pairAt t home i) (mine i) (inert i))
+      (λ i w. row (given (getD (t .target) i 0)) (rowPair t home i) (mine i) (inert i))
       ∙ sym (length-flat-members (sortedAt t home given (getD home s 0)) mine (t .m))
 
 -- ---- which: the rows one by one
@@ -85,14 +85,14 @@ module _ (t : Lts) (home : List ℕ) (given : ℕ → List Pair) (s : ℕ) where
   unfolding outerPairs outerb sortedPushed ownRows sortedAt
   own-pushed p m =
       let f : ℕ → Bool = λ i. eqb (getD (t .source) i 0) s && outerb t home (getD home s 0) i in
-      let g = Memᴰ·of-map (pairAt t home) (members (t .m) f) m in
+      let g = Memᴰ·of-map (rowPair t home) (members (t .m) f) m in
       let i = g .0 in
       let r = members-out f (t .m) i (g .1) in
       let b = inertb (t .label) (t .target) home (getD home s 0) i in
       let e : b ≡ false = not-true b (and-right (eqb (getD (t .source) i 0) s) (not b) (r .1)) in
       flat-in (sortedAt t home given (getD home s 0)) (ownRows t s) i p
       (members-in (λ i. eqb (getD (t .source) i 0) s) (t .m) i (r .0) (and-left (eqb (getD (t .source) i 0) s) (not b) (r .1)))
-      (subst (λ (c : Bool). Mem p (cond c (given (getD (t .target) i 0)) (pairAt t home i ∷ []))) (sym e) (List·Memᴰ·head (sym (g .2))))
+      (subst (λ (c : Bool). Mem p (cond c (given (getD (t .target) i 0)) (rowPair t home i ∷ []))) (sym e) (List·Memᴰ·head (sym (g .2))))
 
   taken-pushed : (u : ℕ) → Mem u (innerTargets t home s) → (p : Pair) → Mem p (given u) → Mem p (sortedPushed t home given s)
   unfolding innerTargets innerRow sortedPushed ownRows sortedAt
@@ -104,7 +104,7 @@ module _ (t : Lts) (home : List ℕ) (given : ℕ → List Pair) (s : ℕ) where
       let b = inertb (t .label) (t .target) home (getD home s 0) i in
       flat-in (sortedAt t home given (getD home s 0)) (ownRows t s) i p
       (members-in (λ i. eqb (getD (t .source) i 0) s) (t .m) i (r .0) (and-left (eqb (getD (t .source) i 0) s) b (r .1)))
-      (subst (λ (c : Bool). Mem p (cond c (given (getD (t .target) i 0)) (pairAt t home i ∷ [])))
+      (subst (λ (c : Bool). Mem p (cond c (given (getD (t .target) i 0)) (rowPair t home i ∷ [])))
       (sym (and-right (eqb (getD (t .source) i 0) s) b (r .1))) (subst (λ (x : ℕ). Mem p (given x)) (sym (g .2)) k))
 
   pushed-split :
@@ -117,14 +117,14 @@ module _ (t : Lts) (home : List ℕ) (given : ℕ → List Pair) (s : ℕ) where
       go (f .0) (r .0) (r .1) (inertb (t .label) (t .target) home (getD home s 0) (f .0)) refl (f .2)
     where
       go : (i : ℕ) → i < t .m → eqb (getD (t .source) i 0) s ≡ true → (b : Bool) → inertb (t .label) (t .target) home (getD home s 0) i ≡ b
-          → Mem p (cond b (given (getD (t .target) i 0)) (pairAt t home i ∷ []))
+          → Mem p (cond b (given (getD (t .target) i 0)) (rowPair t home i ∷ []))
           → Mem p (outerPairs t home (getD home s 0) s) ⊎ ((u : ℕ) × Mem u (innerTargets t home s) × Mem p (given u))
       go i w h true e k =
           inr (getD (t .target) i 0, Memᴰ·map (λ i. getD (t .target) i 0) (members-in (innerRow t home s) (t .m) i w (and-both h e)), k)
       go i w h false e k =
           let f : ℕ → Bool = λ i. eqb (getD (t .source) i 0) s && outerb t home (getD home s 0) i in
-          inl (subst (λ (q : Pair). Mem q (map (pairAt t home) (members (t .m) f))) (sym (List·Memᴰ·eq-of-singleton k))
-          (Memᴰ·map (pairAt t home) (members-in f (t .m) i w (and-both h (ap not e)))))
+          inl (subst (λ (q : Pair). Mem q (map (rowPair t home) (members (t .m) f))) (sym (List·Memᴰ·eq-of-singleton k))
+          (Memᴰ·map (rowPair t home) (members-in f (t .m) i w (and-both h (ap not e)))))
 
 module _ (t : Lts) (home : List ℕ) (given : ℕ → List Pair) (s : ℕ) (d : Heads) (k : ℕ) (count : k ≡ length (innerTargets t home s)) where
   -- the lists to be merged: the own pairs, and the k lists

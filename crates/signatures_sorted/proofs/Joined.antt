@@ -14,7 +14,7 @@ use Rattle.pairs_merge.specs.Merged.{Heads}
 use Rattle.pairs_merge.specs.Rest.{leftIn, mergeOf}
 use Rattle.pairs_merge.proofs.Joins.{few-merged, merge-ascending}
 use Rattle.signatures.specs.Pairs.{Columns, pairsOver}
-use Rattle.signatures_sorted.specs.Taking.{joined}
+use Rattle.signatures_sorted.specs.Joining.{jointSet}
 
 -- r merged pairs stand over a₀ and b₀ in a and b
 module _ (d : Heads) (k own r : ℕ) (a b a₀ b₀ : List ℕ)
@@ -49,14 +49,14 @@ module _ (d : Heads) (k own r : ℕ) (a b a₀ b₀ : List ℕ)
   -- the own pairs x, united with them
   module _ (p q : List ℕ) where
     abbrev whole : List Pair
-    whole = joined own p q d k
+    whole = jointSet own p q d k
 
     united : addAll pairLt (pairsOf own p q) (pairsOf r a b) ≡ whole
-    unfolding joined
+    unfolding jointSet
     united = ap (λ (l : List Pair). addAll pairLt (pairsOf own p q) l) merged-pairs
 
     more : length (mergeOf d k) ≤ length whole
-    unfolding joined
+    unfolding jointSet
     more = addAll-more pairLt (pairsOf own p q) (mergeOf d k)
 
     module _ (n : ℕ) (x y : List ℕ)

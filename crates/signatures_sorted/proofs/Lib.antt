@@ -6,6 +6,7 @@ pub mod Emptied
 pub mod Turning
 pub mod Counted
 pub mod SortedAlike
+pub mod Theorems
 pub mod Examples
 pub mod Refused
 pub mod Joined

@@ -17,26 +17,27 @@ use Rattle.columns.proofs.Counting.{Ranked, many-onto}
 use Rattle.columns.proofs.Facts.{at-mem, mem-at}
 use Rattle.columns.proofs.Lists.{length-listed}
 use Rattle.columns.proofs.Orders.{lex-split, ltb-order, pair-order}
-use Rattle.pairs_merge.specs.Merged.{heads, placeOf, endAt}
-use Rattle.pairs_merge.specs.Rest.{between, restOf, leftOf, Ready}
+use Rattle.pairs_merge.specs.Merged.{heads, headPlace, endAt}
+use Rattle.pairs_merge.specs.Rest.{pairsBetween, restOf, leftOf, Mergeable}
 use Rattle.signatures.specs.Inductive.{inertb}
 use Rattle.pairs.specs.Lists.{startAt, listAt, Lists}
 use Rattle.pairs.specs.Pairs.{pairAt}
 use Rattle.pairs.proofs.Refusals.{shorter-left, shorter-right}
 use Rattle.table.specs.Lts.{Lts, rowIn, rowAt, Valid}
 use Rattle.signatures.specs.Strong.{ownRows}
-use Rattle.signatures_sorted.specs.Taking.{innerRow, innerTargets, Takes, Opened}
+use Rattle.signatures_sorted.specs.Joining.{Opened}
+use Rattle.signatures_sorted.specs.Taking.{innerRow, innerTargets, Takes}
 use Rattle.signatures_sorted.proofs.Pushed.{own-few, few-rows}
 
 -- ---- what is left of a list that is opened is all of it
 module _ {starts states : List ℕ} {k : ℕ} {high low endHigh endLow : List ℕ} (labels blocks : List ℕ)
     (o : Opened starts states k high low endHigh endLow) (j : ℕ) (h : j < k) where
   pub rest-opened : restOf (heads labels blocks high low endHigh endLow) j ≡ listAt starts labels blocks (getD states j 0)
-  unfolding restOf between placeOf endAt listAt
+  unfolding restOf pairsBetween headPlace endAt listAt
   rest-opened = ap₂ (λ (p q : ℕ). listed (q - p) (λ i. pairAt labels blocks (p + i))) (o .place j h) (o .end j h)
 
   pub left-opened : leftOf (heads labels blocks high low endHigh endLow) j ≡ length (listAt starts labels blocks (getD states j 0))
-  unfolding leftOf placeOf endAt listAt
+  unfolding leftOf headPlace endAt listAt
   left-opened =
       ap₂ (λ (p q : ℕ). q - p) (o .place j h) (o .end j h)
       ∙ sym (length-listed {A = Pair} (startAt starts (getD states j 0 + 1) - startAt starts (getD states j 0))
@@ -121,7 +122,7 @@ module _ (t : Lts) (home : List ℕ) (s : ℕ) (starts labels blocks : List ℕ)
   pub lists-ready :
       Takes t home starts labels blocks s → (k : ℕ) (high low endHigh endLow : List ℕ)
       → Opened starts (innerTargets t home s) k high low endHigh endLow → k ≤ length high → k ≤ length low → k ≤ length endHigh
-      → k ≤ length endLow → Ready (heads labels blocks high low endHigh endLow) k
+      → k ≤ length endLow → Mergeable (heads labels blocks high low endHigh endLow) k
   unfolding endAt
   lists-ready g k high low endHigh endLow o h l eh el = record {
     fit = λ j w.

@@ -1,31 +1,27 @@
 -- The own pairs of a state as they are pushed and made a set.
-use Prim.Native.Nat.{ℕ, _+_, _≤_, _<_}
+use Prim.Native.Nat.{ℕ, _+_, _≤_}
 use native.Mathlib.Omega.{arith}
-use native.Mathlib.Nat.{eq-or-lt-of-le}
-use borrow.Author.Tests.{lt-ltb, le-ltb, eq-eqb, ne-eqb}
-use mathlib.Core.Logic.{⊎-elim}
 use mathlib.Core.Path.{_≡_, ap, ap₂, sym, subst, _∙_}
 use mathlib.Core.Bool.{Bool, _&&_}
 use mathlib.Core.List.{List, _++_}
-use lib.Dec.{ltb, eqb}
+use lib.Dec.{eqb}
 use lib.ListN.{length, getD}
 use Rattle.columns.specs.Columns.{listed}
 use Rattle.columns.specs.Counting.{many}
 use Rattle.columns.specs.Rows.{pairsOf}
 use Rattle.columns.specs.Sets.{Pair, pairLt, Ascending}
 use Rattle.columns.proofs.Bools.{and-left}
-use Rattle.columns.proofs.All.{lt-or-le}
-use Rattle.columns.proofs.Counting.{one-if, one-if-true, one-if-false, many-add, many-le, many-mono}
+use Rattle.columns.proofs.Counting.{many-le, many-mono}
 use Rattle.columns.proofs.Members.{length-members}
 use Rattle.columns.proofs.TwoColumns.{pairs-over, length-pairs}
-use Rattle.signatures_branching.specs.Branching.{outerb}
-use Rattle.signatures_branching.specs.Visiting.{outerPairs}
+use Rattle.signatures_branching.specs.Branching.{outerb, outerPairs}
 use Rattle.signatures_branching.proofs.Visited.{length-outer}
 use Rattle.signatures.specs.Strong.{ownRows}
 use Rattle.signatures.specs.Pairs.{Columns, signature, pairsOver}
 use Rattle.signatures.proofs.Sigs.{sig-few, sig-ascending}
 use Rattle.table.specs.Lts.{Lts}
 use Rattle.table.specs.Stretch.{firstRow}
+use Rattle.table.proofs.RowsOf.{rows-count}
 
 -- how many rows a state has, and how many of them pass a test
 module _ (t : Lts) (s : ℕ) where
@@ -46,44 +42,8 @@ module _ (t : Lts) (s : ℕ) where
       )
 
 -- those of s stand between the first row of s and the first of s + 1
-one-more : (x s : ℕ) → one-if (ltb x (s + 1)) ≡ one-if (ltb x s) + one-if (eqb x s)
-one-more x s =
-    ⊎-elim
-    (λ (l : x < s).
-    omega (
-      arith,
-      one-if-true (ltb x (s + 1)) (lt-ltb x (s + 1) (omega arith)),
-      one-if-true (ltb x s) (lt-ltb x s l),
-      one-if-false (eqb x s) (ne-eqb x s (λ e. omega (arith, e))),
-    ))
-    (λ (l : s ≤ x).
-    ⊎-elim
-    (λ (e : s ≡ x).
-    omega (
-      arith,
-      one-if-true (ltb x (s + 1)) (lt-ltb x (s + 1) (omega arith)),
-      one-if-false (ltb x s) (le-ltb x s l),
-      one-if-true (eqb x s) (eq-eqb x s (sym e)),
-    ))
-    (λ (k : s < x).
-    omega (
-      arith,
-      one-if-false (ltb x (s + 1)) (le-ltb x (s + 1) (omega arith)),
-      one-if-false (ltb x s) (le-ltb x s l),
-      one-if-false (eqb x s) (ne-eqb x s (λ e. omega (arith, e))),
-    ))
-    (eq-or-lt-of-le l))
-    (lt-or-le x s)
-
 pub rows-counted : (t : Lts) (s : ℕ) → firstRow (t .source) (t .m) (s + 1) ≡ firstRow (t .source) (t .m) s + length (ownRows t s)
-unfolding firstRow
-rows-counted t s =
-    omega (
-      arith,
-      own-count t s,
-      many-add (t .m) (λ i. ltb (getD (t .source) i 0) (s + 1)) (λ i. ltb (getD (t .source) i 0) s) (λ i. eqb (getD (t .source) i 0) s)
-          (λ i w. one-more (getD (t .source) i 0) s),
-    )
+rows-counted t s = omega (arith, own-count t s, rows-count (t .source) (t .m) s)
 
 pub few-outer : (t : Lts) (home : List ℕ) (b x : ℕ) → length (outerPairs t home b x) ≤ length (ownRows t x)
 few-outer t home b x = omega (arith, length-outer t home b x, own-few t x (outerb t home b))

@@ -13,7 +13,7 @@ use Rattle.columns.proofs.Chosen.{length-chosen, chosen-of}
 use Rattle.columns.proofs.Counting.{one-if-true, one-if-false, many-suc, many-nothing, many-up, many-strict, Ranked, many-onto}
 use Rattle.pairs_merge.specs.Merged.{wide}
 use Rattle.pairs.specs.Lists.{startAt}
-use Rattle.signatures_sorted.specs.Taking.{Opened}
+use Rattle.signatures_sorted.specs.Joining.{Opened}
 
 -- of the numbers from `first` to before `end`, those below i are seen; k of them passed, and the head at the rank of each is the list
 -- of its state, which g gives

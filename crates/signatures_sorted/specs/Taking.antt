@@ -1,19 +1,14 @@
--- The lists that are taken, as heads of a merge, and the set of them and the own pairs; and the work slices.
-use Prim.Native.Nat.{ℕ, _+_, _≤_, _<_}
+-- The lists that a state takes, and what is asked of them and of the work slices where the checks are made already.
+use Prim.Native.Nat.{ℕ, _+_, _≤_}
 use mathlib.Core.Path.{_≡_}
-use mathlib.Core.Bool.{Bool, _&&_, cond}
+use mathlib.Core.Bool.{Bool, _&&_}
 use mathlib.Core.List.{List, [], _∷_, map}
 use lib.Dec.{eqb}
 use lib.ListN.{length, getD}
-use Rattle.columns.specs.Answers.{Said, done, refused}
 use Rattle.columns.specs.Columns.{zeros}
 use Rattle.columns.specs.Counting.{members}
-use Rattle.columns.specs.Rows.{pairsOf}
-use Rattle.columns.specs.Sets.{Mem, Pair, pairLt, Ascending, addAll}
-use Rattle.pairs_merge.specs.Merged.{Heads, wide}
-use Rattle.pairs_merge.specs.Rest.{mergeOf}
+use Rattle.columns.specs.Sets.{Mem, pairLt, Ascending}
 use Rattle.signatures.specs.Inductive.{inertb}
-use Rattle.signatures.specs.Pairs.{Columns, fits, pairsOver}
 use Rattle.pairs.specs.Lists.{startAt, listAt}
 use Rattle.pairs.specs.Pairs.{endOf}
 use Rattle.table.specs.Lts.{Lts}
@@ -36,22 +31,6 @@ pub record Takeable (starts labels blocks : List ℕ) (u : ℕ) : Type 0 where
 -- so do the lists that s takes; no other is asked for
 abbrev pub Takes : Lts → List ℕ → List ℕ → List ℕ → List ℕ → ℕ → Type 0
 Takes t home starts labels blocks s = (u : ℕ) → Mem u (innerTargets t home s) → Takeable starts labels blocks u
-
--- the first k heads are the given lists of k states
-pub record Opened (starts states : List ℕ) (k : ℕ) (high low endHigh endLow : List ℕ) : Type 0 where
-  pub count : k ≡ length states
-  pub place : (j : ℕ) → j < k → wide high low j ≡ startAt starts (getD states j 0)
-  pub end : (j : ℕ) → j < k → wide endHigh endLow j ≡ startAt starts (getD states j 0 + 1)
-
--- the first own pairs, and those of k lists, as a set
-unfoldable pub joined : ℕ → List ℕ → List ℕ → Heads → ℕ → List Pair
-unfolding addAll pairLt pairsOf mergeOf
-joined own labels blocks d k = addAll pairLt (pairsOf own labels blocks) (mergeOf d k)
-
--- a set is written over the columns of the result, or 16 where they have no room for as many pairs as were pushed
-unfoldable pub writing : ℕ → List Pair → Columns → Said × Columns
-unfolding fits pairsOver
-writing pushed pairs out = cond (fits pushed out) (done (length pairs ∷ []), pairsOver pairs out) (refused 16 pushed, out)
 
 -- every work slice has k cells
 abbrev pub EachLong : ℕ → List (List ℕ) → Type 0

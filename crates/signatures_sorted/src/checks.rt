@@ -9,8 +9,8 @@ ghost use Rattle.partition.specs.Lent.{before};
 ghost use Rattle.table.specs.Lent.{ltsOf};
 use columns::answers::Refusal;
 use pairs::lists::lists_refusal;
-use signatures::checks::signature_refusal;
 use table::Table;
+use table_partition::argument_refusal;
 
 // The refusal of a call with the table, the partition, a state and the given lists; `room` says whether its other slices are long
 // enough, the starts among them.
@@ -38,7 +38,8 @@ pub fn sorted_refusal(
         let given = before elements «element_offset» «element_to_block» begin «marked_split» end (table .n) count in
         ⌜ r ≡ sortedRefusal system given state (flat (was starts) (was «given_labels») (was «given_blocks»)) room ⌝ }
 {
-    let t = signature_refusal(
+    let n = table.n as usize;
+    let t = argument_refusal(
         table,
         source,
         label,
@@ -51,11 +52,12 @@ pub fn sorted_refusal(
         marked_split,
         end,
         state,
+        n,
         room,
     );
     let number = t.number;
     if number != 0 {
         return t;
     }
-    lists_refusal(table.n as usize, starts, given_labels, given_blocks)
+    lists_refusal(n, starts, given_labels, given_blocks)
 }

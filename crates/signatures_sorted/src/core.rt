@@ -3,18 +3,19 @@ ghost use mathlib.Core.Path.{_≡_};
 ghost use mathlib.Core.List.{[], _∷_};
 ghost use Prim.Native.Nat.{_+_, _*_, _≤_, _<_};
 ghost use lib.ListN.{length, getD};
-ghost use Rattle.signatures_branching.specs.Visiting.{outerPairs};
+ghost use Rattle.signatures_branching.specs.Branching.{outerPairs};
 ghost use Rattle.columns.specs.Answers.{saidNumber};
 ghost use Rattle.columns.specs.Rows.{pairsOf};
 ghost use Rattle.columns.specs.Sets.{pairLt, Ascending};
 ghost use Rattle.pairs.specs.Lists.{listAt};
 ghost use Rattle.pairs_merge.specs.Merged.{heads};
-ghost use Rattle.pairs_merge.specs.Rest.{leftIn, Ready};
+ghost use Rattle.pairs_merge.specs.Rest.{leftIn, Mergeable};
 ghost use Rattle.signatures.specs.Pairs.{signature, pairsOver};
 ghost use Rattle.signatures.specs.Signing.{finishing};
 ghost use Rattle.signatures.specs.Strong.{ownRows};
-ghost use Rattle.signatures_sorted.specs.Sorted.{sortedPushed};
-ghost use Rattle.signatures_sorted.specs.Taking.{innerTargets, Takes, Opened, joined, writing, EachLong, EachZero};
+ghost use Rattle.signatures_sorted.specs.Sorted.{sortedPushed, sortedSignature};
+ghost use Rattle.signatures_sorted.specs.Joining.{Opened, jointSet, writing};
+ghost use Rattle.signatures_sorted.specs.Taking.{innerTargets, Takes, EachLong, EachZero};
 ghost use Rattle.table.specs.Lts.{Valid};
 ghost use Rattle.columns.specs.Lent.{was, is, Clear};
 ghost use Rattle.table.specs.Lent.{ltsOf, ltsNow};
@@ -92,9 +93,9 @@ fn take(
         0,
     );
     let own = flatten(
-        d,
         &*high,
         &*low,
+        d,
         own_labels,
         own_blocks,
         &mut *end_high,
@@ -140,13 +141,13 @@ fn join(
     requires { ⌜ (lists ≤ 16384) × (2 * lists ≤ length (now tree)) × (own ≤ length (now «own_labels»))
         × (own ≤ length (now «own_blocks»)) ⌝ }
     requires { let opened = heads (now «given_labels») (now «given_blocks») (now high) (now low) (now «end_high») (now «end_low») in
-        ⌜ Ready opened lists × Ascending pairLt (pairsOf own (now «own_labels») (now «own_blocks»)) ⌝ }
+        ⌜ Mergeable opened lists × Ascending pairLt (pairsOf own (now «own_labels») (now «own_blocks»)) ⌝ }
     requires { let opened = heads (now «given_labels») (now «given_blocks») (now high) (now low) (now «end_high») (now «end_low») in
         ⌜ (own + leftIn opened lists ≤ length (now labels)) × (own + leftIn opened lists ≤ length (now blocks)) ⌝ }
     ensures { λ r.
         let opened = heads (was «given_labels») (was «given_blocks») (was high) (was low) (was «end_high») (was «end_low») in
-        ⌜ (r ≡ length (joined own (was «own_labels») (was «own_blocks») opened lists))
-        × ((is labels, is blocks) ≡ pairsOver (joined own (was «own_labels») (was «own_blocks») opened lists) (was labels, was blocks))
+        ⌜ (r ≡ length (jointSet own (was «own_labels») (was «own_blocks») opened lists))
+        × ((is labels, is blocks) ≡ pairsOver (jointSet own (was «own_labels») (was «own_blocks») opened lists) (was labels, was blocks))
         ⌝ }
 {
     let r = merge(
@@ -183,13 +184,13 @@ fn write_set(
     requires { ⌜ (taken .lists ≤ 16384) × (2 * taken .lists ≤ length (now tree)) × (taken .own ≤ length (now «own_labels»))
         × (taken .own ≤ length (now «own_blocks»)) ⌝ }
     requires { let opened = heads (now «given_labels») (now «given_blocks») (now high) (now low) (now «end_high») (now «end_low») in
-        ⌜ Ready opened (taken .lists) × Ascending pairLt (pairsOf (taken .own) (now «own_labels») (now «own_blocks»)) ⌝ }
+        ⌜ Mergeable opened (taken .lists) × Ascending pairLt (pairsOf (taken .own) (now «own_labels») (now «own_blocks»)) ⌝ }
     requires { let opened = heads (now «given_labels») (now «given_blocks») (now high) (now low) (now «end_high») (now «end_low») in
         ⌜ taken .own + leftIn opened (taken .lists) ≤ taken .pushed ⌝ }
     ensures { λ r.
         let opened = heads (was «given_labels») (was «given_blocks») (was high) (was low) (was «end_high») (was «end_low») in
         ⌜ (saidNumber r, (is labels, is blocks))
-        ≡ writing (taken .pushed) (joined (taken .own) (was «own_labels») (was «own_blocks») opened (taken .lists))
+        ≡ writing (taken .pushed) (jointSet (taken .own) (was «own_labels») (was «own_blocks») opened (taken .lists))
         (was labels, was blocks) ⌝ }
 {
     let pushed = taken.pushed;
@@ -232,7 +233,7 @@ fn finish(
     requires { ⌜ (taken .lists ≤ 16384) × (2 * taken .lists ≤ length (now tree)) × (taken .own ≤ length (now «own_labels»))
         × (taken .own ≤ length (now «own_blocks»)) ⌝ }
     requires { let opened = heads (now «given_labels») (now «given_blocks») (now high) (now low) (now «end_high») (now «end_low») in
-        ⌜ Ready opened (taken .lists) × Ascending pairLt (pairsOf (taken .own) (now «own_labels») (now «own_blocks»)) ⌝ }
+        ⌜ Mergeable opened (taken .lists) × Ascending pairLt (pairsOf (taken .own) (now «own_labels») (now «own_blocks»)) ⌝ }
     requires { let opened = heads (now «given_labels») (now «given_blocks») (now high) (now low) (now «end_high») (now «end_low») in
         ⌜ taken .own + leftIn opened (taken .lists) ≤ taken .pushed ⌝ }
     ensures { λ r.
@@ -240,7 +241,7 @@ fn finish(
         let workLeft = is «own_labels» ∷ is «own_blocks» ∷ is high ∷ is low ∷ is «end_high» ∷ is «end_low» ∷ is tree ∷ [] in
         let opened = heads (was «given_labels») (was «given_blocks») (was high) (was low) (was «end_high») (was «end_low») in
         ⌜ (saidNumber r, ((is labels, is blocks), workLeft))
-        ≡ finishing (taken .pushed) (joined (taken .own) (was «own_labels») (was «own_blocks») opened (taken .lists))
+        ≡ finishing (taken .pushed) (jointSet (taken .own) (was «own_labels») (was «own_blocks») opened (taken .lists))
         (was labels, was blocks) work ⌝ }
 {
     let answer = write_set(
@@ -295,11 +296,12 @@ fn sign_rows(
         ⌜ EachLong (length rows) works × (table .n + table .m ≤ length (now tree)) × Clear tree ⌝ }
     ensures { λ r.
         let lists = listAt (was starts) (was «given_labels») (was «given_blocks») in
-        let pushed = sortedPushed (ltsOf table source label target) (was «element_to_block») lists state in
+        let system = ltsOf table source label target in
+        let pushed = length (sortedPushed system (was «element_to_block») lists state) in
         let work = was «own_labels» ∷ was «own_blocks» ∷ was high ∷ was low ∷ was «end_high» ∷ was «end_low» ∷ was tree ∷ [] in
         let workLeft = is «own_labels» ∷ is «own_blocks» ∷ is high ∷ is low ∷ is «end_high» ∷ is «end_low» ∷ is tree ∷ [] in
         ⌜ (saidNumber r, ((is labels, is blocks), workLeft))
-        ≡ finishing (length pushed) (signature pushed) (was labels, was blocks) work ⌝ }
+        ≡ finishing pushed (sortedSignature system (was «element_to_block») lists state) (was labels, was blocks) work ⌝ }
 {
     let taken = take(
         table,
@@ -364,11 +366,12 @@ pub fn branching_bisim_signature_sorted(
         ⌜ EachLong (table .m) works × (table .n + table .m ≤ length (now tree)) × EachZero (now tree ∷ works) ⌝ }
     ensures { λ r.
         let lists = listAt (was starts) (was «given_labels») (was «given_blocks») in
-        let pushed = sortedPushed (ltsOf table source label target) (was «element_to_block») lists state in
+        let system = ltsOf table source label target in
+        let pushed = length (sortedPushed system (was «element_to_block») lists state) in
         let work = was «own_labels» ∷ was «own_blocks» ∷ was high ∷ was low ∷ was «end_high» ∷ was «end_low» ∷ was tree ∷ [] in
         let workLeft = is «own_labels» ∷ is «own_blocks» ∷ is high ∷ is low ∷ is «end_high» ∷ is «end_low» ∷ is tree ∷ [] in
         ⌜ (saidNumber r, ((is labels, is blocks), workLeft))
-        ≡ finishing (length pushed) (signature pushed) (was labels, was blocks) work ⌝ }
+        ≡ finishing pushed (sortedSignature system (was «element_to_block») lists state) (was labels, was blocks) work ⌝ }
 {
     let m = table.m as usize;
     let rows = rows_of(source, m, state);

@@ -16,9 +16,9 @@ use crate::checks::sorted_refusal;
 use columns::answers::NumberAnswer;
 use columns::answers::refusing_number;
 use columns::cells::clear;
-use signatures::checks::roomy;
 use signatures::flat::wipe;
 use table::Table;
+use table::checks::works_long;
 
 // (a, block of t) for each step of a state that is visible or leads to another block, and for each hidden step within the block the
 // given list of its target. List u of the given ones is the pairs from start u to before start u + 1. Work: the own pairs, the place
@@ -58,16 +58,21 @@ pub fn branching_bisim_signature_sorted(
         ≡ branchingBisimSignatureSorted system given state (flat (was starts) (was «given_labels») (was «given_blocks»))
         (was labels, was blocks) work ⌝ }
 {
+    let n = table.n as usize;
     let s = state as usize;
-    let front = roomy(
+    let works = works_long(
         table,
-        own_labels.len(),
-        own_blocks.len(),
-        high.len(),
-        low.len(),
+        &[
+            own_labels.len(),
+            own_blocks.len(),
+            high.len(),
+            low.len(),
+            end_high.len(),
+            end_low.len(),
+            tree.len(),
+        ],
     );
-    let back = roomy(table, end_high.len(), end_low.len(), tree.len(), tree.len());
-    let lists = table.n as usize + 1 <= starts.len();
+    let lists = n + 1 <= starts.len();
     let t = sorted_refusal(
         table,
         source,
@@ -84,7 +89,7 @@ pub fn branching_bisim_signature_sorted(
         starts,
         given_labels,
         given_blocks,
-        lists & (front & back),
+        lists & works,
     );
     let number = t.number;
     if number != 0 {

@@ -4,7 +4,8 @@ ghost use mathlib.Core.List.{[], _∷_};
 ghost use Prim.Native.Nat.{ℕ, _+_, _≤_, _<_};
 ghost use lib.ListN.{length, getD};
 ghost use Rattle.pairs_merge.specs.Merged.{wide};
-ghost use Rattle.signatures_sorted.specs.Taking.{innerTargets, Opened, EachLong};
+ghost use Rattle.signatures_sorted.specs.Joining.{Opened};
+ghost use Rattle.signatures_sorted.specs.Taking.{innerTargets, EachLong};
 ghost use Rattle.signatures.specs.Strong.{ownRows};
 ghost use Rattle.pairs.specs.Lists.{startAt};
 ghost use Rattle.table.specs.Lts.{Valid};
@@ -18,7 +19,7 @@ use table::Table;
 use table::core::rows_of;
 
 // A place in the flat pairs, over cells j.
-fn set_place(high: &mut [u16], low: &mut [u16], j: usize, place: usize)
+fn set_place(place: usize, high: &mut [u16], low: &mut [u16], j: usize)
     requires { ⌜ (j < length (now high)) × (j < length (now low)) × (place < 4294967296) ⌝ }
     ensures { λ _.
         ⌜ (wide (is high) (is low) j ≡ place) × ((i : ℕ) → (i ≡ j → ⊥) → wide (is high) (is low) i ≡ wide (was high) (was low) i) ⌝ }
@@ -45,8 +46,8 @@ fn open(
         ⌜ ((i : ℕ) → (i ≡ j → ⊥) → (wide (is high) (is low) i ≡ wide (was high) (was low) i)
         × (wide (is «end_high») (is «end_low») i ≡ wide (was «end_high») (was «end_low») i)) ⌝ }
 {
-    set_place(high, low, j, start(starts, u));
-    set_place(end_high, end_low, j, start(starts, u + 1));
+    set_place(start(starts, u), high, low, j);
+    set_place(start(starts, u + 1), end_high, end_low, j);
 }
 
 // For each hidden row of a state that stays in its block, the given list of the target becomes a head. Returns how many.

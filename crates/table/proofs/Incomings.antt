@@ -1,34 +1,34 @@
--- The incoming list: exactly the rows, each once, ascending by target, then source, then label; the rows of a target are a
--- stretch of it.
-use mathlib.Core.Path.{_≡_, sym, ap, ap₂, _∙_}
-use mathlib.Core.Logic.{⊎-elim, _↔_}
-use mathlib.Core.Bool.{true}
-use mathlib.Core.List.{List, _++_}
+-- The incoming list: exactly the rows, each once, ascending by target, then source, then label.
+use mathlib.Core.Path.{_≡_, refl, sym, ap, ap₂, _∙_}
+use mathlib.Core.Logic.{⊎-elim}
+use mathlib.Core.Bool.{true, _&&_}
+use mathlib.Core.List.{List, [], _∷_, _++_}
 use Prim.Native.Nat.{ℕ, _+_, _≤_, _<_}
 use native.Mathlib.Omega.{arith}
 use native.Mathlib.Nat.{eq-or-lt-of-le}
-use borrow.Author.Tests.{ltb-true}
-use lib.Dec.{ltb}
+use borrow.Author.Tests.{ltb-true, leb-true}
+use lib.Dec.{ltb, leb}
 use lib.ListN.{length, getD, take, drop}
 use lib.Seq.{length-take-le}
-use Rattle.columns.specs.Answers.{none}
+use Rattle.columns.specs.declared.answers.Refusal.{Refusal}
 use Rattle.columns.specs.Columns.{listed, over, keyOf, sortBy}
 use Rattle.columns.specs.Sets.{Row, rowLt, pairLt}
 use Rattle.columns.specs.Sort.{sort}
 use Rattle.columns.proofs.Apart.{sorted-strictly}
-use Rattle.columns.proofs.Bools.{contra}
+use Rattle.columns.proofs.Bools.{contra, and-left, and-right}
+use Rattle.columns.proofs.Chains.{passed}
 use Rattle.columns.proofs.Facts.{sort-in, sort-out, at-mem, mem-at}
-use Rattle.columns.proofs.Lists.{length-listed, listed-at}
+use Rattle.columns.proofs.Lists.{length-listed}
 use Rattle.columns.proofs.Orders.{row-order, lex-split, ltb-order, pair-order}
 use Rattle.columns.proofs.Risings.{listed-in, listed-out}
+use Rattle.columns.proofs.Rooms.{roomy-of}
 use Rattle.columns.proofs.Sorts.{length-sort}
-use Rattle.table.specs.Lts.{Lts, rowIn, rowAt, Valid, Rising}
-use Rattle.table.specs.Checks.{roomb}
+use Rattle.table.specs.Lts.{Lts, rowIn, rowAt, Valid}
+use Rattle.table.specs.Checks.{worksLong, tableTests}
 use Rattle.table.specs.Incoming.{incomingOrder, backRow, incomingRefusal}
-use Rattle.table.specs.Stretch.{firstRow}
+use Rattle.table.specs.Stretch.{listedTarget, ByTarget}
 use Rattle.table.proofs.Rows.{key-row}
-use Rattle.table.proofs.Refusals.{checked-of, room-of}
-use Rattle.table.proofs.Stretches.{stretch}
+use Rattle.table.proofs.Refusals.{checked-of}
 
 -- what the list is
 pub record Incoming (t : Lts) (l : List ℕ) : Type 0 where
@@ -82,46 +82,40 @@ module _ (t : Lts) (v : Valid t) where
           (λ i j a b e. back-apart i j a b (sym (key-back i (omega arith)) ∙ (e ∙ key-back j b))) p q h
           (omega (arith, w, incoming-length t))
 
-  -- the targets along the list, and the stretch of each
-  pub incomingTargets : List ℕ
-  incomingTargets = listed (t .m) (λ p. getD (t .target) (getD (incomingOrder t) p 0) 0)
-
-  target-at : (p : ℕ) → p < t .m → getD incomingTargets p 0 ≡ getD (t .target) (getD (incomingOrder t) p 0) 0
-  unfolding incomingTargets
-  target-at p h = listed-at (t .m) (λ p. getD (t .target) (getD (incomingOrder t) p 0) 0) p h
-
-  targets-rise : Rising incomingTargets (t .m)
+  -- its rows come by target, so that those into a state are a stretch of it
+  pub incoming-by-target : ByTarget (t .target) (incomingOrder t) (t .m)
   unfolding rowIn rowLt
-  targets-rise p q h w =
-      ⊎-elim (λ (e : p ≡ q). omega (arith, ap (λ (k : ℕ). getD incomingTargets k 0) e))
-      (λ (k : p < q).
-      let x : Row = backRow t (getD (incomingOrder t) p 0) in
-      let y : Row = backRow t (getD (incomingOrder t) q 0) in
-      ⊎-elim (λ (e : ltb (x .0) (y .0) ≡ true). omega (arith, ltb-true (x .0) (y .0) e, target-at p (omega arith), target-at q w))
-      (λ e. omega (arith, e .0, target-at p (omega arith), target-at q w))
-      (lex-split ltb pairLt ltb-order pair-order x y (incoming-law .ascending p q k w)))
-      (eq-or-lt-of-le h)
-
-  pub incoming-stretch :
-      (u p : ℕ) → p < t .m
-      → (getD (t .target) (getD (incomingOrder t) p 0) 0 ≡ u)
-      ↔ ((firstRow incomingTargets (t .m) u ≤ p) × (p < firstRow incomingTargets (t .m) (u + 1)))
-  incoming-stretch u p h =
-      let s = stretch incomingTargets (t .m) targets-rise u p h in
-      (λ e. s .0 (target-at p h ∙ e), λ b. sym (target-at p h) ∙ s .1 b)
+  incoming-by-target = record {
+    room = omega (arith, incoming-length t);
+    row = λ k h. omega (arith, incoming-law .row k h, v .long .target);
+    rising = λ p q h w.
+        ⊎-elim (λ (e : p ≡ q). omega (arith, ap (λ (k : ℕ). listedTarget (t .target) (incomingOrder t) k) e))
+        (λ (k : p < q).
+        let x : Row = backRow t (getD (incomingOrder t) p 0) in
+        let y : Row = backRow t (getD (incomingOrder t) q 0) in
+        ⊎-elim (λ (e : ltb (x .0) (y .0) ≡ true). omega (arith, ltb-true (x .0) (y .0) e)) (λ e. omega (arith, e .0))
+        (lex-split ltb pairLt ltb-order pair-order x y (incoming-law .ascending p q k w)))
+        (eq-or-lt-of-le h);
+  }
 
 -- ---- the call
-pub record Ready (t : Lts) (result spare : List ℕ) : Type 0 where
+pub record IncomingReady (t : Lts) (result spare : ℕ) : Type 0 where
   pub valid : Valid t
-  pub long : t .m ≤ length result
-  pub wide : (t .n + t .m) + 1 ≤ length spare
+  pub long : t .m ≤ result
+  pub wide : (t .n + t .m) + 1 ≤ spare
 
-pub incoming-ready : (t : Lts) (result spare : List ℕ) → incomingRefusal t result spare .number ≡ 0 → Ready t result spare
+pub incoming-ready :
+    (t : Lts) (result spare : ℕ) (r : Refusal) → r ≡ incomingRefusal t result spare → r .number ≡ 0 → IncomingReady t result spare
 unfolding incomingRefusal
-incoming-ready t result spare e =
-    let c = checked-of t (roomb (t .n) (t .m) (t .m) (length result) (length spare)) none e in
-    let r = room-of (t .n) (t .m) (t .m) (length result) (length spare) (c .enough) in
-    record { valid = c .valid; long = r .0; wide = r .1 }
+incoming-ready t result spare r e z =
+    let long = leb (t .m) result in
+    let wide = worksLong t (spare ∷ []) in
+    let c = checked-of t (long && wide) (passed (tableTests t (long && wide)) refl r e z) in
+    record {
+      valid = c .valid;
+      long = leb-true (t .m) result (and-left long wide (c .enough));
+      wide = roomy-of (t .n + t .m + 1) (spare ∷ []) (and-right long wide (c .enough)) .0;
+    }
 
 -- the sorted numbers come back to the front of the result
 pub incoming-over : (t : Lts) (result x : List ℕ) → t .m ≤ length result

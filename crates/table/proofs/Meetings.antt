@@ -15,40 +15,39 @@ use Rattle.columns.proofs.All.{not-below}
 use Rattle.columns.proofs.Saying.{asked-done}
 use Rattle.table.specs.Lts.{Lts, Step, Valid}
 use Rattle.table.specs.Stretch.{nextIncoming}
-use Rattle.table.specs.Transitions.{stateRefusal, fromRefusal, nextIncomingRow}
+use Rattle.table.specs.Transitions.{nextRefusal, nextIncomingRow}
+use Rattle.table.proofs.Refusals.{next-asked, next-valid}
 use Rattle.table.proofs.Rows.{row-step, step-row}
-use Rattle.table.proofs.Runs.{asked-of, asked-valid, from-of, from-most}
 use Rattle.table.proofs.Sayings.{said-done}
-use Rattle.table.proofs.Stretches.{Next, next-law, incoming-up}
+use Rattle.table.proofs.Stretches.{NextInto, next-law, incoming-up}
 
 -- ---- what `next_incoming` says
 pub record NextRow (t : Lts) (u from r : ℕ) : Type 0 where
   pub valid : Valid t
   pub known : u < t .n
   pub fits : from ≤ t .m
-  pub next : Next (t .target) (t .m) u from r
+  pub next : NextInto (t .target) (t .m) u from r
 
 pub next-row : (t : Lts) (u from r : ℕ) → nextIncomingRow t u from ≡ done (r ∷ []) → NextRow t u from r
 unfolding nextIncomingRow
 next-row t u from r e =
     let k : ℕ = nextIncoming (t .target) (t .m) u from in
-    let d = said-done (stateRefusal t u (fromRefusal (t .m) from)) (k ∷ []) (r ∷ []) e in
-    let a = asked-of t u (fromRefusal (t .m) from) (d .0) in
-    let f = from-of (t .m) from (a .rest) in
+    let d = said-done (nextRefusal t u from) (k ∷ []) (r ∷ []) e in
+    let a = next-asked t u from (nextRefusal t u from) refl (d .0) in
+    let f = a .fits in
     let p : k ≡ r = cc (d .1) in
     record {
       valid = a .valid;
       known = a .known;
       fits = f;
-      next = subst (λ (r : ℕ). Next (t .target) (t .m) u from r) p (next-law (t .target) (t .m) u from f);
+      next = subst (λ (r : ℕ). NextInto (t .target) (t .m) u from r) p (next-law (t .target) (t .m) u from f);
     }
 
 pub next-done : (t : Lts) (u from : ℕ) → Valid t → u < t .n → from ≤ t .m →
     nextIncomingRow t u from ≡ done (nextIncoming (t .target) (t .m) u from ∷ [])
 unfolding nextIncomingRow
 next-done t u from v h l =
-    sym (asked-done (stateRefusal t u (fromRefusal (t .m) from)) none
-    (sym (asked-valid t u (fromRefusal (t .m) from) v h ∙ from-most (t .m) from l)) _ refl)
+    sym (asked-done (nextRefusal t u from) none (sym (next-valid t u from v h l)) _ refl)
 
 -- ---- one after the other
 module _ (target : List ℕ) (m u : ℕ) where
@@ -71,7 +70,7 @@ module _ (target : List ℕ) (m u : ℕ) where
     unfolding met
     met-one e i = go (ltb r m) refl
       where
-        n : Next target m u from r
+        n : NextInto target m u from r
         n = next-law target m u from fits
 
         go : (b : Bool) → ltb r m ≡ b → Mem i (cond b (r ∷ met k (suc r)) []) ↔ Into from i
@@ -122,7 +121,7 @@ module _ (t : Lts) (v : Valid t) (u : ℕ) where
       r : ℕ
       r = nextIncoming (t .target) (t .m) u from
 
-      n : Next (t .target) (t .m) u from r
+      n : NextInto (t .target) (t .m) u from r
       n = next-law (t .target) (t .m) u from f
 
       go : (b : Bool) → ltb r (t .m) ≡ b → (suc r ≤ t .m → t .m ≤ k + suc r → Ascending earlier (met (t .target) (t .m) u k (suc r)))

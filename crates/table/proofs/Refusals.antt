@@ -1,38 +1,32 @@
--- Laws of the refusals: what holds once a table is checked, and how a chain goes on.
+-- Laws of the refusals: what holds once a table is checked.
 use Prim.Native.Nat.{ℕ, zero, suc, _+_, _-_, _≤_, _<_}
 use native.Mathlib.Omega.{arith}
 use native.Mathlib.Nat.{le-antisymm}
-use borrow.Author.Tests.{ltb-true, leb-true, leb-false, eqb-true, lt-ltb, le-leb, lt-leb, eq-eqb, ne-eqb, not-false}
+use borrow.Author.Tests.{ltb-true, leb-true, lt-ltb, le-leb, lt-leb, eq-eqb, ne-eqb, not-false}
 use mathlib.Core.Bool.{Bool, true, false, not, _&&_, _||_}
 use mathlib.Core.Path.{_≡_, refl, ap, ap₂, sym, _∙_}
-use mathlib.Core.List.{List}
+use mathlib.Core.List.{List, [], _∷_, _++_}
 use mathlib.Core.Logic.{⊎-elim}
 use lib.Dec.{ltb, leb, eqb}
 use lib.ListN.{length, getD}
-use Rattle.columns.specs.Limits.{maxLabels, maxRows, maxStates, tooShort, wrongInitial, wrongLabels, wrongRows, wrongStates}
+use Rattle.columns.specs.Limits.{maxLabels, maxRows, maxStates, notAbove, wrongField}
 use Rattle.columns.specs.declared.answers.Refusal.{Refusal}
-use Rattle.columns.specs.Answers.{refusal, none, unless}
+use Rattle.columns.specs.Answers.{refusal, none}
 use Rattle.columns.specs.Columns.{comesBefore}
-use Rattle.columns.specs.Counting.{first}
+use Rattle.columns.specs.Due.{due, indexTest}
 use Rattle.columns.specs.Sets.{rowLt}
-use Rattle.columns.proofs.Bools.{contra, and-left, and-right, and-both, or-left}
+use Rattle.columns.proofs.Bools.{contra, and-left, and-right, and-both, and-no-left, and-no-right, or-left}
 use Rattle.columns.proofs.All.{top-or-below, not-below}
-use Rattle.columns.proofs.Chains.{refused-more}
+use Rattle.columns.proofs.Chains.{Holds, passed-both, holds-both, none-due}
 use Rattle.columns.proofs.Counting.{First, first-law}
 use Rattle.columns.proofs.Orders.{row-order}
-use Rattle.table.specs.Lts.{Lts, rowIn, rowAt, Long, Fields, Valid}
-use Rattle.table.specs.Checks.{withinb, threeLong, longb, fieldsb, aboveb, fault, rowFault, badRow, rowsRefusal, checkedTable, roomb}
+use Rattle.columns.proofs.Rooms.{range-of, of-range, roomy-of, of-roomy}
+use Rattle.table.specs.Lts.{Lts, rowIn, rowAt, RowsLong, Fields, Valid}
+use Rattle.table.specs.Checks.{rowsLong, fieldsb, aboveb, badRow, rowTests, tableTests, tableArgumentRefusal}
+use Rattle.table.specs.Transitions.{nextRefusal}
 use Rattle.table.proofs.Rows.{key-row}
 
 -- ---- each test and what it says
-pub within-of : (low x high : ℕ) → withinb low x high ≡ true → (low ≤ x) × (x ≤ high)
-unfolding withinb
-within-of low x high t = (leb-true low x (and-left (leb low x) (leb x high) t), leb-true x high (and-right (leb low x) (leb x high) t))
-
-pub of-within : (low x high : ℕ) → low ≤ x → x ≤ high → withinb low x high ≡ true
-unfolding withinb
-of-within low x high h l = and-both (le-leb low x h) (le-leb x high l)
-
 module _ (a b c : List ℕ) where
   pub above-first : (i : ℕ) → i ≡ 0 → true ≡ aboveb a b c i
   unfolding aboveb
@@ -48,23 +42,16 @@ module _ (a b c : List ℕ) where
       ap₂ rowLt (key-row a b c (i - 1) (omega arith) (omega arith) (omega arith)) (key-row a b c i ha hb hc) ∙ sym (above-row i n)
 
 module _ (t : Lts) where
-  pub long-of : longb t ≡ true → Long t
-  unfolding longb threeLong
-  long-of e =
-      let a = leb (t .m) (length (t .source)) in
-      let b = leb (t .m) (length (t .label)) in
-      let c = leb (t .m) (length (t .target)) in
-      let r = and-right a (b && c) e in
-      record {
-        source = leb-true _ _ (and-left a (b && c) e);
-        label = leb-true _ _ (and-left b c r);
-        target =
-            leb-true _ _ (and-right b c r);
-      }
+  abbrev three : List ℕ
+  three = length (t .source) ∷ length (t .label) ∷ length (t .target) ∷ []
 
-  pub of-long : Long t → longb t ≡ true
-  unfolding longb threeLong
-  of-long l = and-both (le-leb _ _ (l .source)) (and-both (le-leb _ _ (l .label)) (le-leb _ _ (l .target)))
+  pub long-of : rowsLong t ≡ true → RowsLong t
+  unfolding rowsLong
+  long-of e = let h = roomy-of (t .m) three e in record { source = h .0; label = h .1 .0; target = h .1 .1 .0 }
+
+  pub of-long : RowsLong t → rowsLong t ≡ true
+  unfolding rowsLong
+  of-long l = of-roomy (t .m) three (l .source, (l .label, (l .target, tt)))
 
   pub fields-of : (i : ℕ) → fieldsb t i ≡ true → Fields t i
   unfolding fieldsb
@@ -99,60 +86,56 @@ module _ (t : Lts) where
       back i = omega arith
 
   -- ---- the faults of rows
-  right-of : (i : ℕ) → rowFault t i ≡ 0 → (fieldsb t i ≡ true) × (aboveb (t .source) (t .label) (t .target) i ≡ true)
-  unfolding rowFault fault
-  right-of i e = go (fieldsb t i) (aboveb (t .source) (t .label) (t .target) i) e
-    where
-      go : (f a : Bool) → fault f a ≡ 0 → (f ≡ true) × (a ≡ true)
-      go true true e = (refl, refl)
-      go true false e = absurd (omega (arith, e))
-      go false a e = absurd (omega (arith, e))
+  -- row i has none
+  abbrev rightb : ℕ → Bool
+  rightb i = fieldsb t i && aboveb (t .source) (t .label) (t .target) i
 
-  of-right : (i : ℕ) → fieldsb t i ≡ true → aboveb (t .source) (t .label) (t .target) i ≡ true → rowFault t i ≡ 0
-  unfolding rowFault fault
-  of-right i f a = rw (f, a)
-
-  pub fault-at : (i : ℕ) (f a : Bool) (x : ℕ) → f ≡ fieldsb t i → a ≡ aboveb (t .source) (t .label) (t .target) i → x ≡ fault f a →
-      x ≡ rowFault t i
-  unfolding rowFault
-  fault-at i f a x e d h = h ∙ ap₂ fault e d
+  right-of : (i : ℕ) → rightb i ≡ true → (fieldsb t i ≡ true) × (aboveb (t .source) (t .label) (t .target) i ≡ true)
+  right-of i e =
+      let a = aboveb (t .source) (t .label) (t .target) i in
+      (and-left (fieldsb t i) a e, and-right (fieldsb t i) a e)
 
   -- the first rows have no fault
   abbrev pub Right : ℕ → Type 0
-  Right k = (i : ℕ) → i < k → rowFault t i ≡ 0
+  Right k = (i : ℕ) → i < k → rightb i ≡ true
 
-  pub right-more : (k : ℕ) → Right k → rowFault t k ≡ 0 → Right (k + 1)
-  right-more k r e i h = ⊎-elim (λ (q : i ≡ k). ap (rowFault t) q ∙ e) (λ (l : i < k). r i l) (top-or-below (omega (arith, h)))
+  pub right-more : (k : ℕ) → Right k → fieldsb t k ≡ true → aboveb (t .source) (t .label) (t .target) k ≡ true → Right (k + 1)
+  right-more k r f a i h =
+      ⊎-elim (λ (q : i ≡ k). ap rightb q ∙ and-both f a) (λ (l : i < k). r i l) (top-or-below (omega (arith, h)))
+
+  bad-law : First (t .m) (λ i. not (rightb i)) (badRow t)
+  unfolding badRow
+  bad-law = first-law (t .m) (λ i. not (rightb i))
 
   -- the lowest row with a fault is the one that has none before it
-  bad-is : (k : ℕ) → k ≤ t .m → Right k → (k < t .m → rowFault t k ≡ 0 → ⊥) → badRow t ≡ k
-  unfolding badRow
+  bad-is : (k : ℕ) → k ≤ t .m → Right k → (k < t .m → rightb k ≡ false) → badRow t ≡ k
   bad-is k h r b =
-      let f : First (t .m) (λ i. not (eqb (rowFault t i) 0)) (badRow t) = first-law (t .m) (λ i. not (eqb (rowFault t i) 0)) in
       le-antisymm
-      (not-below (λ l. contra (ap not (ne-eqb (rowFault t k) 0 (b (omega (arith, l, f .bound))))) (f .before k l)))
-      (not-below (λ l. contra (f .hit (omega (arith, l, h))) (ap not (eq-eqb (rowFault t (badRow t)) 0 (r (badRow t) l)))))
+      (not-below (λ l. contra (ap not (b (omega (arith, l, bad-law .bound)))) (bad-law .before k l)))
+      (not-below (λ l. contra (bad-law .hit (omega (arith, l, h))) (ap not (r (badRow t) l))))
 
-  pub rows-right : (k : ℕ) (next : Refusal) → k ≡ t .m → Right k → next ≡ rowsRefusal t next
-  unfolding rowsRefusal
-  rows-right k next e r = rw (bad-is k (omega arith) r (λ l. absurd (omega arith)), le-leb (t .m) k (omega arith))
+  pub rows-right : (k : ℕ) → k ≡ t .m → Right k → none ≡ due (rowTests t)
+  unfolding due
+  rows-right k e r = rw (bad-is k (omega arith) r (λ l. absurd (omega arith)), le-leb (t .m) k (omega arith))
 
-  pub rows-wrong : (k x : ℕ) (next : Refusal) → k < t .m → Right k → x ≡ rowFault t k → (x ≡ 0 → ⊥) → refusal x k ≡ rowsRefusal t next
-  unfolding rowsRefusal
-  rows-wrong k x next h r e n = rw (bad-is k (omega arith) r (λ l z. n (e ∙ z)), lt-leb (t .m) k h, e)
+  module _ (k : ℕ) (h : k < t .m) (r : Right k) where
+    pub rows-field : fieldsb t k ≡ false → refusal wrongField k ≡ due (rowTests t)
+    unfolding due
+    rows-field f =
+        rw (bad-is k (omega arith) r (λ l. and-no-left (fieldsb t k) (aboveb (t .source) (t .label) (t .target) k) f), lt-leb (t .m) k h, f)
 
-  -- a row that has the lowest fault has one
-  bad-fault : leb (t .m) (badRow t) ≡ false → rowFault t (badRow t) ≡ 0 → ⊥
-  unfolding badRow
-  bad-fault e z =
-      let f : First (t .m) (λ i. not (eqb (rowFault t i) 0)) (badRow t) = first-law (t .m) (λ i. not (eqb (rowFault t i) 0)) in
-      contra (f .hit (leb-false (t .m) (badRow t) e)) (ap not (eq-eqb (rowFault t (badRow t)) 0 z))
+    pub rows-above : fieldsb t k ≡ true → aboveb (t .source) (t .label) (t .target) k ≡ false → refusal notAbove k ≡ due (rowTests t)
+    unfolding due
+    rows-above f a =
+        rw (
+          bad-is k (omega arith) r (λ l. and-no-right (fieldsb t k) (aboveb (t .source) (t .label) (t .target) k) a),
+          lt-leb (t .m) k
+              h,
+          f,
+        )
 
   bad-none : leb (t .m) (badRow t) ≡ true → Right (t .m)
-  unfolding badRow
-  bad-none e i h =
-      let f : First (t .m) (λ i. not (eqb (rowFault t i) 0)) (badRow t) = first-law (t .m) (λ i. not (eqb (rowFault t i) 0)) in
-      eqb-true _ _ (not-false _ (f .before i (omega (arith, h, leb-true (t .m) (badRow t) e))))
+  bad-none e i h = not-false (rightb i) (bad-law .before i (omega (arith, h, leb-true (t .m) (badRow t) e)))
 
   ascending-of : Right (t .m) → (i j : ℕ) → i < j → j < t .m → rowLt (rowAt t i) (rowAt t j) ≡ true
   ascending-of r i zero h l = absurd (omega arith)
@@ -162,201 +145,97 @@ module _ (t : Lts) where
       (above-of j (suc j) refl (right-of (suc j) (r (suc j) l) .1)))
       (top-or-below h)
 
--- ---- a chain of six tests: not refused, or refused at one of them
-front : Bool → Bool → Bool → Bool → Bool → Refusal → Refusal
-front a b c d e next = unless a (refusal wrongStates 0) (unless b (refusal wrongLabels 0)
-    (unless c (refusal wrongRows 0) (unless d (refusal wrongInitial 0) (unless e (refusal tooShort 0) next))))
-
-module _ (a b c d e : Bool) (next : Refusal) where
-  front-1 : a ≡ false → refusal wrongStates 0 ≡ front a b c d e next
-  unfolding front
-  front-1 p = rw p
-
-  front-2 : a ≡ true → b ≡ false → refusal wrongLabels 0 ≡ front a b c d e next
-  unfolding front
-  front-2 p q = rw (p, q)
-
-  front-3 : a ≡ true → b ≡ true → c ≡ false → refusal wrongRows 0 ≡ front a b c d e next
-  unfolding front
-  front-3 p q r = rw (p, q, r)
-
-  front-4 : a ≡ true → b ≡ true → c ≡ true → d ≡ false → refusal wrongInitial 0 ≡ front a b c d e next
-  unfolding front
-  front-4 p q r s = rw (p, q, r, s)
-
-  front-7 : a ≡ true → b ≡ true → c ≡ true → d ≡ true → e ≡ false → refusal tooShort 0 ≡ front a b c d e next
-  unfolding front
-  front-7 p q r s u = rw (p, q, r, s, u)
-
-  front-on : a ≡ true → b ≡ true → c ≡ true → d ≡ true → e ≡ true → next ≡ front a b c d e next
-  unfolding front
-  front-on p q r s u = rw (p, q, r, s, u)
-
-chain : Bool → Bool → Bool → Bool → Bool → Bool → Refusal → Refusal → Refusal
-chain a b c d e f r next = front a b c d e (unless f r next)
-
-record Passed (a b c d e f : Bool) : Type 0 where
-  first : a ≡ true
-  second : b ≡ true
-  third : c ≡ true
-  fourth : d ≡ true
-  fifth : e ≡ true
-  sixth : f ≡ true
-
-chain-of : (a b c d e f : Bool) (r next : Refusal) → (f ≡ false → r .number ≡ 0 → ⊥) → chain a b c d e f r next .number ≡ 0
-    → Passed a b c d e f × (next .number ≡ 0)
-unfolding chain front
-chain-of true true true true true true r next n z =
-    (record { first = refl; second = refl; third = refl; fourth = refl; fifth = refl; sixth = refl }, z)
-chain-of true true true true true false r next n z = absurd (n refl z)
-chain-of true true true true false f r next n z = absurd (omega (arith, z))
-chain-of true true true false e f r next n z = absurd (omega (arith, z))
-chain-of true true false d e f r next n z = absurd (omega (arith, z))
-chain-of true false c d e f r next n z = absurd (omega (arith, z))
-chain-of false b c d e f r next n z = absurd (omega (arith, z))
-
-chain-on : (a b c d e f : Bool) (r next : Refusal) → Passed a b c d e f → chain a b c d e f r next ≡ next
-unfolding chain
-chain-on a b c d e f r next p =
-    sym (front-on a b c d e (unless f r next) (p .first) (p .second) (p .third) (p .fourth) (p .fifth)) ∙
-    ap (λ (b : Bool). unless b r next) (p .sixth)
-
-chain-out : (a b c d e f : Bool) (r next : Refusal) → (chain a b c d e f r none .number ≡ 0 → ⊥)
-    → chain a b c d e f r none ≡ chain a b c d e f r next
-unfolding chain front
-chain-out a b c d e f r next n =
-    refused-more a (refusal wrongStates 0)
-    (refused-more b (refusal wrongLabels 0)
-    (refused-more c (refusal wrongRows 0) (refused-more d (refusal wrongInitial 0)
-    (refused-more e (refusal tooShort 0) (refused-more f r (λ m. absurd (m refl)))))))
-    n
-
--- what a call goes by whose table is checked
-pub record Checked (t : Lts) (room : Bool) (next : Refusal) : Type 0 where
+-- ---- what a call goes by whose table is checked
+pub record TableChecked (t : Lts) (room : Bool) : Type 0 where
   pub valid : Valid t
   pub enough : room ≡ true
-  pub rest : next .number ≡ 0
-
--- ---- the tests of a table
-module _ (t : Lts) where
-  abbrev statesb : Bool
-  statesb = withinb 1 (t .n) maxStates
-
-  abbrev labelsb : Bool
-  labelsb = withinb 1 (t .labels) maxLabels
-
-  abbrev fewb : Bool
-  fewb = leb (t .m) maxRows
-
-  abbrev initialb : Bool
-  initialb = ltb (t .initial) (t .n)
-
-  abbrev rowsb : Bool
-  rowsb = leb (t .m) (badRow t)
-
-  abbrev bad : Refusal
-  bad = refusal (rowFault t (badRow t)) (badRow t)
-
--- ---- each place at which a table is refused, and the way past them all
-module _ (t : Lts) (room : Bool) (next : Refusal) where
-  pub due-1 : statesb t ≡ false → refusal wrongStates 0 ≡ checkedTable t room next
-  unfolding checkedTable front
-  due-1 p = front-1 (statesb t) (labelsb t) (fewb t) (initialb t) (longb t && room) (rowsRefusal t next) p
-
-  module _ (p : statesb t ≡ true) where
-    pub due-2 : labelsb t ≡ false → refusal wrongLabels 0 ≡ checkedTable t room next
-    unfolding checkedTable front
-    due-2 q = front-2 (statesb t) (labelsb t) (fewb t) (initialb t) (longb t && room) (rowsRefusal t next) p q
-
-    module _ (q : labelsb t ≡ true) where
-      pub due-3 : fewb t ≡ false → refusal wrongRows 0 ≡ checkedTable t room next
-      unfolding checkedTable front
-      due-3 r = front-3 (statesb t) (labelsb t) (fewb t) (initialb t) (longb t && room) (rowsRefusal t next) p q r
-
-      module _ (r : fewb t ≡ true) where
-        pub due-4 : initialb t ≡ false → refusal wrongInitial 0 ≡ checkedTable t room next
-        unfolding checkedTable front
-        due-4 s = front-4 (statesb t) (labelsb t) (fewb t) (initialb t) (longb t && room) (rowsRefusal t next) p q r s
-
-        module _ (s : initialb t ≡ true) where
-          pub due-7 : (longb t && room) ≡ false → refusal tooShort 0 ≡ checkedTable t room next
-          unfolding checkedTable front
-          due-7 u = front-7 (statesb t) (labelsb t) (fewb t) (initialb t) (longb t && room) (rowsRefusal t next) p q r s u
-
-          pub due-rows : (longb t && room) ≡ true → rowsRefusal t next ≡ checkedTable t room next
-          unfolding checkedTable front
-          due-rows u = front-on (statesb t) (labelsb t) (fewb t) (initialb t) (longb t && room) (rowsRefusal t next) p q r s u
 
 module _ (t : Lts) (room : Bool) where
-  Passes : Type 0
-  Passes = Passed (statesb t) (labelsb t) (fewb t) (initialb t) (longb t && room) (rowsb t)
-
-  passes-of : (next : Refusal) → checkedTable t room next .number ≡ 0 → Passes × (next .number ≡ 0)
-  unfolding checkedTable rowsRefusal chain front Passes
-  passes-of next z = chain-of (statesb t) (labelsb t) (fewb t) (initialb t) (longb t && room) (rowsb t) (bad t) next (bad-fault t) z
-
-  valid-of : Passes → Valid t
-  unfolding Passes
-  valid-of p =
-      let n = within-of 1 (t .n) maxStates (p .first) in
-      let l = within-of 1 (t .labels) maxLabels (p .second) in
-      let r = bad-none t (p .sixth) in
+  -- every test of a table holds exactly if it is right and there is room
+  pub checked-of : Holds (tableTests t room) → TableChecked t room
+  checked-of h =
+      let n = range-of 1 (t .n) maxStates (h .0) in
+      let l = range-of 1 (t .labels) maxLabels (h .1 .0) in
+      let long = h .1 .1 .1 .1 .0 in
+      let r = bad-none t (h .1 .1 .1 .1 .1 .1 .0) in
       record {
-        some-states = n .0;
-        few-states = n .1;
-        some-labels = l .0;
-        few-labels = l .1;
-        few-rows = leb-true (t .m) maxRows (p .third);
-        initial = ltb-true (t .initial) (t .n) (p .fourth);
-        long = long-of t (and-left (longb t) room (p .fifth));
-        fields = λ i h. fields-of t i (right-of t i (r i h) .0);
-        ascending = ascending-of t r;
+        valid = record {
+          some-states = n .0;
+          few-states = n .1;
+          some-labels = l .0;
+          few-labels = l .1;
+          few-rows = leb-true (t .m) maxRows (h .1 .1 .0);
+          initial = ltb-true (t .initial) (t .n) (h .1 .1 .1 .0);
+          long = long-of t (and-left (rowsLong t) room long);
+          fields = λ i w. fields-of t i (right-of t i (r i w) .0);
+          ascending = ascending-of t r;
+        };
+        enough = and-right (rowsLong t) room long;
       }
 
-  of-valid : Valid t → room ≡ true → Passes
-  unfolding Passes
-  of-valid v e = record {
-    first = of-within 1 (t .n) maxStates (v .some-states) (v .few-states);
-    second = of-within 1 (t .labels) maxLabels (v .some-labels) (v .few-labels);
-    third = le-leb (t .m) maxRows (v .few-rows);
-    fourth = lt-ltb (t .initial) (t .n) (v .initial);
-    fifth = and-both (of-long t (v .long)) e;
-    sixth = le-leb (t .m) (badRow t) (omega (arith, bad-is t (t .m) (omega arith) right (λ l. absurd (omega (arith, l)))));
-  }
+  pub of-checked : Valid t → room ≡ true → Holds (tableTests t room)
+  of-checked v e =
+      let none-bad : leb (t .m) (badRow t) ≡ true
+      = le-leb (t .m) (badRow t) (omega (arith, bad-is t (t .m) (omega arith) right (λ l. absurd (omega (arith, l))))) in (
+        of-range 1 (t .n) maxStates (v .some-states) (v .few-states),
+        (
+          of-range 1 (t .labels) maxLabels (v .some-labels) (v .few-labels),
+          (
+            le-leb (t .m) maxRows (v .few-rows),
+            (
+              lt-ltb (t .initial) (t .n) (v .initial),
+              (
+                and-both (of-long t (v .long)) e,
+                (or-left (leb (t .m) (badRow t)) (fieldsb t (badRow t)) none-bad, (none-bad, tt)),
+              ),
+            ),
+          ),
+        ),
+      )
     where
       right : Right t (t .m)
-      right i h = of-right t i (of-fields t i (v .fields i h)) (of-above t i (λ j q. v .ascending j i (omega arith) h))
+      right i h = and-both (of-fields t i (v .fields i h)) (of-above t i (λ j q. v .ascending j i (omega arith) h))
 
-  -- a call is not refused exactly if the table is right, there is room, and the rest is not refused
-  pub checked-of : (next : Refusal) → checkedTable t room next .number ≡ 0 → Checked t room next
-  unfolding Passes
-  checked-of next z =
-      let p = passes-of next z in
-      record { valid = valid-of (p .0); enough = and-right (longb t) room (p .0 .fifth); rest = p .1 }
+-- and one whose argument is too
+pub record Asked (t : Lts) (i bound : ℕ) (room : Bool) : Type 0 where
+  pub valid : Valid t
+  pub known : i < bound
+  pub enough : room ≡ true
 
-  pub checked-valid : (next : Refusal) → Valid t → room ≡ true → checkedTable t room next ≡ next
-  unfolding checkedTable rowsRefusal chain front Passes
-  checked-valid next v e = chain-on (statesb t) (labelsb t) (fewb t) (initialb t) (longb t && room) (rowsb t) (bad t) next (of-valid v e)
+module _ (t : Lts) (i bound : ℕ) (room : Bool) where
+  pub asked-of : (r : Refusal) → r ≡ tableArgumentRefusal t i bound room → r .number ≡ 0 → Asked t i bound room
+  unfolding tableArgumentRefusal
+  asked-of r e z =
+      let h = passed-both (tableTests t room) (indexTest i bound ∷ []) refl r e z in
+      let c = checked-of t room (h .0) in
+      record { valid = c .valid; known = ltb-true i bound (h .1 .0); enough = c .enough }
 
-  module _ (next q : Refusal) (e : q ≡ checkedTable t room none) where
-    -- once the table is checked, the chain goes on
-    pub checked-on : q .number ≡ 0 → checkedTable t room next ≡ next
-    unfolding checkedTable rowsRefusal chain front Passes
-    checked-on z =
-        chain-on (statesb t) (labelsb t) (fewb t) (initialb t) (longb t && room) (rowsb t) (bad t) next
-        (passes-of none (sym (ap (λ (r : Refusal). r .number) e) ∙ z) .0)
+  pub asked-valid : Valid t → i < bound → room ≡ true → tableArgumentRefusal t i bound room ≡ none
+  unfolding tableArgumentRefusal
+  asked-valid v h e =
+      let k = indexTest i bound ∷ [] in
+      none-due (tableTests t room ++ k) (holds-both (tableTests t room) k (of-checked t room v e) (lt-ltb i bound h, tt))
 
-    -- and where it is refused, it ends
-    pub checked-out : (q .number ≡ 0 → ⊥) → q ≡ checkedTable t room next
-    unfolding checkedTable rowsRefusal chain front
-    checked-out n =
-        e ∙ chain-out (statesb t) (labelsb t) (fewb t) (initialb t) (longb t && room) (rowsb t) (bad t) next
-        (λ z. n (ap (λ (r : Refusal). r .number) e ∙ z))
+-- and one with a state, and the row from which another one is sought
+pub record NextAsked (t : Lts) (u from : ℕ) : Type 0 where
+  pub valid : Valid t
+  pub known : u < t .n
+  pub fits : from ≤ t .m
 
--- ---- the room of a call
-pub room-of : (n m need result work : ℕ) → roomb n m need result work ≡ true → (need ≤ result) × ((n + m) + 1 ≤ work)
-unfolding roomb
-room-of n m need result work e = (
-  leb-true _ _ (and-left (leb need result) (leb (n + m + 1) work) e),
-  leb-true _ _ (and-right (leb need result) (leb (n + m + 1) work) e),
-)
+module _ (t : Lts) (u from : ℕ) where
+  pub next-asked : (r : Refusal) → r ≡ nextRefusal t u from → r .number ≡ 0 → NextAsked t u from
+  unfolding nextRefusal
+  next-asked r e z =
+      let h = passed-both (tableTests t true) (indexTest u (t .n) ∷ indexTest from (t .m + 1) ∷ []) refl r e z in
+      record {
+        valid = checked-of t true (h .0) .valid;
+        known = ltb-true u (t .n) (h .1 .0);
+        fits = omega (arith, ltb-true from (t .m + 1) (h .1 .1 .0));
+      }
+
+  pub next-valid : Valid t → u < t .n → from ≤ t .m → nextRefusal t u from ≡ none
+  unfolding nextRefusal
+  next-valid v h l =
+      let k = indexTest u (t .n) ∷ indexTest from (t .m + 1) ∷ [] in
+      none-due (tableTests t true ++ k)
+      (holds-both (tableTests t true) k (of-checked t true v refl) (lt-ltb u (t .n) h, (lt-ltb from (t .m + 1) (omega arith), tt)))

@@ -1,77 +1,26 @@
--- The rows of a state as a run: exactly the rows with that source, in 01's order; and the refusals of a call with a state.
-use mathlib.Core.Path.{_≡_, refl, sym, ap, subst, _∙_}
+-- The rows of a state as a run: exactly the rows with that source, in 01's order.
+use mathlib.Core.Path.{_≡_, refl, sym, subst}
 use mathlib.Core.Logic.{⊎-elim, _↔_}
-use mathlib.Core.Bool.{Bool, true, false}
+use mathlib.Core.Bool.{true}
 use mathlib.Core.List.{[], _∷_}
 use Prim.Native.Nat.{ℕ, _+_, _≤_, _<_}
 use native.Mathlib.Omega.{arith}
-use borrow.Author.Tests.{ltb-true, lt-ltb, leb-true, le-leb}
-use lib.Dec.{ltb, leb}
+use borrow.Author.Tests.{ltb-true}
+use lib.Dec.{ltb}
 use lib.ListN.{getD}
-use Rattle.columns.specs.Limits.{outOfRange}
-use Rattle.columns.specs.declared.answers.Refusal.{Refusal}
-use Rattle.columns.specs.Answers.{done, refusal, none, unless}
+use Rattle.columns.specs.Answers.{done, none}
 use Rattle.columns.specs.Sets.{rowLt, pairLt}
 use Rattle.columns.proofs.Orders.{lex-split, ltb-order, pair-order}
 use Rattle.columns.proofs.Saying.{asked-done}
 use Rattle.table.specs.Lts.{Lts, rowIn, rowAt, Step, Valid}
-use Rattle.table.specs.Checks.{checkedTable}
-use Rattle.table.specs.Stretch.{firstRow}
-use Rattle.table.specs.Transitions.{stateRefusal, fromRefusal, outgoingTransitions}
-use Rattle.table.proofs.Refusals.{checked-of, checked-valid, checked-out}
+use Rattle.table.specs.Checks.{tableArgumentRefusal}
+use Rattle.table.specs.Stretch.{StretchOf, firstRow}
+use Rattle.table.specs.Transitions.{outgoingTransitions}
+use Rattle.table.proofs.Refusals.{asked-of, asked-valid}
 use Rattle.table.proofs.Rows.{row-step, step-row}
+use Rattle.table.proofs.RowsOf.{rows-stretch}
 use Rattle.table.proofs.Sayings.{said-done}
-use Rattle.table.proofs.Stretches.{rising, stretch, first-row-up, first-row-most}
-
--- ---- the refusals
-past : (b : Bool) (r next : Refusal) → (r .number ≡ 0 → ⊥) → unless b r next .number ≡ 0 → (b ≡ true) × (next .number ≡ 0)
-past true r next n z = (refl, z)
-past false r next n z = absurd (n z)
-
--- what a call goes by whose table and state are checked
-pub record Asked (t : Lts) (s : ℕ) (next : Refusal) : Type 0 where
-  pub valid : Valid t
-  pub known : s < t .n
-  pub rest : next .number ≡ 0
-
-module _ (t : Lts) (s : ℕ) where
-  -- a call is not refused exactly if the table is right, the state is below n, and the rest is not refused
-  pub asked-of : (next : Refusal) → stateRefusal t s next .number ≡ 0 → Asked t s next
-  unfolding stateRefusal
-  asked-of next e =
-      let c = checked-of t true (unless (ltb s (t .n)) (refusal outOfRange s) next) e in
-      let p = past (ltb s (t .n)) (refusal outOfRange s) next (λ z. omega (arith, z)) (c .rest) in
-      record { valid = c .valid; known = ltb-true s (t .n) (p .0); rest = p .1 }
-
-  pub asked-valid : (next : Refusal) → Valid t → s < t .n → stateRefusal t s next ≡ next
-  unfolding stateRefusal
-  asked-valid next v h =
-      checked-valid t true (unless (ltb s (t .n)) (refusal outOfRange s) next) v refl ∙
-      ap (λ (b : Bool). unless b (refusal outOfRange s) next) (lt-ltb s (t .n) h)
-
-  module _ (next q : Refusal) (e : q ≡ stateRefusal t s none) where
-    -- once table and state are checked, the chain goes on
-    pub asked-on : q .number ≡ 0 → stateRefusal t s next ≡ next
-    asked-on z = let a = asked-of none (sym (ap (λ (r : Refusal). r .number) e) ∙ z) in asked-valid next (a .valid) (a .known)
-
-    -- and where one is refused, it ends
-    pub asked-out : (q .number ≡ 0 → ⊥) → q ≡ stateRefusal t s next
-    unfolding stateRefusal
-    asked-out n = go (ltb s (t .n)) e
-      where
-        go : (b : Bool) → q ≡ checkedTable t true (unless b (refusal outOfRange s) none) →
-            q ≡ checkedTable t true (unless b (refusal outOfRange s) next)
-        go true e = checked-out t true next q e n
-        go false e = e
-
--- a row that is not above m
-pub from-of : (m from : ℕ) → fromRefusal m from .number ≡ 0 → from ≤ m
-unfolding fromRefusal
-from-of m from e = leb-true from m (past (leb from m) (refusal outOfRange from) none (λ z. omega (arith, z)) e .0)
-
-pub from-most : (m from : ℕ) → from ≤ m → fromRefusal m from ≡ none
-unfolding fromRefusal
-from-most m from h = ap (λ (b : Bool). unless b (refusal outOfRange from) none) (le-leb from m h)
+use Rattle.table.proofs.Stretches.{rising}
 
 -- ---- the run
 -- the rows from x to before z are exactly those of s; they are its steps, by ascending label, then target
@@ -90,21 +39,24 @@ module _ (t : Lts) (v : Valid t) (s : ℕ) where
   abbrev end : ℕ
   end = firstRow (t .source) (t .m) (s + 1)
 
+  stretch : StretchOf (λ i. getD (t .source) i 0) (t .m) s first end
+  stretch = rows-stretch (t .source) (t .m) (rising t v) s first end refl refl
+
   own : (i : ℕ) → i < t .m → (getD (t .source) i 0 ≡ s) ↔ ((first ≤ i) × (i < end))
-  own i h = stretch (t .source) (t .m) (rising t v) s i h
+  own = stretch .exactly
 
   pub run-law : Run t s first end
   unfolding rowIn rowLt
   run-law = record {
-    low = first-row-up (t .source) (t .m) (rising t v) s;
-    most = first-row-most (t .source) (t .m) (s + 1);
+    low = stretch .low;
+    most = stretch .most;
     row = own;
     step = λ a u. (there a u, back a u);
     ascending = up;
   }
     where
       most : end ≤ t .m
-      most = first-row-most (t .source) (t .m) (s + 1)
+      most = stretch .most
 
       there : (a u : ℕ) → Step t s a u → (i : ℕ) × (first ≤ i) × (i < end) × (a ≡ getD (t .label) i 0) × (u ≡ getD (t .target) i 0)
       there a u k =
@@ -140,8 +92,8 @@ unfolding outgoingTransitions
 outgoing-run t s x z e =
     let f : ℕ = firstRow (t .source) (t .m) s in
     let g : ℕ = firstRow (t .source) (t .m) (s + 1) in
-    let d = said-done (stateRefusal t s none) (f ∷ g ∷ []) (x ∷ z ∷ []) e in
-    let a = asked-of t s none (d .0) in
+    let d = said-done (tableArgumentRefusal t s (t .n) true) (f ∷ g ∷ []) (x ∷ z ∷ []) e in
+    let a = asked-of t s (t .n) true (tableArgumentRefusal t s (t .n) true) refl (d .0) in
     let p : f ≡ x = cc (d .1) in
     let q : g ≡ z = cc (d .1) in
     record {
@@ -153,4 +105,4 @@ outgoing-run t s x z e =
 pub outgoing-done : (t : Lts) (s : ℕ) → Valid t → s < t .n
     → outgoingTransitions t s ≡ done (firstRow (t .source) (t .m) s ∷ firstRow (t .source) (t .m) (s + 1) ∷ [])
 unfolding outgoingTransitions
-outgoing-done t s v h = sym (asked-done (stateRefusal t s none) none (sym (asked-valid t s none v h)) _ refl)
+outgoing-done t s v h = sym (asked-done (tableArgumentRefusal t s (t .n) true) none (sym (asked-valid t s (t .n) true v h refl)) _ refl)

@@ -6,7 +6,7 @@ use Prim.Native.Nat.{ℕ}
 use borrow.Author.Tests.{eqb-true}
 use lib.Dec.{eqb}
 use Rattle.columns.specs.declared.answers.Refusal.{Refusal}
-use Rattle.columns.specs.Answers.{done, refused, answering}
+use Rattle.columns.specs.Answers.{Said, done, refused, answering, leaving}
 use Rattle.columns.proofs.Saying.{same-refusal, apart}
 use Rattle.table.specs.declared.transitions.StretchAnswer.{StretchAnswer}
 use Rattle.table.specs.declared.transitions.StretchOutcome.{StretchOutcome}
@@ -34,3 +34,19 @@ said-done r values l e = go (eqb (r .number) 0) refl e
         (values ≡ l)
     go true q e = let h : values ≡ l = cc in (eqb-true (r .number) 0 q, h)
     go false q e = absurd (apart _ _ _ (sym e))
+
+-- and one that is lent cells leaves what it is to leave
+pub left-said :
+    {A : Type 0} (r : Refusal) (before after now : A) (values l : List ℕ) → leaving r before values after ≡ (done l, now)
+    → (r .number ≡ 0) × ((values ≡ l) × (after ≡ now))
+unfolding leaving
+left-said {A} r before after now values l e = go (eqb (r .number) 0) refl e
+  where
+    go : (b : Bool) → eqb (r .number) 0 ≡ b
+        → _≡_ {A = Said × A} (cond b (done values, after) (refused (r .number) (r .place), before)) (done l, now)
+        → (r .number ≡ 0) × ((values ≡ l) × (after ≡ now))
+    go true q e =
+        let d : done values ≡ done l = ap (λ (x : Said × A). x .0) e in
+        let h : values ≡ l = cc (d) in
+        (eqb-true (r .number) 0 q, (h, ap (λ (x : Said × A). x .1) e))
+    go false q e = absurd (apart _ _ _ (sym (ap (λ (x : Said × A). x .0) e)))

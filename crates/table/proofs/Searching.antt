@@ -1,29 +1,28 @@
 -- Laws of the search: how it starts, what a new state and a finished one add, and what stands at its end.
 use mathlib.Core.Path.{_≡_, refl, sym, ap, _∙_, subst}
 use mathlib.Core.Logic.{_⊎_, inl, inr, _↔_, ⊎-elim}
-use mathlib.Core.Bool.{Bool, true, false, cond}
-use mathlib.Core.List.{List}
+use mathlib.Core.Bool.{Bool, true, false, cond, _&&_}
+use mathlib.Core.List.{List, [], _∷_}
 use Prim.Native.Nat.{ℕ, suc, _+_, _≤_, _<_}
 use native.Mathlib.Omega.{arith}
-use borrow.Author.Tests.{eqb-true, eqb-false, eq-eqb, ne-eqb, ltb-true}
-use lib.Dec.{eqb, ltb}
+use borrow.Author.Tests.{eqb-true, eqb-false, eq-eqb, ne-eqb, leb-true}
+use lib.Dec.{eqb, leb}
 use lib.ListN.{length, getD, set, length-set, length-replicate}
 use lib.Seq.{getD-set-same, getD-set-other, ext-getD}
-use Rattle.columns.specs.Limits.{outOfRange}
-use Rattle.columns.specs.Answers.{bit, refusal, none, unless}
+use Rattle.columns.specs.Answers.{bit}
 use Rattle.columns.specs.Columns.{listed, zeros}
 use Rattle.columns.specs.Counting.{many}
 use Rattle.columns.proofs.All.{top-or-below, same-or-not}
-use Rattle.columns.proofs.Bools.{bool-ext}
+use Rattle.columns.proofs.Bools.{and-left, and-right, bool-ext}
 use Rattle.columns.proofs.Counting.{many-one-more, many-cong, many-le, many-nothing}
 use Rattle.columns.proofs.Lists.{length-listed, listed-at, zeros-at}
-use Rattle.table.specs.Lts.{Lts, Valid, Rising}
-use Rattle.table.specs.Checks.{roomb}
+use Rattle.columns.proofs.Rooms.{roomy-of}
+use Rattle.table.specs.Lts.{Lts, Valid}
+use Rattle.table.specs.Checks.{worksLong}
 use Rattle.table.specs.Reach.{Walk, stop, along, someRow, edge, reaches, reachRefusal}
 use Rattle.table.specs.Search.{Search, appended}
-use Rattle.table.specs.Stretch.{firstRow}
-use Rattle.table.proofs.Refusals.{checked-of, room-of}
-use Rattle.table.proofs.Stretches.{stretch, first-row-most}
+use Rattle.table.specs.Stretch.{StretchOf}
+use Rattle.table.proofs.Refusals.{asked-of}
 use Rattle.table.proofs.Walks.{joined, edge-row, row-edge, reaches-walk}
 
 -- ---- one cell of a list set
@@ -224,12 +223,13 @@ module _ (n m : ℕ) (source target : List ℕ) (w : ℕ → Bool) where
     pub here : getD queue₀ head 0 ≡ x
     pub passed : (j : ℕ) → j < i → getD source j 0 ≡ x → w j ≡ true → getD marks (getD target j 0) 0 ≡ 1
 
-  module _ (up : Rising source m) (to : (i : ℕ) → i < m → getD target i 0 < n) (start x : ℕ) (queue₀ : List ℕ) (tail₀ head : ℕ) where
+  module _ (to : (i : ℕ) → i < m → getD target i 0 < n) (start x : ℕ) (queue₀ : List ℕ) (tail₀ head : ℕ) where
+    -- before the first row of x
     pub visit-start :
-        (marks : List ℕ) (i : ℕ) → i ≡ firstRow source m x → Search (someRow m source target w) n start marks queue₀ head tail₀ →
-        head < tail₀
-        → getD queue₀ head 0 ≡ x → Visit start x queue₀ tail₀ marks queue₀ head tail₀ i
-    visit-start marks i e s h q = record {
+        (marks : List ℕ) (first end : ℕ) → StretchOf (λ i. getD source i 0) m x first end
+        → Search (someRow m source target w) n start marks queue₀ head tail₀ → head < tail₀ → getD queue₀ head 0 ≡ x
+        → Visit start x queue₀ tail₀ marks queue₀ head tail₀ first
+    visit-start marks first end r s h q = record {
       search = s;
       ahead = h;
       more = omega arith;
@@ -237,7 +237,7 @@ module _ (n m : ℕ) (source target : List ℕ) (w : ℕ → Bool) where
       kept = λ j l. refl;
       behind = λ j l. refl;
       here = q;
-      passed = λ j l p. absurd (omega (arith, l, e, stretch source m up x j (omega (arith, l, e, first-row-most source m x)) .0 p .0));
+      passed = λ j l p. absurd (omega (arith, l, r .exactly j (omega (arith, l, r .low, r .most)) .0 p .0));
     }
 
     module _ (marks queue : List ℕ) (tail i : ℕ) (c : Visit start x queue₀ tail₀ marks queue head tail i) where
@@ -313,29 +313,33 @@ module _ (n m : ℕ) (source target : List ℕ) (w : ℕ → Bool) where
                 subst (λ (y : ℕ × (List ℕ × List ℕ)). Visit start x queue₀ tail₀ (y .1 .0) (y .1 .1) head (y .0) (i + 1)) (sym p)
                 (visit-skip (λ _. one-of (c .search .flags (getD target i 0)) (eqb-false _ _ z)))
 
-      pub visit-end : i ≡ firstRow source m (x + 1) → Search (someRow m source target w) n start marks queue (head + 1) tail
-      visit-end e =
+      -- behind the last
+      pub visit-end : (first end : ℕ) → StretchOf (λ i. getD source i 0) m x first end → i ≡ end
+          → Search (someRow m source target w) n start marks queue (head + 1) tail
+      visit-end first end t e =
           search-next (someRow m source target w) n start marks queue head tail (c .search) (omega (arith, c .ahead, c .more))
           (λ y g.
           let r = edge-row m source target w (getD queue head 0) y g in
           let o = r .from ∙ c .kept head (c .ahead) ∙ c .here in
-          let a = stretch source m up x (r .row) (r .below) .0 o in
+          let a = t .exactly (r .row) (r .below) .0 o in
           ap (λ (z : ℕ). getD marks z 0) (sym (r .to)) ∙ c .passed (r .row) (omega (arith, e, a .1)) o (r .passes))
 
 -- ---- the call
-pub record Ready (t : Lts) (s result work : ℕ) : Type 0 where
+pub record ReachReady (t : Lts) (s result work : ℕ) : Type 0 where
   pub valid : Valid t
   pub known : s < t .n
   pub long : t .n ≤ result
   pub wide : (t .n + t .m) + 1 ≤ work
 
-pub reach-ready : (t : Lts) (s result work : ℕ) → reachRefusal t s result work .number ≡ 0 → Ready t s result work
+pub reach-ready : (t : Lts) (s result work : ℕ) → reachRefusal t s result work .number ≡ 0 → ReachReady t s result work
 unfolding reachRefusal
 reach-ready t s result work e =
-    let c = checked-of t (roomb (t .n) (t .m) (t .n) result work) (unless (ltb s (t .n)) (refusal outOfRange s) none) e in
-    let r = room-of (t .n) (t .m) (t .n) result work (c .enough) in
-    record { valid = c .valid; known = below (ltb s (t .n)) refl (c .rest); long = r .0; wide = r .1 }
-  where
-    below : (b : Bool) → ltb s (t .n) ≡ b → unless b (refusal outOfRange s) none .number ≡ 0 → s < t .n
-    below true q z = ltb-true s (t .n) q
-    below false q z = absurd (omega (arith, z))
+    let long = leb (t .n) result in
+    let wide = worksLong t (work ∷ []) in
+    let c = asked-of t s (t .n) (long && wide) (reachRefusal t s result work) refl e in
+    record {
+      valid = c .valid;
+      known = c .known;
+      long = leb-true (t .n) result (and-left long wide (c .enough));
+      wide = roomy-of (t .n + t .m + 1) (work ∷ []) (and-right long wide (c .enough)) .0;
+    }

@@ -1,10 +1,11 @@
--- The rows of a state are a stretch: row i has source s exactly if firstRow s <= i < firstRow (s + 1).
-use Prim.Native.Nat.{ℕ, suc, _+_, _-_, _≤_, _<_}
+-- What the order of the rows says of single columns: the sources never fall, nor do the labels of a state's rows, and the rows into a state
+-- come by source, then label. And the next of these.
+use Prim.Native.Nat.{ℕ, _+_, _-_, _≤_, _<_}
 use native.Mathlib.Omega.{arith}
 use native.Mathlib.Nat.{eq-or-lt-of-le, le-antisymm}
-use borrow.Author.Tests.{ltb-true, lt-ltb, le-ltb, eqb-true, eq-eqb}
+use borrow.Author.Tests.{ltb-true, eqb-true, eq-eqb}
 use mathlib.Core.Path.{_≡_, ap, _∙_}
-use mathlib.Core.Logic.{⊎-elim, _↔_}
+use mathlib.Core.Logic.{⊎-elim}
 use mathlib.Core.Bool.{Bool, true}
 use mathlib.Core.List.{List}
 use lib.Dec.{ltb, eqb}
@@ -12,63 +13,14 @@ use lib.ListN.{getD}
 use Rattle.columns.specs.Sets.{Pair, rowLt, pairLt}
 use Rattle.columns.proofs.All.{not-below}
 use Rattle.columns.proofs.Bools.{contra}
-use Rattle.columns.proofs.Counting.{many-up, many-le, many-mono, first-law, many-all}
-use Rattle.columns.proofs.Members.{many-rest, many-front}
+use Rattle.columns.proofs.Counting.{first-law}
 use Rattle.columns.proofs.Orders.{lex-split, lex-first, lex-second, ltb-order, pair-order}
-use Rattle.table.specs.Lts.{Lts, rowIn, rowAt, Valid, Rising}
-use Rattle.table.specs.Stretch.{firstRow, nextIncoming}
+use Rattle.table.specs.Lts.{Lts, rowIn, rowAt, Valid, NeverFalls}
+use Rattle.table.specs.Stretch.{nextIncoming}
 
--- ---- the first row of a state
-module _ (source : List ℕ) (m : ℕ) where
-  pub first-row-is :
-      (s r : ℕ) → r ≤ m → ((i : ℕ) → i < r → getD source i 0 < s) → ((i : ℕ) → r ≤ i → i < m → s ≤ getD source i 0) →
-      r ≡ firstRow source m s
-  unfolding firstRow
-  first-row-is s r h y n = many-front (λ i. ltb (getD source i 0) s) m r h (λ i l. lt-ltb _ _ (y i l)) (λ i a b. le-ltb _ _ (n i a b))
-
-  pub first-row-most : (s : ℕ) → firstRow source m s ≤ m
-  unfolding firstRow
-  first-row-most s = many-le m (λ i. ltb (getD source i 0) s)
-
-  module _ (up : Rising source m) where
-    -- a row is before the first row of s exactly if its source is below s
-    pub before-row : (s i : ℕ) → i < m → getD source i 0 < s → i < firstRow source m s
-    unfolding firstRow
-    before-row s i h l =
-        let f : ℕ → Bool = λ i. ltb (getD source i 0) s in
-        omega (
-          arith,
-          many-up (suc i) m f h,
-          many-all (suc i) f
-              (λ j k. lt-ltb (getD source j 0) s (omega (arith, l, up j i (omega arith) h))),
-        )
-
-    pub from-row : (s i : ℕ) → i < m → s ≤ getD source i 0 → firstRow source m s ≤ i
-    unfolding firstRow
-    from-row s i h l =
-        let f : ℕ → Bool = λ i. ltb (getD source i 0) s in
-        omega (arith, many-rest f m i (omega arith) (λ j a b. le-ltb (getD source j 0) s (omega (arith, l, up i j a b))), many-le i f)
-
-    -- row i has source s exactly if firstRow s <= i < firstRow (s + 1)
-    pub stretch : (s i : ℕ) → i < m → (getD source i 0 ≡ s) ↔ ((firstRow source m s ≤ i) × (i < firstRow source m (s + 1)))
-    stretch s i h = (
-      λ e. (from-row s i h (omega (arith, e)), before-row (s + 1) i h (omega (arith, e))),
-      λ b. equal (not-below (λ l. omega (arith, b .0, before-row s i h l)))
-          (not-below (λ l. omega (arith, b .1, from-row (s + 1) i h (omega (arith, l))))),
-    )
-      where
-        equal : {x y : ℕ} → y ≤ x → x ≤ y → x ≡ y
-        equal a b = omega arith
-
-    -- the rows of s stand before those of s + 1
-    pub first-row-up : (s : ℕ) → firstRow source m s ≤ firstRow source m (s + 1)
-    unfolding firstRow
-    first-row-up s =
-        many-mono m (λ i. ltb (getD source i 0) s) (λ i. ltb (getD source i 0) (s + 1))
-        (λ i h e. lt-ltb (getD source i 0) (s + 1) (omega (arith, ltb-true (getD source i 0) s e)))
-
+-- ---- along the rows
 -- the sources of a checked table never fall
-pub rising : (t : Lts) → Valid t → Rising (t .source) (t .m)
+pub rising : (t : Lts) → Valid t → NeverFalls (t .source) (t .m)
 unfolding rowIn rowLt
 rising t v i j h l =
     ⊎-elim (λ (e : i ≡ j). omega (arith, ap (λ (k : ℕ). getD (t .source) k 0) e))
@@ -80,14 +32,14 @@ rising t v i j h l =
 
 -- ---- the next incoming row
 -- r is the least row at or after `from` whose target is u, or m
-pub record Next (target : List ℕ) (m u from r : ℕ) : Type 0 where
+pub record NextInto (target : List ℕ) (m u from r : ℕ) : Type 0 where
   pub low : from ≤ r
   pub most : r ≤ m
   pub before : (i : ℕ) → from ≤ i → i < r → getD target i 0 ≡ u → ⊥
   pub hit : r < m → getD target r 0 ≡ u
 
 module _ (target : List ℕ) (m u from : ℕ) (fits : from ≤ m) where
-  pub next-law : Next target m u from (nextIncoming target m u from)
+  pub next-law : NextInto target m u from (nextIncoming target m u from)
   unfolding nextIncoming
   next-law =
       let f : ℕ → Bool = λ k. eqb (getD target (from + k) 0) u in
@@ -104,7 +56,7 @@ module _ (target : List ℕ) (m u from : ℕ) (fits : from ≤ m) where
       whole h = omega arith
 
   -- and no other number is
-  pub next-is : (r : ℕ) → Next target m u from r → r ≡ nextIncoming target m u from
+  pub next-is : (r : ℕ) → NextInto target m u from r → r ≡ nextIncoming target m u from
   next-is r n =
       let q = next-law in
       le-antisymm

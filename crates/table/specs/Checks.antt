@@ -1,38 +1,28 @@
 -- The refusals of the calls that take a table, in document 01's order.
 use Prim.Native.Nat.{ℕ, _+_, _-_}
-use mathlib.Core.Bool.{Bool, not, cond, _&&_, _||_}
-use mathlib.Core.List.{List}
+use mathlib.Core.Bool.{Bool, not, _&&_, _||_}
+use mathlib.Core.List.{List, [], _∷_, _++_}
 use lib.Dec.{ltb, leb, eqb}
 use lib.ListN.{length, getD}
-use Rattle.columns.specs.Limits.{
-  maxLabels,
-  maxRows,
-  maxStates,
-  notAbove,
-  tooShort,
-  wrongField,
-  wrongInitial,
-  wrongLabels,
-  wrongRows,
-  wrongStates,
-}
+use Rattle.columns.specs.Limits.{maxRows, notAbove, tooShort, wrongField, wrongInitial, wrongRows}
 use Rattle.columns.specs.declared.answers.Refusal.{Refusal}
-use Rattle.columns.specs.Answers.{refusal, unless}
 use Rattle.columns.specs.Counting.{first}
+use Rattle.columns.specs.Due.{Test, test, due, allLong, statesTest, labelsTest, indexTest}
 use Rattle.columns.specs.Sets.{rowLt}
 use Rattle.table.specs.Lts.{Lts, rowIn}
 
--- x is from low to high
-unfoldable pub withinb : ℕ → ℕ → ℕ → Bool
-withinb low x high = leb low x && leb x high
+-- every column has m cells
+unfoldable pub rowsLong : Lts → Bool
+unfolding allLong
+rowsLong t = allLong (t .m) (length (t .source) ∷ length (t .label) ∷ length (t .target) ∷ [])
 
--- three lengths are at least m
-unfoldable pub threeLong : ℕ → ℕ → ℕ → ℕ → Bool
-threeLong m a b c = leb m a && (leb m b && leb m c)
+-- every work slice of these lengths has n + m + 1 cells
+abbrev pub worksLong : Lts → List ℕ → Bool
+worksLong t lengths = allLong (t .n + t .m + 1) lengths
 
-unfoldable pub longb : Lts → Bool
-unfolding threeLong
-longb t = threeLong (t .m) (length (t .source)) (length (t .label)) (length (t .target))
+-- a call's result columns have so many cells, and its work slices n + m + 1
+abbrev pub callRoom : Lts → ℕ → List ℕ → List ℕ → Bool
+callRoom t cells results work = allLong cells results && worksLong t work
 
 -- the fields of row i are in range
 unfoldable pub fieldsb : Lts → ℕ → Bool
@@ -44,34 +34,33 @@ unfoldable pub aboveb : List ℕ → List ℕ → List ℕ → ℕ → Bool
 unfolding rowLt rowIn
 aboveb source label target i = eqb i 0 || rowLt (rowIn source label target (i - 1)) (rowIn source label target i)
 
--- what is wrong with a row: 5 for its fields, else 6 for its order, else 0
-unfoldable pub fault : Bool → Bool → ℕ
-fault fields above = cond fields (cond above 0 notAbove) wrongField
-
-unfoldable pub rowFault : Lts → ℕ → ℕ
-unfolding fault fieldsb aboveb
-rowFault t i = fault (fieldsb t i) (aboveb (t .source) (t .label) (t .target) i)
-
--- the lowest row with a fault, m if there is none
+-- the lowest row that fails one of the two, m if there is none
 unfoldable pub badRow : Lts → ℕ
-unfolding first rowFault
-badRow t = first (t .m) (λ i. not (eqb (rowFault t i) 0))
+unfolding first fieldsb aboveb
+badRow t = first (t .m) (λ i. not (fieldsb t i && aboveb (t .source) (t .label) (t .target) i))
 
-unfoldable pub rowsRefusal : Lts → Refusal → Refusal
-unfolding badRow
-rowsRefusal t next = unless (leb (t .m) (badRow t)) (refusal (rowFault t (badRow t)) (badRow t)) next
+-- 1, 2, 3, 4, 7 (`room`: the call's other slices are long enough)
+abbrev pub headerTests : Lts → Bool → List Test
+headerTests t room =
+    statesTest (t .n)
+    ∷ labelsTest (t .labels)
+    ∷ test (leb (t .m) maxRows) wrongRows 0
+    ∷ test (ltb (t .initial) (t .n)) wrongInitial 0
+    ∷ test (rowsLong t && room) tooShort 0
+    ∷ []
 
--- 1, 2, 3, 4, 7 (`room`: the call's other slices are long enough), 5 and 6; then what the call tests next
-unfoldable pub checkedTable : Lts → Bool → Refusal → Refusal
-unfolding withinb longb rowsRefusal
-checkedTable t room next =
-    unless (withinb 1 (t .n) maxStates) (refusal wrongStates 0)
-    (unless (withinb 1 (t .labels) maxLabels) (refusal wrongLabels 0)
-    (unless (leb (t .m) maxRows) (refusal wrongRows 0)
-    (unless (ltb (t .initial) (t .n)) (refusal wrongInitial 0)
-    (unless (longb t && room) (refusal tooShort 0)
-    (rowsRefusal t next)))))
+-- 5 for the lowest bad row if it has a field out of range, else 6
+abbrev pub rowTests : Lts → List Test
+rowTests t =
+    test (leb (t .m) (badRow t) || fieldsb t (badRow t)) wrongField (badRow t)
+    ∷ test (leb (t .m) (badRow t)) notAbove (badRow t)
+    ∷ []
 
--- the room of a call with one result column and one work slice: `need` cells, and n + m + 1
-unfoldable pub roomb : ℕ → ℕ → ℕ → ℕ → ℕ → Bool
-roomb n m need result work = leb need result && leb (n + m + 1) work
+-- 1, 2, 3, 4, 7, 5 and 6
+abbrev pub tableTests : Lts → Bool → List Test
+tableTests t room = headerTests t room ++ rowTests t
+
+-- a call that takes the table, and an argument that is below a bound
+unfoldable pub tableArgumentRefusal : Lts → ℕ → ℕ → Bool → Refusal
+unfolding due rowsLong badRow
+tableArgumentRefusal t i bound room = due (tableTests t room ++ (indexTest i bound ∷ []))

@@ -5,4 +5,8 @@ pub mod Transitions
 pub mod Incoming
 pub mod Reach
 pub mod Search
+pub mod Turned
+pub mod Marks
+pub mod Promise
 pub mod Lent
+pub mod Tables

@@ -39,7 +39,7 @@ abbrev pub Step : Lts → ℕ → ℕ → ℕ → Type 0
 Step t s a u = Mem {A = Row} (s, (a, u)) (rows t)
 
 -- every column has m cells
-pub record Long (t : Lts) : Type 0 where
+pub record RowsLong (t : Lts) : Type 0 where
   pub source : t .m ≤ length (t .source)
   pub label : t .m ≤ length (t .label)
   pub target : t .m ≤ length (t .target)
@@ -58,10 +58,10 @@ pub record Valid (t : Lts) : Type 0 where
   pub few-labels : t .labels ≤ maxLabels
   pub few-rows : t .m ≤ maxRows
   pub initial : t .initial < t .n
-  pub long : Long t
+  pub long : RowsLong t
   pub fields : (i : ℕ) → i < t .m → Fields t i
   pub ascending : (i j : ℕ) → i < j → j < t .m → rowLt (rowAt t i) (rowAt t j) ≡ true
 
 -- the first m cells of a column never fall
-abbrev pub Rising : List ℕ → ℕ → Type 0
-Rising source m = (i j : ℕ) → i ≤ j → j < m → getD source i 0 ≤ getD source j 0
+abbrev pub NeverFalls : List ℕ → ℕ → Type 0
+NeverFalls source m = (i j : ℕ) → i ≤ j → j < m → getD source i 0 ≤ getD source j 0

@@ -3,15 +3,15 @@ use mathlib.Core.Path.{_≡_}
 use mathlib.Core.Bool.{Bool, true, not, _&&_, _||_}
 use mathlib.Core.List.{List, [], _∷_}
 use Prim.Native.Nat.{ℕ, zero, suc}
-use lib.Dec.{ltb, eqb}
+use lib.Dec.{ltb, leb, eqb}
 use lib.ListN.{length, getD}
-use Rattle.columns.specs.Limits.{outOfRange}
 use Rattle.columns.specs.declared.answers.Refusal.{Refusal}
-use Rattle.columns.specs.Answers.{Said, refusal, none, unless, bit, leaving}
+use Rattle.columns.specs.Answers.{Said, bit, leaving}
 use Rattle.columns.specs.Columns.{written, zeros}
 use Rattle.columns.specs.Counting.{first, many}
+use Rattle.columns.specs.Due.{allLong}
 use Rattle.table.specs.Lts.{Lts}
-use Rattle.table.specs.Checks.{checkedTable, roomb}
+use Rattle.table.specs.Checks.{worksLong, tableArgumentRefusal}
 
 module _ (edge : ℕ → ℕ → Bool) where
   -- a walk along edges, perhaps of none
@@ -42,10 +42,10 @@ unfoldable pub reaches : Lts → Bool → ℕ → ℕ → Bool
 unfolding via edge
 reaches t hidden s u = via (edge t hidden) (t .n) s u
 
+-- 1, 2, 3, 4, 7, 5 and 6, 8; the result and the work slice by their lengths
 unfoldable pub reachRefusal : Lts → ℕ → ℕ → ℕ → Refusal
-unfolding checkedTable roomb
-reachRefusal t s result work =
-    checkedTable t (roomb (t .n) (t .m) (t .n) result work) (unless (ltb s (t .n)) (refusal outOfRange s) none)
+unfolding tableArgumentRefusal allLong
+reachRefusal t s result work = tableArgumentRefusal t s (t .n) (leb (t .n) result && worksLong t (work ∷ []))
 
 -- 1 for each state that is reached and 0 for each other, over the first n cells; how many; and the work slice is zero
 unfoldable pub reachable : Lts → Bool → ℕ → List ℕ → List ℕ → Said × (List ℕ × List ℕ)

@@ -1,4 +1,4 @@
--- The search for the states that a state reaches along edges, as it stands between two turns.
+-- Loop invariants of the search for the states that a state reaches: what the proofs go by, nothing that a contract of an operation says.
 use mathlib.Core.Path.{_≡_}
 use mathlib.Core.Bool.{Bool, true, cond}
 use mathlib.Core.List.{List}

@@ -5,21 +5,23 @@ ghost use lib.ListN.{length, getD};
 ghost use Rattle.columns.specs.Answers.{bit};
 ghost use Rattle.columns.specs.Columns.{listed, sortBy, wiped};
 ghost use Rattle.columns.specs.Counting.{many};
-ghost use Rattle.table.specs.Lts.{Valid, Rising};
+ghost use Rattle.table.specs.Lts.{Lts, lts, Valid, NeverFalls};
 ghost use Rattle.table.specs.Reach.{takes, edge, reaches};
 ghost use Rattle.table.specs.Search.{Search, appended};
-ghost use Rattle.table.specs.Stretch.{firstRow, nextIncoming};
+ghost use Rattle.table.specs.Stretch.{ByTarget, firstRow, firstInto, nextIncoming};
+ghost use Rattle.table.specs.Turned.{RowsTurned};
 ghost use Rattle.columns.specs.Lent.{was, is};
 ghost use Rattle.table.specs.Lent.{ltsOf, ltsNow};
 use crate::Table;
 use columns::cells::at;
 use columns::cells::clear;
 use columns::cells::count_up;
+use columns::rows::row_set;
 use columns::sorting::sort;
 
 // Where the rows of s begin: how many of the first m rows have a source below s.
 fn first_row(source: &[u16], m: usize, s: usize) -> usize
-    requires { ⌜ (m ≤ length (now source)) × Rising (now source) m ⌝ }
+    requires { ⌜ (m ≤ length (now source)) × NeverFalls (now source) m ⌝ }
     ensures { λ r. ⌜ r ≡ firstRow (was source) m s ⌝ }
 {
     let mut low = 0;
@@ -37,7 +39,7 @@ fn first_row(source: &[u16], m: usize, s: usize) -> usize
 
 // Where the rows of s end, found from a row at or before that: the next row whose source is above s, or m.
 fn run_end(source: &[u16], m: usize, s: usize, from: usize) -> usize
-    requires { ⌜ (m ≤ length (now source)) × Rising (now source) m × (from ≤ firstRow (now source) m (s + 1)) ⌝ }
+    requires { ⌜ (m ≤ length (now source)) × NeverFalls (now source) m × (from ≤ firstRow (now source) m (s + 1)) ⌝ }
     ensures { λ r. ⌜ r ≡ firstRow (was source) m (s + 1) ⌝ }
 {
     let mut i = from;
@@ -50,7 +52,7 @@ fn run_end(source: &[u16], m: usize, s: usize, from: usize) -> usize
     i
 }
 
-// A run of rows: those from `first` to before `end`.
+// A run of rows, or of places in a list of rows: those from `first` to before `end`.
 pub struct Stretch {
     pub first: usize,
     pub end: usize,
@@ -58,11 +60,57 @@ pub struct Stretch {
 
 // The rows of s among the first m: their beginning is searched for, and the end found by walking them.
 pub fn rows_of(source: &[u16], m: usize, s: usize) -> Stretch
-    requires { ⌜ (m ≤ length (now source)) × Rising (now source) m × (s < 65536) ⌝ }
+    requires { ⌜ (m ≤ length (now source)) × NeverFalls (now source) m × (s < 65536) ⌝ }
     ensures { λ r. ⌜ (r .first ≡ firstRow (was source) m s) × (r .end ≡ firstRow (was source) m (s + 1)) ⌝ }
 {
     let first = first_row(source, m, s);
     let end = run_end(source, m, s, first);
+    Stretch { first, end }
+}
+
+// The first of h rows listed by target whose target is not below u; h if there is none.
+fn first_into(target: &[u16], order: &[u16], h: usize, u: usize) -> usize
+    requires { ⌜ ByTarget (now target) (now order) h ⌝ }
+    ensures { λ r. ⌜ r ≡ firstInto (was target) (was order) h u ⌝ }
+{
+    let mut low = 0;
+    let mut high = h;
+    while low < high {
+        let mid = low + (high - low) / 2;
+        let i = at(order, mid);
+        if at(target, i) < u {
+            low = mid + 1;
+        } else {
+            high = mid;
+        }
+    }
+    low
+}
+
+// Where the rows into u end, found from a place at or before that: the next place whose row leads above u, or h.
+fn into_end(target: &[u16], order: &[u16], h: usize, u: usize, from: usize) -> usize
+    requires { ⌜ ByTarget (now target) (now order) h × (from ≤ firstInto (now target) (now order) h (u + 1)) ⌝ }
+    ensures { λ r. ⌜ r ≡ firstInto (was target) (was order) h (u + 1) ⌝ }
+{
+    let mut k = from;
+    while k < h {
+        let i = at(order, k);
+        if u < at(target, i) {
+            return k;
+        }
+        k += 1;
+    }
+    k
+}
+
+// The rows into u, as places in a list of h rows by target: the incoming list, or a part of it. Their beginning is searched for, and the
+// end found by walking them.
+pub fn incoming_rows_of(target: &[u16], order: &[u16], h: usize, u: usize) -> Stretch
+    requires { ⌜ ByTarget (now target) (now order) h ⌝ }
+    ensures { λ r. ⌜ (r .first ≡ firstInto (was target) (was order) h u) × (r .end ≡ firstInto (was target) (was order) h (u + 1)) ⌝ }
+{
+    let first = first_into(target, order, h, u);
+    let end = into_end(target, order, h, u, first);
     Stretch { first, end }
 }
 
@@ -96,7 +144,7 @@ pub fn sort_incoming(
     ensures { λ _. ⌜ is spare ≡ wiped (length (was order) / 2) (was spare) ⌝ }
 {
     count_up(&mut *order);
-    sort(order, spare, target, source, label);
+    sort(target, source, label, order, spare);
 }
 
 // Whether row i is taken: any row, or a hidden one only.
@@ -112,7 +160,7 @@ pub fn taken(label: &[u16], hidden: bool, i: usize) -> bool
 
 // Marks state u and puts it behind the first `tail` cells of the queue, unless it is marked already. Returns the queue's new
 // length.
-pub fn append(marks: &mut [u16], queue: &mut [u16], tail: usize, u: usize) -> usize
+pub fn append(u: usize, marks: &mut [u16], queue: &mut [u16], tail: usize) -> usize
     requires { ⌜ (u < length (now marks)) × (u < 65536) × (tail < 65536) × (getD (now marks) u 0 ≡ 0 → tail < length (now queue)) ⌝ }
     ensures { λ r. ⌜ (r, (is marks, is queue)) ≡ appended u (was marks) (was queue) tail ⌝ }
 {
@@ -152,7 +200,7 @@ fn visit(
     while i < end {
         if taken(label, hidden, i) {
             let u = at(target, i);
-            high = append(&mut *marks, &mut *queue, high, u);
+            high = append(u, &mut *marks, &mut *queue, high);
             i += 1;
         } else {
             i += 1;
@@ -198,4 +246,76 @@ pub fn reach(
         head += 1;
     }
     tail
+}
+
+// The rows turned round, ascending again, over the first cells of the three columns named `back`: along them lead the ways back. Returns
+// their table. The cells of `order` and `spare` that are used are zero then.
+pub fn turn_rows(
+    table: Table,
+    source: &[u16],
+    label: &[u16],
+    target: &[u16],
+    back_source: &mut [u16],
+    back_label: &mut [u16],
+    back_target: &mut [u16],
+    order: &mut [u16],
+    spare: &mut [u16],
+) -> Table
+    requires { ⌜ Valid (ltsNow table source label target) ⌝ }
+    requires { ⌜ (table .m ≤ length (now «back_source»)) × (table .m ≤ length (now «back_label»)) ⌝ }
+    requires { ⌜ (table .m ≤ length (now «back_target»)) × (table .m ≤ length (now order)) × (table .m ≤ 2 * length (now spare) + 1) ⌝ }
+    ensures { λ r. ⌜ RowsTurned (ltsOf table source label target) (lts r (is «back_source») (is «back_label») (is «back_target»)) ⌝ }
+    ensures { λ _. ⌜ (is order ≡ wiped (table .m) (was order)) × (is spare ≡ wiped (table .m / 2) (was spare)) ⌝ }
+{
+    let m = table.m as usize;
+    let r = row_set(
+        target,
+        label,
+        source,
+        m,
+        back_source,
+        back_label,
+        back_target,
+        order,
+        spare,
+    );
+    Table {
+        n: table.n,
+        labels: table.labels,
+        m: r as u16,
+        initial: table.initial,
+    }
+}
+
+// The states that reach a state of a table t, along all rows or hidden rows only: 1 for each in `marks`, 0 for each other. Taken are the
+// rows of t turned round, and `reach` goes along them. Returns how many. The first n cells of `queue` are used.
+pub fn reach_back(
+    back: Table,
+    back_source: &[u16],
+    back_label: &[u16],
+    back_target: &[u16],
+    hidden: bool,
+    state: usize,
+    marks: &mut [u16],
+    queue: &mut [u16],
+) -> usize
+    requires { ⌜ Valid (ltsNow back «back_source» «back_label» «back_target») × (state < back .n) ⌝ }
+    requires { ⌜ (length (now marks) ≡ back .n) × (back .n ≤ length (now queue)) ⌝ }
+    ensures { λ r.
+        ⌜ ((t : Lts) → RowsTurned t (ltsOf back «back_source» «back_label» «back_target»)
+        → r ≡ many (t .n) (λ s. reaches t hidden s state)) ⌝ }
+    ensures { λ _.
+        ⌜ ((t : Lts) → RowsTurned t (ltsOf back «back_source» «back_label» «back_target»)
+        → is marks ≡ listed (t .n) (λ s. bit (reaches t hidden s state))) ⌝ }
+{
+    reach(
+        back,
+        back_source,
+        back_label,
+        back_target,
+        hidden,
+        state,
+        marks,
+        queue,
+    )
 }

@@ -5,17 +5,14 @@ ghost use Rattle.table.specs.Reach.{reachRefusal, reachable};
 ghost use Rattle.columns.specs.Lent.{was, is};
 ghost use Rattle.table.specs.Lent.{ltsOf};
 use crate::Table;
-use crate::checks::check;
-use crate::checks::room;
+use crate::checks::argument_refusal;
+use crate::checks::works_long;
 use crate::core::reach;
 use columns::answers::NumberAnswer;
 use columns::answers::Refusal;
 use columns::answers::number;
-use columns::answers::refuse;
 use columns::answers::refusing_number;
 use columns::cells::clear;
-use columns::limits::NONE;
-use columns::limits::OUT_OF_RANGE;
 
 // The refusal of a call with the table and a state, a result column of n cells and a work slice, given by their lengths.
 fn reach_refusal(
@@ -30,16 +27,8 @@ fn reach_refusal(
     ensures { λ r. ⌜ r ≡ reachRefusal (ltsOf table source label target) state result work ⌝ }
 {
     let n = table.n as usize;
-    let enough = room(table, n, result, work);
-    let t = check(table, source, label, target, enough);
-    let refused = t.number;
-    if refused != 0 {
-        return t;
-    }
-    if n <= state {
-        return refuse(OUT_OF_RANGE, state as u64);
-    }
-    refuse(NONE, 0)
+    let room = (n <= result) & works_long(table, &[work]);
+    argument_refusal(table, source, label, target, state, n, room)
 }
 
 // The states that a state reaches by a walk of rows, perhaps of none: over the first n cells of `reached`, 1 for each and 0

@@ -1,18 +1,17 @@
 // The rows of a state: those that leave it, as a run of row numbers, and those that lead to it, one after the other.
 ghost use mathlib.Core.Path.{_≡_};
-ghost use Rattle.columns.specs.Answers.{none, saidNumber};
-ghost use Rattle.table.specs.Transitions.{saidStretch, stateRefusal, fromRefusal, outgoingTransitions, nextIncomingRow};
+ghost use Rattle.columns.specs.Answers.{saidNumber};
+ghost use Rattle.table.specs.Transitions.{saidStretch, nextRefusal, outgoingTransitions, nextIncomingRow};
 ghost use Rattle.table.specs.Lent.{ltsOf};
 use crate::Table;
-use crate::checks::check;
+use crate::checks::argument_refusal;
 use crate::core::rows_of;
 use columns::answers::NumberAnswer;
 use columns::answers::Refusal;
 use columns::answers::number;
-use columns::answers::refuse;
 use columns::answers::refusing_number;
-use columns::limits::NONE;
-use columns::limits::OUT_OF_RANGE;
+use columns::checks::index_refusal;
+use columns::checks::or_else;
 
 // The outcome: the rows from `first` to before `end`.
 pub enum StretchOutcome {
@@ -24,27 +23,6 @@ pub struct StretchAnswer {
     pub outcome: StretchOutcome,
 }
 
-// The refusal of a call with the table and a state.
-fn state_refusal(
-    table: Table,
-    source: &[u16],
-    label: &[u16],
-    target: &[u16],
-    state: usize,
-) -> Refusal
-    ensures { λ r. ⌜ r ≡ stateRefusal (ltsOf table source label target) state none ⌝ }
-{
-    let t = check(table, source, label, target, true);
-    let refused = t.number;
-    if refused != 0 {
-        return t;
-    }
-    if table.n as usize <= state {
-        return refuse(OUT_OF_RANGE, state as u64);
-    }
-    refuse(NONE, 0)
-}
-
 // The refusal of a call with the table, a state, and the row from which another one is sought.
 fn next_refusal(
     table: Table,
@@ -54,17 +32,12 @@ fn next_refusal(
     state: usize,
     from: usize,
 ) -> Refusal
-    ensures { λ r. ⌜ r ≡ stateRefusal (ltsOf table source label target) state (fromRefusal (table .m) from) ⌝ }
+    ensures { λ r. ⌜ r ≡ nextRefusal (ltsOf table source label target) state from ⌝ }
 {
-    let t = state_refusal(table, source, label, target, state);
-    let refused = t.number;
-    if refused != 0 {
-        return t;
-    }
-    if (table.m as usize) < from {
-        return refuse(OUT_OF_RANGE, from as u64);
-    }
-    refuse(NONE, 0)
+    let n = table.n as usize;
+    let m = table.m as usize;
+    let t = argument_refusal(table, source, label, target, state, n, true);
+    or_else(t, index_refusal(from, m + 1))
 }
 
 // The run of the state's rows: their first, and the row after their last.
@@ -77,8 +50,9 @@ pub fn outgoing_transitions(
 ) -> StretchAnswer
     ensures { λ r. ⌜ saidStretch r ≡ outgoingTransitions (ltsOf table source label target) state ⌝ }
 {
+    let n = table.n as usize;
     let s = state as usize;
-    let t = state_refusal(table, source, label, target, s);
+    let t = argument_refusal(table, source, label, target, s, n, true);
     let refused = t.number;
     if refused != 0 {
         return StretchAnswer {

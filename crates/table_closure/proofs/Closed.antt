@@ -9,14 +9,14 @@ use mathlib.Core.Logic.{_⊎_, inl, inr, ⊎-elim}
 use mathlib.Core.List.{List}
 use lib.Dec.{eqb, ltb}
 use lib.ListN.{getD}
-use Rattle.table_closure.specs.Closed.{Marked, homeOf}
+use Rattle.table_closure.specs.Promise.{Marked, homeOf}
 use Rattle.table_closure.specs.Closure.{silentb, markSource, markInto, goesOn, readDown, close}
 use Rattle.columns.proofs.All.{top-or-below}
 use Rattle.columns.proofs.Bools.{contra}
 use Rattle.partition.specs.Partition.{Partition, Sound}
 use Rattle.table.specs.Lts.{Lts, Valid}
 use Rattle.table_closure.proofs.Closing.{goes-marked}
-use Rattle.table_closure.proofs.Growing.{Grown}
+use Rattle.table_closure.proofs.Growing.{MarksGrown}
 use Rattle.table_closure.proofs.Marking.{marked-from, from-marked, marks-stay, mark-marks}
 use Rattle.table_closure.proofs.Steps.{silent-home, source-grown, into-grown}
 
@@ -53,7 +53,7 @@ module _ (t : Lts) (v : Valid t) (b : ℕ) where
       go q r s (λ c. into-marks u k p (omega arith) same g i c e l)
       (source-marks k q h (r .n ∙ same) (r .sound)) (eqb (to k) u) refl (top-or-below w)
     where
-      go : (q : Partition) → Grown b p q → Grown b q (markSource t b k q) → (i < k → Marked q (from i))
+      go : (q : Partition) → MarksGrown b p q → MarksGrown b q (markSource t b k q) → (i < k → Marked q (from i))
           → (Silent q k → Marked (markSource t b k q) (from k))
           → (c : Bool) → eqb (to k) u ≡ c → (i ≡ k) ⊎ (i < k) → Marked (cond c (markSource t b k q) q) (from i)
       go q r s old new true f (inl z) =

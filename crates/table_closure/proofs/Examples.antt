@@ -7,6 +7,7 @@ use Prim.Native.Nat.{ℕ}
 use Rattle.table_closure.specs.Closure.{markBackwardClosure}
 use Rattle.columns.specs.Answers.{Said, done}
 use Rattle.columns.specs.Columns.{zeros}
+use Rattle.columns.specs.Due.{allLong}
 use Rattle.columns.specs.Inverse.{inverseb, inverseAt}
 use Rattle.columns.specs.Tests.{all}
 use Rattle.partition.specs.Partition.{
@@ -20,7 +21,6 @@ use Rattle.partition.specs.Partition.{
   liesb,
   lengths,
   consistentb,
-  sixLong,
   longb,
 }
 use Rattle.table.specs.Lts.{Lts}
@@ -29,8 +29,8 @@ use Rattle.table.specs.Lts.{Lts}
 abbrev pub chain : ℕ → Lts
 chain a = record { n = 3; labels = 2; m = 2; initial = 0; source = 0 ∷ 1 ∷ []; label = a ∷ a ∷ []; target = 1 ∷ 2 ∷ [] }
 
-abbrev pub bare : Lts
-bare = record { n = 3; labels = 2; m = 0; initial = 0; source = []; label = []; target = [] }
+abbrev pub bareTable : Lts
+bareTable = record { n = 3; labels = 2; m = 0; initial = 0; source = []; label = []; target = [] }
 
 -- marked from this position on
 abbrev pub from : ℕ → List ℕ → Partition
@@ -39,17 +39,17 @@ from x order = parts order order (0 ∷ 0 ∷ 0 ∷ []) (0 ∷ 0 ∷ 0 ∷ []) (
 abbrev pub given : ℕ → Partition
 given x = from x (1 ∷ 0 ∷ 2 ∷ [])
 
-abbrev pub work : List ℕ
-work = 7 ∷ 7 ∷ 7 ∷ 7 ∷ 7 ∷ 7 ∷ []
+abbrev pub workSlice : List ℕ
+workSlice = 7 ∷ 7 ∷ 7 ∷ 7 ∷ 7 ∷ 7 ∷ []
 
 abbrev pub run : Lts → ℕ → Said × (Partition × (List ℕ × List ℕ))
-run t x = markBackwardClosure t (given x) 0 work work
+run t x = markBackwardClosure t (given x) 0 workSlice workSlice
 
 abbrev pub leaves : Partition → Said × (Partition × (List ℕ × List ℕ))
 leaves p = (done [], (p, (zeros 6, zeros 6)))
 
 pub examples :
-    (run (chain 0) 3 ∷ run (chain 0) 0 ∷ run bare 2 ∷ run (chain 1) 2 ∷ run (chain 0) 2 ∷ [])
+    (run (chain 0) 3 ∷ run (chain 0) 0 ∷ run bareTable 2 ∷ run (chain 1) 2 ∷ run (chain 0) 2 ∷ [])
     ≡ (leaves (given 3) ∷ leaves (given 0) ∷ leaves (given 2) ∷ leaves (given 2) ∷ leaves (from 0 (0 ∷ 1 ∷ 2 ∷ [])) ∷ [])
-unfolding markBackwardClosure consistentb longb sixLong inverseb inverseAt all blocksb blockAt withinb liesb lieAt insideb lengths
+unfolding markBackwardClosure consistentb longb allLong inverseb inverseAt all blocksb blockAt withinb liesb lieAt insideb lengths
 examples = refl

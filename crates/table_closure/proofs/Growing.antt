@@ -16,7 +16,7 @@ use Rattle.partition.specs.Readers.{unmarkedb}
 use Rattle.partition.proofs.Keeps.{mark-consistent}
 use Rattle.partition.proofs.Owned.{owned}
 
-pub record Grown (b : ℕ) (p q : Partition) : Type 0 where
+pub record MarksGrown (b : ℕ) (p q : Partition) : Type 0 where
   pub sound : Sound q
   pub element-to-block : q .element-to-block ≡ p .element-to-block
   pub begin : q .begin ≡ p .begin
@@ -33,7 +33,7 @@ pub record Grown (b : ℕ) (p q : Partition) : Type 0 where
   pub outside : (k : ℕ) → (getD (p .begin) b 0 ≤ k → k < getD (p .end) b 0 → ⊥) → getD (q .elements) k 0 ≡ getD (p .elements) k 0
   pub places : (s : ℕ) → (s < p .n → getD (p .element-to-block) s 0 ≡ b → ⊥) → getD (q .element-offset) s 0 ≡ getD (p .element-offset) s 0
 
-pub grown-none : (b : ℕ) (p : Partition) → Sound p → Grown b p p
+pub grown-none : (b : ℕ) (p : Partition) → Sound p → MarksGrown b p p
 grown-none b p g =
     record {
       sound = g;
@@ -52,7 +52,7 @@ grown-none b p g =
       places = λ s h. refl;
     }
 
-pub grown-more : {b : ℕ} {p q r : Partition} → Grown b p q → Grown b q r → Grown b p r
+pub grown-more : {b : ℕ} {p q r : Partition} → MarksGrown b p q → MarksGrown b q r → MarksGrown b p r
 grown-more {b} {p} {q} {r} g h =
     record {
       sound = h .sound;
@@ -113,7 +113,7 @@ module _ (p : Partition) (g : Sound p) (s : ℕ) (w : s < p .n) where
     moved-before = ltb-true o m u
 
     -- where the two states stand that change places
-    pub record Both : Type 0 where
+    pub record BothMoved : Type 0 where
       pub known : b < p .count
       pub from : getD (p .begin) b 0 ≤ o
       pub to : m ≤ getD (p .end) b 0
@@ -122,7 +122,7 @@ module _ (p : Partition) (g : Sound p) (s : ℕ) (w : s < p .n) where
       pub there : getD (p .element-to-block) (getD (p .elements) (m - 1) 0) 0 ≡ b
       pub there-state : getD (p .elements) (m - 1) 0 < p .n
 
-    pub both : Both
+    pub both : BothMoved
     both =
         let c = g .consistent in
         let l = c .lies s w in
@@ -137,7 +137,7 @@ module _ (p : Partition) (g : Sound p) (s : ℕ) (w : s < p .n) where
           there-state = c .order .below (m - 1) (omega (arith, v .to, v .most, moved-before));
         }
 
-    moved-grown : Grown b p (moved p s)
+    moved-grown : MarksGrown b p (moved p s)
     unfolding moved
     moved-grown =
         let k = both in
@@ -170,10 +170,10 @@ module _ (p : Partition) (g : Sound p) (s : ℕ) (w : s < p .n) where
               (λ e. f (omega (arith, e, k .there-state)) (ap (λ (y : ℕ). getD (p .element-to-block) y 0) e ∙ k .there));
         }
 
-  pub mark-grown : Grown b p (mark p s)
+  pub mark-grown : MarksGrown b p (mark p s)
   unfolding mark
   mark-grown = go (unmarkedb p s) refl
     where
-      go : (t : Bool) → unmarkedb p s ≡ t → Grown b p (cond t (moved p s) p)
+      go : (t : Bool) → unmarkedb p s ≡ t → MarksGrown b p (cond t (moved p s) p)
       go true e = moved-grown e
       go false e = grown-none b p g

@@ -1,4 +1,4 @@
--- The inner rows of a block's states, sorted by target, then source, then label, are `Inner`.
+-- The inner rows of a block's states, sorted by target, then source, then label, are `InnerList`.
 use Prim.Native.Nat.{ℕ, _+_, _-_, _≤_, _<_}
 use native.Mathlib.Omega.{arith}
 use native.Mathlib.Nat.{eq-or-lt-of-le}
@@ -28,7 +28,7 @@ use Rattle.table.specs.Lts.{Lts, rowIn, Valid}
 use Rattle.table.proofs.Incomings.{key-back, back-apart}
 use Rattle.table.proofs.Stretches.{incoming-up}
 use Rattle.table_closure.specs.Closure.{silentb}
-use Rattle.table_closure.specs.Inner.{innerb, innerRows, Stands, Inner}
+use Rattle.table_closure.specs.Inner.{innerb, innerRows, Stands, InnerList}
 use Rattle.table_closure.proofs.Listing.{innerOf}
 
 -- ---- the rows of a table by target
@@ -120,7 +120,7 @@ module _ (t : Lts) (v : Valid t) where
     -- sorted on the first h cells of a column
     pub inner-law :
         (order : List ℕ) (h : ℕ) → h ≤ length order → h ≤ t .m
-        → take h order ≡ sortBy (t .target) (t .source) (t .label) (innerOf t home b elements x (z - x)) → Inner t home b order h
+        → take h order ≡ sortBy (t .target) (t .source) (t .label) (innerOf t home b elements x (z - x)) → InnerList t home b order h
     unfolding sortBy key
     inner-law order h fits few e =
         record {
@@ -158,7 +158,7 @@ module _ (t : Lts) (v : Valid t) where
     pub inner-sorted :
         (order y : List ℕ) (h : ℕ) → h ≤ length order → h ≤ t .m → take h order ≡ innerOf t home b elements x (z - x)
         → y ≡ sortBy (t .target) (t .source) (t .label) (take h order) → ((k : ℕ) → h ≤ k → getD order k 0 ≡ 0)
-        → Inner t home b (y ++ drop h order) h × ((k : ℕ) → h ≤ k → getD (y ++ drop h order) k 0 ≡ 0)
+        → InnerList t home b (y ++ drop h order) h × ((k : ℕ) → h ≤ k → getD (y ++ drop h order) k 0 ≡ 0)
     unfolding sortBy
     inner-sorted order y h fits few e g rest = (
       inner-law (y ++ drop h order) h (omega (arith, long, length-append y (drop h order))) few

@@ -8,7 +8,7 @@ use mathlib.Core.Path.{_≡_, refl, ap, sym, subst, _∙_}
 use mathlib.Core.Logic.{_↔_}
 use mathlib.Core.List.{List}
 use lib.ListN.{getD}
-use Rattle.table_closure.specs.Closed.{Marked, homeOf, Inner, Holding, Closure, Leading, marked, along}
+use Rattle.table_closure.specs.Promise.{Marked, homeOf, InnerStep, Holding, Closure, Leading, marked, along}
 use Rattle.table_closure.specs.Closure.{silentb, close}
 use Rattle.columns.proofs.Bools.{and-both}
 use Rattle.partition.specs.Partition.{Partition, Sound}
@@ -22,7 +22,7 @@ use Rattle.table_closure.proofs.Steps.{silent-label, silent-home, close
 -- ---- rows and steps
 module _ (t : Lts) (p : Partition) (b : ℕ) where
   row-inner : (i : ℕ) → i < t .m → silentb t (p .element-to-block) b i ≡ true → homeOf p (getD (t .target) i 0) ≡ b
-      → Inner t p b (getD (t .source) i 0) (getD (t .target) i 0)
+      → InnerStep t p b (getD (t .source) i 0) (getD (t .target) i 0)
   row-inner i h l e =
       record {
         step =

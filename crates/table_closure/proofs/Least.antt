@@ -8,14 +8,14 @@ use mathlib.Core.Logic.{⊎-elim}
 use mathlib.Core.List.{List}
 use lib.Dec.{eqb}
 use lib.ListN.{getD}
-use Rattle.table_closure.specs.Closed.{Marked, homeOf}
+use Rattle.table_closure.specs.Promise.{Marked, homeOf}
 use Rattle.table_closure.specs.Closure.{silentb, markSource, markInto, goesOn, readDown}
 use Rattle.partition.specs.Mark.{mark}
 use Rattle.partition.specs.Partition.{Partition, Sound}
 use Rattle.partition.proofs.Owned.{owned}
 use Rattle.table.specs.Lts.{Lts, Valid}
 use Rattle.table_closure.proofs.Closing.{goes-marked}
-use Rattle.table_closure.proofs.Growing.{Grown}
+use Rattle.table_closure.proofs.Growing.{MarksGrown}
 use Rattle.table_closure.proofs.Marking.{from-marked, mark-only}
 use Rattle.table_closure.proofs.Steps.{silent-home, into-grown}
 
@@ -32,7 +32,7 @@ module _ (t : Lts) (v : Valid t) (b : ℕ) (home : List ℕ) (M : ℕ → Type 0
     pub homes : p .element-to-block ≡ home
     pub sound : Sound p
 
-  ours-grown : (p q : Partition) → Ours p → Grown b p q → Ours q
+  ours-grown : (p q : Partition) → Ours p → MarksGrown b p q → Ours q
   ours-grown p q o g = record { same = g .n ∙ o .same; homes = g .element-to-block ∙ o .homes; sound = g .sound }
 
   home-at : (p : Partition) → Ours p → (s : ℕ) → getD home s 0 ≡ homeOf p s

@@ -11,6 +11,7 @@ pub mod Marking
 pub mod Closed
 pub mod Least
 pub mod Laws
+pub mod Theorems
 pub mod Examples
 pub mod Standing
 pub mod Determined

@@ -1,4 +1,4 @@
--- The rows that `Inner` lists are all that the definition marks by: marking by way of the list is marking by way of all rows.
+-- The rows that `InnerList` lists are all that the definition marks by: marking by way of the list is marking by way of all rows.
 use Prim.Native.Nat.{ℕ, zero, suc, _≤_, _<_}
 use native.Mathlib.Omega.{arith}
 use borrow.Author.Tests.{eqb-true, eqb-false}
@@ -12,7 +12,7 @@ use Rattle.partition.specs.Partition.{Partition, Sound}
 use Rattle.partition.proofs.Owned.{owned}
 use Rattle.table.specs.Lts.{Lts, Valid}
 use Rattle.table_closure.specs.Closure.{markInto, goesOn, readDown, close}
-use Rattle.table_closure.specs.Inner.{Inner}
+use Rattle.table_closure.specs.Inner.{InnerList}
 use Rattle.table_closure.specs.Listed.{RowList, rowList, comesFrom, leadsTo, markListed, readListed, Listed, Fits}
 use Rattle.table_closure.proofs.Closing.{goes-marked}
 use Rattle.table_closure.proofs.Reading.{
@@ -30,22 +30,20 @@ use Rattle.table_closure.proofs.Steps.{into-grown}
 pub fits : (p : Partition) → Sound p → Fits (p .n) (p .element-to-block) (marksOf p)
 fits p g = record { begin = p .begin; end = p .end; count = p .count; sound = g }
 
-module _ (t : Lts) (v : Valid t) (home : List ℕ) (b : ℕ) (order : List ℕ) (h : ℕ) (l : Inner t home b order h) where
+module _ (t : Lts) (v : Valid t) (home : List ℕ) (b : ℕ) (order : List ℕ) (h : ℕ) (l : InnerList t home b order h) where
   abbrev R : RowList
   R = rowList (t .source) (t .target) order
 
   pub listed : Listed (t .n) R h
   listed =
       record {
-        room = l .room;
+        by-target = record { room = l .room; row = listed-below t v home b order h l; rising = listed-rising t v home b order h l };
         source = λ k w. omega (arith, l .row k w, v .long .source);
-        target = listed-below t v home b order h l;
         state = λ k w. v .fields (getD order k 0) (l .row k w) .source;
-        rising = listed-rising t v home b order h l;
       }
 
 module _ (t : Lts) (v : Valid t) (b : ℕ) (p : Partition) (same : p .n ≡ t .n) (order : List ℕ) (h : ℕ)
-    (l : Inner t (p .element-to-block) b order h) where
+    (l : InnerList t (p .element-to-block) b order h) where
   abbrev home : List ℕ
   home = p .element-to-block
 

@@ -3,31 +3,21 @@ use Prim.Native.Nat.{ℕ, zero, suc, _+_, _-_, _≤_, _<_}
 use native.Mathlib.Omega.{arith}
 use native.Mathlib.Nat.{eq-or-lt-of-le}
 use native.Mathlib.Numerals.{add-one}
-use borrow.Author.Tests.{eq-eqb, ne-eqb, eqb-true, ltb-true, lt-ltb}
-use mathlib.Core.Bool.{Bool, true, false, cond, _&&_}
+use borrow.Author.Tests.{eq-eqb, ne-eqb}
+use mathlib.Core.Bool.{Bool, true, false, cond}
 use mathlib.Core.Path.{_≡_, refl, ap, sym, subst, _∙_}
 use mathlib.Core.Logic.{⊎-elim}
 use mathlib.Core.List.{List}
-use lib.Dec.{eqb, ltb}
+use lib.Dec.{eqb}
 use lib.ListN.{length, getD}
-use Rattle.columns.proofs.Bools.{and-left, and-right, and-both, contra}
-use Rattle.partition.specs.Mark.{Marks, markIn, Markable}
+use Rattle.partition.specs.Mark.{Marks, markIn}
+use Rattle.partition.specs.Cores.{Markable}
 use Rattle.partition.specs.Partition.{Partition, parts, Sound}
 use Rattle.partition.proofs.Marks.{markable, mark-done}
+use Rattle.table.specs.Stretch.{StretchOf}
 use Rattle.table_closure.specs.Closure.{goingOn}
 use Rattle.table_closure.specs.Listed.{RowList, comesFrom, leadsTo, markListed, readListed, Listed, Fits}
 use Rattle.table_closure.proofs.Growing.{mark-grown}
-
--- what the test of a position says
-module _ (target order : List ℕ) (h j u : ℕ) (r : Bool) (e : r ≡ ltb j h && eqb (getD target (getD order j 0) 0) u) where
-  pub leads-before : r ≡ true → j < h
-  leads-before f = ltb-true j h (and-left (ltb j h) (eqb (getD target (getD order j 0) 0) u) (sym e ∙ f))
-
-  pub leads-to : r ≡ true → getD target (getD order j 0) 0 ≡ u
-  leads-to f = eqb-true (getD target (getD order j 0) 0) u (and-right (ltb j h) (eqb (getD target (getD order j 0) 0) u) (sym e ∙ f))
-
-  pub leads-not : r ≡ false → j < h → getD target (getD order j 0) 0 ≡ u → ⊥
-  leads-not f a c = contra (and-both (lt-ltb j h a) (eq-eqb (getD target (getD order j 0) 0) u c)) (sym e ∙ f)
 
 -- ---- the columns stay those of a partition, and as long as they were
 pub record Kept (n : ℕ) (home : List ℕ) (c d : Marks) : Type 0 where
@@ -67,11 +57,10 @@ module _ (n : ℕ) (home : List ℕ) where
         marked-split = ap (λ (q : Partition). length (q .marked-split)) e ∙ g .marked-split;
       }
 
--- the rows before position j are read, and no row from there on leads to less than u
+-- the rows before position j are read
 pub record Into (r : RowList) (home : List ℕ) (h u : ℕ) (c d : Marks) (j : ℕ) : Type 0 where
   pub most : j ≤ h
   pub done : d ≡ markListed r home u j c
-  pub above : (k : ℕ) → j ≤ k → k < h → u ≤ leadsTo r k
 
 -- the positions of block b, from x to before z, are read from `it` on, and reading on gives what is asked for
 pub record Down (n : ℕ) (r : RowList) (home : List ℕ) (h b x z : ℕ) (c d : Marks) (it : ℕ) : Type 0 where
@@ -115,11 +104,14 @@ module _ (n : ℕ) (home : List ℕ) (r : RowList) (h : ℕ) (l : Listed n r h) 
         listed-skip i j (omega arith) (λ k a z. f k a (omega arith)) ∙ listed-past j (f j (omega arith) (omega arith)))
         (eq-or-lt-of-le w)
 
-    pub into-start : (j : ℕ) → j ≤ h → ((k : ℕ) → k < j → leadsTo r k < u) → ((k : ℕ) → j ≤ k → k < h → u ≤ leadsTo r k) →
-        Into r home h u c c j
+    -- those that lead to u are listed from `first` to before `end`
+    pub into-start : (first end : ℕ) → StretchOf (leadsTo r) h u first end → Into r home h u c c first
     unfolding markListed
-    into-start j w f k =
-        record { most = w; done = listed-skip 0 j (omega arith) (λ x a z e. omega (arith, f x z, e)); above = k }
+    into-start first end t =
+        record {
+          most = omega (arith, t .low, t .most);
+          done = listed-skip 0 first (omega arith) (λ k a z e. omega (arith, z, t .exactly k (omega (arith, z, t .low, t .most)) .0 e .0));
+        }
 
     module _ (d : Marks) (j : ℕ) (i : Into r home h u c d j) where
       pub into-kept : Fits n home c → Kept n home c d
@@ -141,13 +133,10 @@ module _ (n : ℕ) (home : List ℕ) (r : RowList) (h : ℕ) (l : Listed n r h) 
                 ∙ ap (λ (y : Marks). markIn home y (comesFrom r j)) (i .done)
                 ∙ listed-next j q
                 ∙ ap (λ (k : ℕ). markListed r home u k c) (sym (add-one j));
-            above = λ k a z. i .above k (omega (arith, a)) z;
           }
 
-      pub into-end : (j < h → leadsTo r j ≡ u → ⊥) → d ≡ markListed r home u h c
-      into-end f =
-          i .done ∙ listed-skip j h (i .most)
-          (λ k a z e. f (omega (arith, a, z)) (omega (arith, i .above j (omega arith) (omega (arith, a, z)), l .rising j k a z, e)))
+      pub into-end : (first end : ℕ) → StretchOf (leadsTo r) h u first end → j ≡ end → d ≡ markListed r home u h c
+      into-end first end t q = i .done ∙ listed-skip j h (i .most) (λ k a z e. omega (arith, a, q, t .exactly k z .0 e .1))
 
   -- ---- the positions of block b, from its end down
   module _ (b x : ℕ) where

@@ -10,14 +10,14 @@ use mathlib.Core.List.{List}
 use lib.Dec.{ltb}
 use lib.ListN.{getD}
 use lib.Seq.{getD-set-same}
-use Rattle.table_closure.specs.Closed.{Marked, homeOf}
+use Rattle.table_closure.specs.Promise.{Marked, homeOf}
 use Rattle.columns.proofs.All.{same-or-not}
 use Rattle.columns.proofs.Inverses.{offset-i}
 use Rattle.columns.proofs.Swaps.{swapped-j}
 use Rattle.partition.specs.Mark.{mark, moved}
 use Rattle.partition.specs.Partition.{Partition, Sound}
 use Rattle.partition.specs.Readers.{unmarkedb}
-use Rattle.table_closure.proofs.Growing.{Grown, mark-grown, moved-before, both}
+use Rattle.table_closure.proofs.Growing.{MarksGrown, mark-grown, moved-before, both}
 
 -- a state of block b is marked exactly if it stands at or after the split
 module _ (p : Partition) (b s : ℕ) (e : homeOf p s ≡ b) where
@@ -29,7 +29,7 @@ module _ (p : Partition) (b s : ℕ) (e : homeOf p s ≡ b) where
   unfolding unmarkedb
   from-marked h = le-ltb _ _ (subst (λ (x : ℕ). getD (p .marked-split) x 0 ≤ getD (p .element-offset) s 0) (sym e) h)
 
-module _ (b : ℕ) (p q : Partition) (g : Grown b p q) where
+module _ (b : ℕ) (p q : Partition) (g : MarksGrown b p q) where
   pub home-stays : (s : ℕ) → homeOf q s ≡ homeOf p s
   home-stays s = ap (λ (l : List ℕ). getD l s 0) (g .element-to-block)
 
@@ -99,7 +99,7 @@ module _ (p : Partition) (g : Sound p) (s : ℕ) (w : s < p .n) where
     moved-marks = from-marked (moved p s) b s refl (omega (arith, moved-split, moved-offset))
 
     -- a state marked then stands where it stood, or it is s
-    moved-only : Grown b p (moved p s) → (u : ℕ) → u < p .n → homeOf p u ≡ b → Marked (moved p s) u → (u ≡ s) ⊎ Marked p u
+    moved-only : MarksGrown b p (moved p s) → (u : ℕ) → u < p .n → homeOf p u ≡ b → Marked (moved p s) u → (u ≡ s) ⊎ Marked p u
     unfolding moved
     moved-only h u wu e k =
         let x = getD (moved p s .element-offset) u 0 in
@@ -127,6 +127,6 @@ module _ (p : Partition) (g : Sound p) (s : ℕ) (w : s < p .n) where
   unfolding mark
   mark-only u wu e = go (unmarkedb p s) refl (mark-grown p g s w)
     where
-      go : (t : Bool) → unmarkedb p s ≡ t → Grown b p (cond t (moved p s) p) → Marked (cond t (moved p s) p) u → (u ≡ s) ⊎ Marked p u
+      go : (t : Bool) → unmarkedb p s ≡ t → MarksGrown b p (cond t (moved p s) p) → Marked (cond t (moved p s) p) u → (u ≡ s) ⊎ Marked p u
       go true q h k = moved-only q h u wu e k
       go false q h k = inr k

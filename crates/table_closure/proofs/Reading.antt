@@ -10,14 +10,14 @@ use mathlib.Core.List.{List}
 use lib.Dec.{eqb}
 use lib.ListN.{length, getD}
 use Rattle.table_closure.specs.Closure.{silentb, markSource, markInto}
-use Rattle.table_closure.specs.Inner.{innerb, Inner}
+use Rattle.table_closure.specs.Inner.{innerb, InnerList}
 use Rattle.columns.proofs.All.{lt-or-le}
 use Rattle.columns.proofs.Bools.{and-left, and-both, fails}
 use Rattle.partition.specs.Mark.{Marks, marksOf, withMarks, mark, markIn}
 use Rattle.partition.specs.Partition.{Partition, Sound}
 use Rattle.partition.proofs.Marks.{mark-done}
 use Rattle.table.specs.Lts.{Lts, Valid}
-use Rattle.table_closure.proofs.Growing.{Grown}
+use Rattle.table_closure.proofs.Growing.{MarksGrown}
 use Rattle.table_closure.proofs.Steps.{into-grown}
 
 -- ---- one row
@@ -81,7 +81,7 @@ pub record Reading (t : Lts) (b u : ℕ) (order : List ℕ) (h : ℕ) (p q : Par
   pub after : (k : ℕ) → j ≤ k → k < h → getD (t .target) (getD order k 0) 0 ≡ u → next ≤ getD order k 0
 
 -- what the listed rows are asked for when they are looked up
-module _ (t : Lts) (v : Valid t) (home : List ℕ) (b : ℕ) (order : List ℕ) (h : ℕ) (l : Inner t home b order h) where
+module _ (t : Lts) (v : Valid t) (home : List ℕ) (b : ℕ) (order : List ℕ) (h : ℕ) (l : InnerList t home b order h) where
   pub listed-below : (k : ℕ) → k < h → getD order k 0 < length (t .target)
   listed-below k w = omega (arith, l .row k w, v .long .target)
 
@@ -117,7 +117,7 @@ module _ (t : Lts) (v : Valid t) (b u : ℕ) (p : Partition) (same : p .n ≡ t 
   abbrev home : List ℕ
   home = p .element-to-block
 
-  module _ (order : List ℕ) (h : ℕ) (l : Inner t home b order h) where
+  module _ (order : List ℕ) (h : ℕ) (l : InnerList t home b order h) where
     abbrev listed : ℕ → ℕ
     listed k = getD order k 0
 
@@ -136,7 +136,7 @@ module _ (t : Lts) (v : Valid t) (b u : ℕ) (p : Partition) (same : p .n ≡ t 
         }
 
     module _ (q : Partition) (j : ℕ) (c : Reading t b u order h p q j) where
-      pub reading-grown : Grown b p q
+      pub reading-grown : MarksGrown b p q
       reading-grown = rw (c .done) (into-grown t v b u (c .next) p (c .most) same g)
 
       -- a silent row that leads to u and is not read yet is listed at j or later

@@ -1,16 +1,17 @@
 -- What `mark_backward_closure` refuses, says and leaves. b is the block.
-use Prim.Native.Nat.{ℕ, zero, suc, _+_}
+use Prim.Native.Nat.{ℕ, zero, suc}
 use mathlib.Core.Bool.{Bool, _&&_, cond}
-use mathlib.Core.List.{List, []}
-use lib.Dec.{ltb, leb, eqb}
+use mathlib.Core.List.{List, [], _∷_}
+use lib.Dec.{ltb, eqb}
 use lib.ListN.{length, getD}
-use Rattle.columns.specs.Limits.{outOfRange}
 use Rattle.columns.specs.declared.answers.Refusal.{Refusal}
-use Rattle.columns.specs.Answers.{Said, refusal, none, unless, leaving}
+use Rattle.columns.specs.Answers.{Said, leaving}
 use Rattle.columns.specs.Columns.{zeros}
+use Rattle.columns.specs.Due.{allLong}
 use Rattle.partition.specs.Mark.{mark}
 use Rattle.partition.specs.Partition.{Partition}
-use Rattle.table_partition.specs.Checks.{checkedBoth}
+use Rattle.table_partition.specs.Checks.{bothArgumentRefusal}
+use Rattle.table.specs.Checks.{worksLong}
 use Rattle.table.specs.Lts.{Lts}
 
 -- row i is hidden and comes from a state of block b; `home` has the block of each state
@@ -51,14 +52,10 @@ unfoldable pub close : Lts → Partition → ℕ → Partition
 unfolding readDown
 close t p b = readDown t b (getD (p .end) b 0) p
 
--- the room of the two work slices
-unfoldable pub workb : Lts → ℕ → ℕ → Bool
-workb t order spare = leb (t .n + t .m + 1) order && leb (t .n + t .m + 1) spare
-
--- 1, 2, 3, 4, 7, 5 and 6, 14, 8
+-- 1, 2, 3, 4, 7, 5 and 6, 14, 8; the work slices by their lengths
 unfoldable pub closureRefusal : Lts → Partition → ℕ → ℕ → ℕ → Refusal
-unfolding checkedBoth workb
-closureRefusal t p b order spare = checkedBoth t p (workb t order spare) (unless (ltb b (p .count)) (refusal outOfRange b) none)
+unfolding bothArgumentRefusal allLong
+closureRefusal t p b order spare = bothArgumentRefusal t p b (p .count) (worksLong t (order ∷ spare ∷ []))
 
 -- the partition is closed, and the work slices are zero
 unfoldable pub markBackwardClosure : Lts → Partition → ℕ → List ℕ → List ℕ → Said × (Partition × (List ℕ × List ℕ))

@@ -1,4 +1,4 @@
--- The hidden rows that stay in a block, as a column lists them.
+-- Loop invariants of the list of a block's inner rows: what the proofs go by, nothing that a contract of an operation says.
 use Prim.Native.Nat.{ℕ, _≤_, _<_}
 use mathlib.Core.Path.{_≡_}
 use mathlib.Core.Logic.{_⊎_}
@@ -29,7 +29,7 @@ pub record Stands (n : ℕ) (elements home : List ℕ) (b x z : ℕ) : Type 0 wh
   pub all : (s : ℕ) → s < n → getD home s 0 ≡ b → (k : ℕ) × (x ≤ k) × (k < z) × (getD elements k 0 ≡ s)
 
 -- the first h cells of a column name the hidden rows that stay in block b, each once, by target, and among equals as the rows come
-pub record Inner (t : Lts) (home : List ℕ) (b : ℕ) (order : List ℕ) (h : ℕ) : Type 0 where
+pub record InnerList (t : Lts) (home : List ℕ) (b : ℕ) (order : List ℕ) (h : ℕ) : Type 0 where
   pub room : h ≤ length order
   pub few : h ≤ t .m
   pub row : (j : ℕ) → j < h → getD order j 0 < t .m

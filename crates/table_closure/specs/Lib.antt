@@ -1,4 +1,4 @@
 pub mod Closure
-pub mod Closed
+pub mod Promise
 pub mod Inner
 pub mod Listed

@@ -1,11 +1,12 @@
--- What is marked by way of rows that a column lists.
-use Prim.Native.Nat.{ℕ, zero, suc, _≤_, _<_}
+-- Loop invariants of the marking by way of listed rows: what the proofs go by, nothing that a contract of an operation says.
+use Prim.Native.Nat.{ℕ, zero, suc, _<_}
 use mathlib.Core.Bool.{cond}
 use mathlib.Core.List.{List}
 use lib.Dec.{eqb}
 use lib.ListN.{length, getD}
 use Rattle.partition.specs.Mark.{Marks, markIn}
 use Rattle.partition.specs.Partition.{Sound, parts}
+use Rattle.table.specs.Stretch.{listedTarget, ByTarget}
 use Rattle.table_closure.specs.Closure.{goingOn}
 
 -- the sources and the targets of a table's rows, and a column that lists some of the rows
@@ -22,7 +23,7 @@ abbrev pub comesFrom : RowList → ℕ → ℕ
 comesFrom r k = getD (r .source) (getD (r .order) k 0) 0
 
 abbrev pub leadsTo : RowList → ℕ → ℕ
-leadsTo r k = getD (r .target) (getD (r .order) k 0) 0
+leadsTo r k = listedTarget (r .target) (r .order) k
 
 -- of the first k listed rows the sources of those that lead to u are marked, one after the other; `home` has the block of each state
 unfoldable pub markListed : RowList → List ℕ → ℕ → ℕ → Marks → Marks
@@ -40,11 +41,9 @@ readListed r h home b x (suc it) c =
 
 -- the first h listed rows: they come from states, and are listed by target
 pub record Listed (n : ℕ) (r : RowList) (h : ℕ) : Type 0 where
-  pub room : h ≤ length (r .order)
+  pub by-target : ByTarget (r .target) (r .order) h
   pub source : (k : ℕ) → k < h → getD (r .order) k 0 < length (r .source)
-  pub target : (k : ℕ) → k < h → getD (r .order) k 0 < length (r .target)
   pub state : (k : ℕ) → k < h → comesFrom r k < n
-  pub rising : (j k : ℕ) → j ≤ k → k < h → leadsTo r j ≤ leadsTo r k
 
 -- the columns are those of a partition of n states
 pub record Fits (n : ℕ) (home : List ℕ) (c : Marks) : Type 0 where

@@ -1,9 +1,7 @@
 // The work of `mark_backward_closure`, on columns that are checked already. No entry points: each says what it requires.
 ghost use mathlib.Core.Path.{_≡_};
-ghost use Prim.Native.Nat.{ℕ, _≤_, _<_};
+ghost use Prim.Native.Nat.{_≤_, _<_};
 ghost use lib.ListN.{length, getD};
-ghost use mathlib.Core.Bool.{_&&_};
-ghost use lib.Dec.{eqb, ltb};
 ghost use Rattle.table_closure.specs.Closure.{goingOn, close};
 ghost use Rattle.table_closure.specs.Listed.{rowList, markListed, readListed, Listed, Fits};
 ghost use Rattle.partition.specs.Mark.{marks};
@@ -17,40 +15,7 @@ use columns::cells::at;
 use columns::cells::clear;
 use partition::core::mark_element;
 use table::Table;
-
-// The first of h listed rows whose target is not below u; h if there is none.
-fn first_into(target: &[u16], order: &[u16], h: usize, u: usize) -> usize
-    requires { ⌜ (h ≤ length (now order)) × ((k : ℕ) → k < h → getD (now order) k 0 < length (now target)) ⌝ }
-    requires { ⌜ ((j k : ℕ) → j ≤ k → k < h → getD (now target) (getD (now order) j 0) 0 ≤ getD (now target) (getD (now order) k 0) 0) ⌝ }
-    ensures { λ r.
-        ⌜ (r ≤ h) × ((j : ℕ) → j < r → getD (was target) (getD (was order) j 0) 0 < u)
-        × ((j : ℕ) → r ≤ j → j < h → u ≤ getD (was target) (getD (was order) j 0) 0) ⌝ }
-{
-    let mut low = 0;
-    let mut high = h;
-    while low < high {
-        let mid = low + (high - low) / 2;
-        let i = at(order, mid);
-        if at(target, i) < u {
-            low = mid + 1;
-        } else {
-            high = mid;
-        }
-    }
-    low
-}
-
-// Whether the row listed at j, if there is one below h, leads to u.
-fn leads(target: &[u16], order: &[u16], h: usize, j: usize, u: usize) -> bool
-    requires { ⌜ (h ≤ length (now order)) × ((k : ℕ) → k < h → getD (now order) k 0 < length (now target)) ⌝ }
-    ensures { λ r. ⌜ r ≡ ltb j h && eqb (getD (was target) (getD (was order) j 0) 0) u ⌝ }
-{
-    if h <= j {
-        return false;
-    }
-    let i = at(order, j);
-    if at(target, i) == u { true } else { false }
-}
+use table::core::incoming_rows_of;
 
 // Marks the sources of the h listed rows that lead to u, one after the other.
 fn mark_into(
@@ -72,8 +37,10 @@ fn mark_into(
         let left = marks (is elements) (is «element_offset») (is «marked_split») in
         ⌜ left ≡ markListed (rowList (was source) (was target) (was order)) (was «element_to_block») u h given ⌝ }
 {
-    let mut j = first_into(target, order, h, u);
-    while leads(target, order, h, j, u) {
+    let rows = incoming_rows_of(target, order, h, u);
+    let mut j = rows.first;
+    let end = rows.end;
+    while j < end {
         let i = at(order, j);
         let s = at(source, i);
         mark_element(

@@ -7,7 +7,7 @@ ghost use Prim.Native.Nat.{ℕ, _+_, _-_, _≤_, _<_};
 ghost use lib.Dec.{eqb};
 ghost use lib.ListN.{length, getD, take};
 ghost use Rattle.table_closure.specs.Closure.{silentIn};
-ghost use Rattle.table_closure.specs.Inner.{innerb, innerRows, Stands, Inner};
+ghost use Rattle.table_closure.specs.Inner.{innerb, innerRows, Stands, InnerList};
 ghost use Rattle.columns.specs.Columns.{laid};
 ghost use Rattle.table.specs.Lts.{Valid};
 ghost use Rattle.columns.specs.Lent.{was, is, Clear, Cleared};
@@ -162,7 +162,7 @@ pub fn list_inner(
     requires { ⌜ Clear order × Clear spare ⌝ }
     ensures { λ r.
         let system = ltsOf table source label target in
-        ⌜ Inner system (was «element_to_block») b (is order) r × ((k : ℕ) → r ≤ k → getD (is order) k 0 ≡ 0) ⌝ }
+        ⌜ InnerList system (was «element_to_block») b (is order) r × ((k : ℕ) → r ≤ k → getD (is order) k 0 ≡ 0) ⌝ }
     ensures { λ _. ⌜ Cleared spare ⌝ }
 {
     let h = list_states(
@@ -177,6 +177,6 @@ pub fn list_inner(
         z,
         &mut *order,
     );
-    sort(&mut order[..h], &mut *spare, target, source, label);
+    sort(target, source, label, &mut order[..h], &mut *spare);
     h
 }

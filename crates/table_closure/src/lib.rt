@@ -7,7 +7,6 @@ ghost use Rattle.columns.specs.Lent.{was, is};
 ghost use Rattle.partition.specs.Lent.{before, after};
 ghost use Rattle.table.specs.Lent.{ltsOf};
 
-pub mod checks;
 pub mod core;
 pub mod inner;
 
@@ -16,6 +15,8 @@ use columns::answers::finished;
 use columns::answers::refusing;
 use columns::cells::clear;
 use table::Table;
+use table::checks::works_long;
+use table_partition::argument_refusal;
 
 // From end - 1 down, incoming hidden sources in the same block are marked, until nothing is unmarked or the marked stretch is read.
 pub fn mark_backward_closure(
@@ -42,7 +43,8 @@ pub fn mark_backward_closure(
 {
     let k = count as usize;
     let b = block_index as usize;
-    let t = checks::closure_refusal(
+    let room = works_long(table, &[order.len(), spare.len()]);
+    let t = argument_refusal(
         table,
         source,
         label,
@@ -55,8 +57,8 @@ pub fn mark_backward_closure(
         &*marked_split,
         end,
         b,
-        order.len(),
-        spare.len(),
+        k,
+        room,
     );
     let number = t.number;
     if number != 0 {

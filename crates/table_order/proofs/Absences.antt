@@ -13,7 +13,7 @@ use Rattle.table.specs.Lts.{Lts, Step, Valid, rows}
 use Rattle.table.specs.Reach.{Walk, stop, along, takes, edge}
 use Rattle.table.proofs.Rows.{step-row}
 use Rattle.table.proofs.Walks.{edge-step, takes-hidden}
-use Rattle.table_order.specs.Order.{lastFirst, visit, sweep, behind, placeOf, place, next}
+use Rattle.table_order.specs.Order.{lastFirst, visit, sweep, behind, placeOf, sortPlace, next}
 use Rattle.table_order.specs.Promise.{LongCycle}
 use Rattle.columns.proofs.Sets.{no-members}
 use Rattle.table_order.proofs.Lists.{not-isIn, behind-head, behind-tail}
@@ -70,11 +70,11 @@ module _ (t : Lts) (hidden : Bool) (still : Still t hidden) where
       a .other (still s (a .label) u (a .row) (a .taken)))
 
   module _ (v : Valid t) where
-    pub still-reversed : (s : ℕ) → s < t .n → place t hidden true s ≡ s
-    unfolding place placeOf
+    pub still-reversed : (s : ℕ) → s < t .n → sortPlace t hidden true s ≡ s
+    unfolding sortPlace placeOf
     still-reversed s h = ap (behind s) (sweep-down (next t hidden) none-next (t .n) (t .n) (v .some-states)) ∙ behind-down (t .n) s h
 
-    pub still-forward : (s : ℕ) → s < t .n → place t hidden false s ≡ t .n - suc s
+    pub still-forward : (s : ℕ) → s < t .n → sortPlace t hidden false s ≡ t .n - suc s
     still-forward s h = omega (arith, h, still-reversed s h, opposite t v hidden still-free s h)
 
 -- no row; and no hidden row where hidden rows are chosen

@@ -50,17 +50,17 @@ module _ (t : Lts) (hidden : Bool) where
       one s false = omega arith
 
   -- searches that were started, at most n, and turns that were made, each of which lessens the measure (`Turned`)
-  pub data Run : ℕ → ℕ → List ℕ → List ℕ → Type 0 where
-    begun : {marks : List ℕ} → Run 0 0 marks []
-    started : {a b : ℕ} {marks : List ℕ} {root : ℕ} → Run a b marks [] → Run (suc a) b marks (root ∷ [])
-    turned : {a b : ℕ} {marks st marks′ st′ : List ℕ} → Run a b marks st
-        → measure (next t hidden) (t .n) marks′ st′ < measure (next t hidden) (t .n) marks st → Run a (suc b) marks′ st′
+  pub data SearchRun : ℕ → ℕ → List ℕ → List ℕ → Type 0 where
+    begun : {marks : List ℕ} → SearchRun 0 0 marks []
+    started : {a b : ℕ} {marks : List ℕ} {root : ℕ} → SearchRun a b marks [] → SearchRun (suc a) b marks (root ∷ [])
+    turned : {a b : ℕ} {marks st marks′ st′ : List ℕ} → SearchRun a b marks st
+        → measure (next t hidden) (t .n) marks′ st′ < measure (next t hidden) (t .n) marks st → SearchRun a (suc b) marks′ st′
 
-  paid : {a b : ℕ} {marks st : List ℕ} → Run a b marks st → b + measure (next t hidden) (t .n) marks st ≤ a + (t .n + t .m)
+  paid : {a b : ℕ} {marks st : List ℕ} → SearchRun a b marks st → b + measure (next t hidden) (t .n) marks st ≤ a + (t .n + t .m)
   unfolding measure
   paid (begun {marks}) = omega (arith, left-most marks)
   paid (started {a} {b} {marks} {root} r) = omega (arith, paid r)
   paid (turned r l) = omega (arith, paid r, l)
 
-  pub turns-most : {a b : ℕ} {marks st : List ℕ} → Run a b marks st → a ≤ t .n → b ≤ (t .n + t .n) + t .m
+  pub turns-most : {a b : ℕ} {marks st : List ℕ} → SearchRun a b marks st → a ≤ t .n → b ≤ (t .n + t .n) + t .m
   turns-most r h = omega (arith, paid r, h)

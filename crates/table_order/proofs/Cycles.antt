@@ -12,7 +12,7 @@ use Rattle.columns.proofs.Bools.{contra, and-left, and-right, and-both}
 use Rattle.table.specs.Lts.{Lts, Valid}
 use Rattle.table.specs.Reach.{Walk, stop, along, edge, reaches}
 use Rattle.table.proofs.Walks.{joined, edge-in, reaches-walk}
-use Rattle.table_order.specs.Order.{next, cyclic}
+use Rattle.table_order.specs.Order.{next, hasCycle}
 use Rattle.table_order.specs.Machine.{arc, Cycle, cycle}
 use Rattle.table_order.specs.Promise.{LongCycle}
 use Rattle.table_order.proofs.Successors.{arc-edge, edge-arc}
@@ -57,8 +57,8 @@ module _ (t : Lts) (hidden : Bool) where
         last x h (along {u = y} e w) = last y (edge-in t hidden v x y e) w
 
     -- the test says whether there is such a cycle
-    pub cyclic-long : (cyclic t hidden ≡ true) ↔ LongCycle t hidden
-    unfolding cyclic
+    pub cyclic-long : (hasCycle t hidden ≡ true) ↔ LongCycle t hidden
+    unfolding hasCycle
     cyclic-long = (
       λ h.
           let a = some-out (t .n) (λ s. some (t .n) (through s)) h in

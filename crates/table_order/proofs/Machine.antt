@@ -14,25 +14,25 @@ use Rattle.columns.proofs.Bools.{contra}
 use Rattle.columns.proofs.Counting.{sum-pick}
 use Rattle.columns.proofs.Sums.{sum-cong, sum-add}
 use Rattle.table_order.specs.Order.{isIn, behind, visit, lastFirst}
-use Rattle.table_order.specs.Machine.{pushAll, keep, newIn, mark, left, rest}
+use Rattle.table_order.specs.Machine.{pushAll, keep, newIn, markFor, left, rest}
 use Rattle.table_order.proofs.Lists.{mem-isIn, not-isIn, isIn-other, mem?, behind-tail}
 use Rattle.table_order.proofs.Visits.{visit-old}
 
 -- ---- marks
-pub mark-done : (gray done : List ℕ) (s : ℕ) → Mem s done → mark gray done s ≡ 2 + behind s done
-unfolding mark
+pub mark-done : (gray done : List ℕ) (s : ℕ) → Mem s done → markFor gray done s ≡ 2 + behind s done
+unfolding markFor
 mark-done gray done s m = rw (mem-isIn s done m)
 
-pub mark-gray : (gray done : List ℕ) (s : ℕ) → (Mem s done → ⊥) → Mem s gray → mark gray done s ≡ 1
-unfolding mark
+pub mark-gray : (gray done : List ℕ) (s : ℕ) → (Mem s done → ⊥) → Mem s gray → markFor gray done s ≡ 1
+unfolding markFor
 mark-gray gray done s f m = rw (not-isIn s done f, mem-isIn s gray m)
 
-pub mark-new : (gray done : List ℕ) (s : ℕ) → (Mem s done → ⊥) → (Mem s gray → ⊥) → mark gray done s ≡ 0
-unfolding mark
+pub mark-new : (gray done : List ℕ) (s : ℕ) → (Mem s done → ⊥) → (Mem s gray → ⊥) → markFor gray done s ≡ 0
+unfolding markFor
 mark-new gray done s f g = rw (not-isIn s done f, not-isIn s gray g)
 
 -- what a mark tells
-pub mark-0 : (gray done : List ℕ) (s : ℕ) → mark gray done s ≡ 0 → (Mem s done → ⊥) × (Mem s gray → ⊥)
+pub mark-0 : (gray done : List ℕ) (s : ℕ) → markFor gray done s ≡ 0 → (Mem s done → ⊥) × (Mem s gray → ⊥)
 mark-0 gray done s e = (f, g)
   where
     f : Mem s done → ⊥
@@ -41,24 +41,24 @@ mark-0 gray done s e = (f, g)
     g : Mem s gray → ⊥
     g m = ⊎-elim f (λ h. omega (arith, mark-gray gray done s h m)) (mem? s done)
 
-pub mark-1 : (gray done : List ℕ) (s : ℕ) → mark gray done s ≡ 1 → (Mem s done → ⊥) × Mem s gray
+pub mark-1 : (gray done : List ℕ) (s : ℕ) → markFor gray done s ≡ 1 → (Mem s done → ⊥) × Mem s gray
 mark-1 gray done s e = (f, ⊎-elim (λ m. m) (λ h. absurd (omega (arith, mark-new gray done s f h))) (mem? s gray))
   where
     f : Mem s done → ⊥
     f m = omega (arith, mark-done gray done s m)
 
-pub mark-2 : (gray done : List ℕ) (s : ℕ) → (mark gray done s ≡ 0 → ⊥) → (mark gray done s ≡ 1 → ⊥) → Mem s done
+pub mark-2 : (gray done : List ℕ) (s : ℕ) → (markFor gray done s ≡ 0 → ⊥) → (markFor gray done s ≡ 1 → ⊥) → Mem s done
 mark-2 gray done s f g =
     ⊎-elim (λ m. m) (λ h. absurd (⊎-elim (λ m. g (mark-gray gray done s h m)) (λ k. f (mark-new gray done s h k)) (mem? s gray)))
     (mem? s done)
 
 -- a state that is entered, and one that is finished
-pub mark-enter : (gray done : List ℕ) (x s : ℕ) → (s ≡ x → ⊥) → mark (x ∷ gray) done s ≡ mark gray done s
-unfolding mark
+pub mark-enter : (gray done : List ℕ) (x s : ℕ) → (s ≡ x → ⊥) → markFor (x ∷ gray) done s ≡ markFor gray done s
+unfolding markFor
 mark-enter gray done x s f = rw (isIn-other s x gray f)
 
-pub mark-finish : (gray done : List ℕ) (x s : ℕ) → (s ≡ x → ⊥) → mark gray (x ∷ done) s ≡ mark (x ∷ gray) done s
-unfolding mark
+pub mark-finish : (gray done : List ℕ) (x s : ℕ) → (s ≡ x → ⊥) → markFor gray (x ∷ done) s ≡ markFor (x ∷ gray) done s
+unfolding markFor
 mark-finish gray done x s f = rw (isIn-other s x done f, isIn-other s x gray f, behind-tail s x done f)
 
 -- ---- left

@@ -26,12 +26,11 @@ use lib.Seq.{getD-set-same, getD-set-other}
 use Rattle.columns.specs.Columns.{listed}
 use Rattle.columns.specs.Rows.{rowsOf}
 use Rattle.columns.specs.Sets.{Mem, Row}
-use Rattle.table.specs.Lts.{Lts, Rising, Valid}
+use Rattle.table.specs.Lts.{Lts}
 use Rattle.table.specs.Reach.{takes}
-use Rattle.table.specs.Stretch.{firstRow}
-use Rattle.table.proofs.Stretches.{rising, stretch, first-row-most}
+use Rattle.table.specs.Stretch.{StretchOf}
 use Rattle.columns.proofs.Bools.{and-no-left, and-no-right}
-use Rattle.table_order.specs.Order.{counts, passes, succs}
+use Rattle.table_order.specs.Order.{counts, ownCounts, succs}
 use Rattle.table_order.specs.Machine.{stackOf, pushAll, keep, newIn}
 use Rattle.table_order.specs.Turn.{seenOf, Pushed}
 use Rattle.table_order.proofs.Turns.{newIn-yes, newIn-no}
@@ -55,7 +54,7 @@ module _ (hidden : Bool) (s : ℕ) (marks : List ℕ) (a u : ℕ) where
 succs-append : (hidden : Bool) (a b : List Row) (s : ℕ) → succs hidden (a ++ b) s ≡ succs hidden a s ++ succs hidden b s
 unfolding succs
 succs-append hidden [] b s = refl
-succs-append hidden (r ∷ rs) b s = go (succs-append hidden rs b s) (passes hidden s r)
+succs-append hidden (r ∷ rs) b s = go (succs-append hidden rs b s) (ownCounts hidden s r)
   where
     go : succs hidden (rs ++ b) s ≡ succs hidden rs s ++ succs hidden b s → (c : Bool)
         → cond c ((r .1 .1) ∷ succs hidden (rs ++ b) s) (succs hidden (rs ++ b) s) ≡ cond c ((r .1 .1) ∷ succs hidden rs s)
@@ -163,7 +162,7 @@ module _ (hidden : Bool) (source label target : List ℕ) (s : ℕ) where
 
   -- one more row, of s or of another state
   row-own : (i : ℕ) → getD source i 0 ≡ s → S (i + 1) ≡ S i ++ cond (test i) (getD target i 0 ∷ []) []
-  unfolding rowsOf listed succs passes
+  unfolding rowsOf listed succs ownCounts
   row-own i e = rw (
     add-one,
     succs-append hidden (rowsOf i source label target) ((getD source i 0, (getD label i 0, getD target i 0)) ∷ [])
@@ -172,7 +171,7 @@ module _ (hidden : Bool) (source label target : List ℕ) (s : ℕ) where
   )
 
   row-other : (i : ℕ) → (getD source i 0 ≡ s → ⊥) → S (suc i) ≡ S i
-  unfolding rowsOf listed succs passes
+  unfolding rowsOf listed succs ownCounts
   row-other i f =
       rw (
         succs-append hidden (rowsOf i source label target) ((getD source i 0, (getD label i 0, getD target i 0)) ∷ []) s,
@@ -297,31 +296,24 @@ module _ (hidden : Bool) (source label target : List ℕ) (s : ℕ) where
       high k m (omega arith) (λ i a b. f i a (omega arith)))
       (eq-or-lt-of-le h)
 
-  module _ (m : ℕ) (up : Rising source m) where
-    abbrev from : ℕ
-    from = firstRow source m s
-
-    abbrev to : ℕ
-    to = firstRow source m (s + 1)
-
-    pub offer-start : (r : ℕ) → r ≡ firstRow source m s → (marks stack : List ℕ) (top : ℕ) →
-        Offer (sofar hidden source label target s r) marks (stackOf top stack) stack top top
-    offer-start r e marks stack top =
-        rw (ap S e ∙ low from (λ i h q. omega (arith, h, stretch source m up s i (omega (arith, h, first-row-most source m s)) .0 q .0)))
-        (offer-none marks stack top)
+  module _ (m first end : ℕ) (r : StretchOf (λ i. getD source i 0) m s first end) where
+    pub offer-start : (marks stack : List ℕ) (top : ℕ) →
+        Offer (sofar hidden source label target s first) marks (stackOf top stack) stack top top
+    offer-start marks stack top =
+        rw (low first (λ i h q. omega (arith, h, r .exactly i (omega (arith, h, r .low, r .most)) .0 q .0))) (offer-none marks stack top)
 
     pub offer-end :
-        (r : ℕ) → r ≡ firstRow source m (s + 1) → (marks before after : List ℕ) (top high : ℕ) → 0 < top
-        → Offer (sofar hidden source label target s r) marks (stackOf top before) after top high →
+        (i : ℕ) → i ≡ end → (marks before after : List ℕ) (top high : ℕ) → 0 < top
+        → Offer (sofar hidden source label target s i) marks (stackOf top before) after top high →
         Pushed (sofar hidden source label target s m) marks before after top high
-    offer-end r q marks before after top high′ z o = record {
+    offer-end i q marks before after top high′ z o = record {
       clash = λ q. absurd (omega (arith, o .from, z, q));
       clean = λ _. subst (λ (k : List ℕ). (t : ℕ) → Mem t k → getD marks t 0 ≡ 1 → ⊥) e (o .clean);
       pushed = λ _. o .pushed ∙ ap (λ (k : List ℕ). pushAll (keep (newIn marks) k) (stackOf top before)) e;
     }
       where
-        e : S r ≡ S m
-        e = ap S q ∙ sym (high to m (first-row-most source m (s + 1)) (λ i a b j. omega (arith, a, stretch source m up s i b .0 j .1)))
+        e : S i ≡ S m
+        e = ap S q ∙ sym (high end m (r .most) (λ i a b j. omega (arith, a, r .exactly i b .0 j .1)))
 
 -- ---- a row of the stretch of s
 pub record Own (t : Lts) (s i : ℕ) : Type 0 where
@@ -329,8 +321,6 @@ pub record Own (t : Lts) (s i : ℕ) : Type 0 where
   pub own : getD (t .source) i 0 ≡ s
 
 pub own-row :
-    (t : Lts) → Valid t → (s first end i : ℕ) → first ≡ firstRow (t .source) (t .m) s → end ≡ firstRow (t .source) (t .m) (s + 1) →
-    first ≤ i → i < end → Own t s i
-own-row t v s first end i p q a b =
-    let h : i < t .m = omega (arith, b, q, first-row-most (t .source) (t .m) (s + 1)) in
-    record { below = h; own = stretch (t .source) (t .m) (rising t v) s i h .1 (omega (arith, a, p), omega (arith, b, q)) }
+    (t : Lts) (s first end i : ℕ) → StretchOf (λ i. getD (t .source) i 0) (t .m) s first end → first ≤ i → i < end → Own t s i
+own-row t s first end i r a b =
+    let h : i < t .m = omega (arith, b, r .most) in record { below = h; own = r .exactly i h .1 (a, b) }

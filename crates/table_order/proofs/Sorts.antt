@@ -8,7 +8,7 @@ use Rattle.columns.specs.Columns.{over, written, zeros}
 use Rattle.columns.proofs.Bools.{fails}
 use Rattle.columns.proofs.Lists.{zeros-at, listed-cong}
 use Rattle.table.specs.Lts.{Lts, Valid}
-use Rattle.table_order.specs.Order.{next, place, cyclic}
+use Rattle.table_order.specs.Order.{next, sortPlace, hasCycle}
 use Rattle.table_order.specs.Call.{sorted}
 use Rattle.table_order.specs.Machine.{Idle}
 use Rattle.table_order.specs.Turn.{Swept, markPlace}
@@ -30,18 +30,18 @@ module _ (t : Lts) (v : Valid t) (hidden : Bool) where
           mark-high (next t hidden) (t .n) (t .m) (starts t hidden v) (i .1) s h,
         )
 
-    is-cyclic : free ≡ false → cyclic t hidden ≡ true
+    is-cyclic : free ≡ false → hasCycle t hidden ≡ true
     is-cyclic e = cyclic-long t hidden v .1 (cycle-long t hidden (w .cycle e))
 
-    not-cyclic : free ≡ true → cyclic t hidden ≡ false
+    not-cyclic : free ≡ true → hasCycle t hidden ≡ false
     not-cyclic e = fails (λ q. all-acyclic (next t hidden) (t .n) (t .m) (starts t hidden v) (w .idle e .1)
         (long-cycle t hidden (cyclic-long t hidden v .0 q)))
 
     -- whether there is no cycle
-    pub is-free : free ≡ not (cyclic t hidden)
+    pub is-free : free ≡ not (hasCycle t hidden)
     is-free = go free refl
       where
-        go : (b : Bool) → free ≡ b → b ≡ not (cyclic t hidden)
+        go : (b : Bool) → free ≡ b → b ≡ not (hasCycle t hidden)
         go true e = sym (ap not (not-cyclic e))
         go false e = sym (ap not (is-cyclic e))
 
@@ -50,8 +50,8 @@ module _ (t : Lts) (v : Valid t) (hidden : Bool) where
     stays reversed places e = rw (is-cyclic e)
 
     mark-places : (reversed : Bool) → free ≡ true → (s : ℕ) → s < t .n →
-        markPlace (t .n) reversed (getD marks s 0) ≡ place t hidden reversed s
-    unfolding markPlace place
+        markPlace (t .n) reversed (getD marks s 0) ≡ sortPlace t hidden reversed s
+    unfolding markPlace sortPlace
     mark-places true e s h = place-reversed (next t hidden) (t .n) (t .m) (starts t hidden v) (w .idle e .1) s h
     mark-places false e s h = place-forward (next t hidden) (t .n) (t .m) (starts t hidden v) (w .idle e .1) s h
 
@@ -62,4 +62,4 @@ module _ (t : Lts) (v : Valid t) (hidden : Bool) where
     unfolding sorted written
     placed reversed places after e q =
         rw (not-cyclic e) (q ∙ ap (λ (l : List ℕ). over l places)
-        (listed-cong (t .n) (λ s. markPlace (t .n) reversed (getD marks s 0)) (place t hidden reversed) (mark-places reversed e)))
+        (listed-cong (t .n) (λ s. markPlace (t .n) reversed (getD marks s 0)) (sortPlace t hidden reversed) (mark-places reversed e)))

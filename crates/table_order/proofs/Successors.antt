@@ -20,7 +20,7 @@ use Rattle.table.specs.Lts.{Lts, Step, Valid, rows}
 use Rattle.table.specs.Reach.{takes, edge}
 use Rattle.table.proofs.Rows.{step-fields}
 use Rattle.table.proofs.Walks.{edge-step}
-use Rattle.table_order.specs.Order.{counts, passes, succs, next}
+use Rattle.table_order.specs.Order.{counts, ownCounts, succs, next}
 use Rattle.table_order.specs.Machine.{arc, newIn, left}
 use Rattle.table_order.proofs.Machine.{weight}
 use Rattle.table_order.proofs.Ordered.{arc-mem, mem-arc}
@@ -43,16 +43,16 @@ pub record Accepted (hidden : Bool) (rs : List Row) (s u : ℕ) : Type 0 where
   pub taken : takes hidden label ≡ true
   pub other : s ≡ u → ⊥
 
-passes-of : (hidden : Bool) (s : ℕ) (r : Row) → passes hidden s r ≡ true → (r .0 ≡ s) × (counts hidden s (r .1 .0) (r .1 .1) ≡ true)
-unfolding passes
-passes-of hidden s r h = (
+own-counts-of : (hidden : Bool) (s : ℕ) (r : Row) → ownCounts hidden s r ≡ true → (r .0 ≡ s) × (counts hidden s (r .1 .0) (r .1 .1) ≡ true)
+unfolding ownCounts
+own-counts-of hidden s r h = (
   eqb-true _ _ (and-left (eqb (r .0) s) (counts hidden s (r .1 .0) (r .1 .1)) h),
   and-right (eqb (r .0) s) (counts hidden s (r .1 .0) (r .1 .1)) h,
 )
 
-of-passes : (hidden : Bool) (s a u : ℕ) → takes hidden a ≡ true → (s ≡ u → ⊥) → passes hidden s (s, (a, u)) ≡ true
-unfolding passes
-of-passes hidden s a u k f = and-both (eq-eqb s s refl) (of-counts hidden s a u k f)
+of-own-counts : (hidden : Bool) (s a u : ℕ) → takes hidden a ≡ true → (s ≡ u → ⊥) → ownCounts hidden s (s, (a, u)) ≡ true
+unfolding ownCounts
+of-own-counts hidden s a u k f = and-both (eq-eqb s s refl) (of-counts hidden s a u k f)
 
 same-row : (r : Row) (s u : ℕ) → r .0 ≡ s → u ≡ r .1 .1 → _≡_ {A = Row} (s, (r .1 .0, u)) r
 same-row r s u p q = rw (q, ← p)
@@ -60,18 +60,18 @@ same-row r s u p q = rw (q, ← p)
 pub succs-row : (hidden : Bool) (rs : List Row) (s u : ℕ) → Mem u (succs hidden rs s) → Accepted hidden rs s u
 unfolding succs
 succs-row hidden [] s u m = absurd (List·Memᴰ·not-nil m)
-succs-row hidden (r ∷ rs) s u m = go (succs-row hidden rs s u) (passes hidden s r) refl m
+succs-row hidden (r ∷ rs) s u m = go (succs-row hidden rs s u) (ownCounts hidden s r) refl m
   where
     later : Accepted hidden rs s u → Accepted hidden (r ∷ rs) s u
     later p = record { label = p .label; row = List·Memᴰ·tail (p .row); taken = p .taken; other = p .other }
 
-    go : (Mem u (succs hidden rs s) → Accepted hidden rs s u) → (b : Bool) → passes hidden s r ≡ b →
+    go : (Mem u (succs hidden rs s) → Accepted hidden rs s u) → (b : Bool) → ownCounts hidden s r ≡ b →
         Mem u (cond b ((r .1 .1) ∷ succs hidden rs s) (succs hidden rs s)) → Accepted hidden (r ∷ rs) s u
     go ih true e m = ⊎-elim hit (λ k. later (ih k)) (List·Memᴰ·cases-cons m)
       where
         hit : u ≡ r .1 .1 → Accepted hidden (r ∷ rs) s u
         hit q =
-            let p = passes-of hidden s r e in
+            let p = own-counts-of hidden s r e in
             let c = counts-of hidden s (r .1 .0) (r .1 .1) (p .1) in
             record { label = r .1 .0; row = List·Memᴰ·head (same-row r s u (p .0) q); taken = c .0; other = λ i. c .1 (i ∙ q) }
     go ih false e m = later (ih m)
@@ -82,15 +82,16 @@ row-succs hidden rs s u a = there rs (a .row)
   where
     there : (l : List Row) → Mem {A = Row} (s, (a .label, u)) l → Mem u (succs hidden l s)
     there [] m = absurd (List·Memᴰ·not-nil m)
-    there (r ∷ l) m = go (there l) (passes hidden s r) refl (List·Memᴰ·cases-cons m)
+    there (r ∷ l) m = go (there l) (ownCounts hidden s r) refl (List·Memᴰ·cases-cons m)
       where
-        go : (Mem {A = Row} (s, (a .label, u)) l → Mem u (succs hidden l s)) → (b : Bool) → passes hidden s r ≡ b →
+        go : (Mem {A = Row} (s, (a .label, u)) l → Mem u (succs hidden l s)) → (b : Bool) → ownCounts hidden s r ≡ b →
             (_≡_ {A = Row} (s, (a .label, u)) r) ⊎ Mem {A = Row} (s, (a .label, u)) l →
             Mem u (cond b ((r .1 .1) ∷ succs hidden l s) (succs hidden l s))
         go ih true e (inl q) = List·Memᴰ·head (ap (λ (x : Row). x .1 .1) q)
         go ih true e (inr k) = List·Memᴰ·tail (ih k)
         go ih false e (inl q) =
-            absurd (contra (subst (λ (x : Row). passes hidden s x ≡ true) q (of-passes hidden s (a .label) u (a .taken) (a .other))) e)
+            absurd (contra (subst (λ (x : Row). ownCounts hidden s x ≡ true) q (of-own-counts hidden s (a .label) u (a .taken) (a
+            .other))) e)
         go ih false e (inr k) = ih k
 
 -- ---- in terms of steps
@@ -119,17 +120,17 @@ module _ (t : Lts) (hidden : Bool) where
 -- ---- at most one successor for each row
 module _ (marks : List ℕ) (n : ℕ) where
   -- a row counts for its source alone
-  one-source : (hidden : Bool) (r : Row) → sum (weight (λ s. cond (passes hidden s r) 1 0) marks) n ≤ 1
+  one-source : (hidden : Bool) (r : Row) → sum (weight (λ s. cond (ownCounts hidden s r) 1 0) marks) n ≤ 1
   one-source hidden r =
       omega (
         arith,
-        sum-mono (weight (λ s. cond (passes hidden s r) 1 0) marks) (λ s. cond (eqb (r .0) s) 1 0) n
-            (λ s h. go s (newIn marks s) (passes hidden s r) refl),
+        sum-mono (weight (λ s. cond (ownCounts hidden s r) 1 0) marks) (λ s. cond (eqb (r .0) s) 1 0) n
+            (λ s h. go s (newIn marks s) (ownCounts hidden s r) refl),
         most (lt-or-le (r .0) n),
       )
     where
-      go : (s : ℕ) (b c : Bool) → passes hidden s r ≡ c → cond b (cond c 1 0) 0 ≤ cond (eqb (r .0) s) 1 0
-      go s true true e = rw (eq-eqb (r .0) s (passes-of hidden s r e .0)) (omega arith)
+      go : (s : ℕ) (b c : Bool) → ownCounts hidden s r ≡ c → cond b (cond c 1 0) 0 ≤ cond (eqb (r .0) s) 1 0
+      go s true true e = rw (eq-eqb (r .0) s (own-counts-of hidden s r e .0)) (omega arith)
       go s true false e = omega arith
       go s false c e = omega arith
 
@@ -154,9 +155,9 @@ module _ (marks : List ℕ) (n : ℕ) where
         arith,
         total hidden rs,
         sum-cong (weight (λ s. length (succs hidden (r ∷ rs) s)) marks)
-            (λ s. weight (λ s. length (succs hidden rs s)) marks s + weight (λ s. cond (passes hidden s r) 1 0) marks s) n
-            (λ s l. split s (newIn marks s) (passes hidden s r)),
-        sum-add (weight (λ s. length (succs hidden rs s)) marks) (weight (λ s. cond (passes hidden s r) 1 0) marks) n,
+            (λ s. weight (λ s. length (succs hidden rs s)) marks s + weight (λ s. cond (ownCounts hidden s r) 1 0) marks s) n
+            (λ s l. split s (newIn marks s) (ownCounts hidden s r)),
+        sum-add (weight (λ s. length (succs hidden rs s)) marks) (weight (λ s. cond (ownCounts hidden s r) 1 0) marks) n,
         one-source hidden r,
       )
     where

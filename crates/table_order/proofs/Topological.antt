@@ -3,21 +3,24 @@
 use mathlib.Core.Path.{_≡_, refl, sym, ap, _∙_}
 use mathlib.Core.Logic.{_↔_}
 use mathlib.Core.Bool.{Bool, true, false, _&&_, cond}
-use mathlib.Core.List.{List, []}
+use mathlib.Core.List.{List, [], _∷_}
 use Prim.Native.Nat.{ℕ, suc, _+_, _-_, _≤_, _<_}
 use native.Mathlib.Omega.{arith}
 use borrow.Author.Tests.{le-leb}
+use lib.Dec.{leb}
 use lib.ListN.{length}
 use Rattle.columns.specs.Answers.{Said, done, refused, none}
 use Rattle.columns.specs.Columns.{written, zeros}
 use Rattle.columns.specs.Sets.{Mem}
 use Rattle.columns.proofs.Bools.{fails, and-both}
+use Rattle.columns.proofs.Chains.{none-due}
+use Rattle.columns.proofs.Rooms.{of-roomy}
 use Rattle.columns.proofs.Saying.{apart}
 use Rattle.table.specs.Lts.{Lts, Valid}
-use Rattle.table.specs.Checks.{roomb}
-use Rattle.table.proofs.Refusals.{checked-valid}
+use Rattle.table.specs.Checks.{worksLong, tableTests}
+use Rattle.table.proofs.Refusals.{of-checked}
 use Rattle.table.proofs.Rows.{step-fields}
-use Rattle.table_order.specs.Order.{sweep, behind, ahead, placeOf, place, next, cyclic}
+use Rattle.table_order.specs.Order.{sweep, behind, ahead, placeOf, sortPlace, next, hasCycle}
 use Rattle.table_order.specs.Call.{sortRefusal, sorted, sortTopological}
 use Rattle.table_order.specs.Machine.{Cycle, Ordered}
 use Rattle.table_order.specs.Promise.{LongCycle, Permutation, Topological}
@@ -50,12 +53,12 @@ module _ (t : Lts) (v : Valid t) (hidden : Bool) where
     total : (s : ℕ) → s < t .n → suc (behind s fin + ahead s fin) ≡ t .n
     total s h = places-add s fin (has s h) ∙ length-full N (t .n) order has
 
-    at-reversed : (s : ℕ) → place t hidden true s ≡ behind s fin
-    unfolding place placeOf fin
+    at-reversed : (s : ℕ) → sortPlace t hidden true s ≡ behind s fin
+    unfolding sortPlace placeOf fin
     at-reversed s = refl
 
-    at-forward : (s : ℕ) → place t hidden false s ≡ ahead s fin
-    unfolding place placeOf fin
+    at-forward : (s : ℕ) → sortPlace t hidden false s ≡ ahead s fin
+    unfolding sortPlace placeOf fin
     at-forward s = refl
 
     onto-behind : (k : ℕ) → k < t .n → (s : ℕ) × (s < t .n) × (behind s fin ≡ k)
@@ -64,11 +67,11 @@ module _ (t : Lts) (v : Valid t) (hidden : Bool) where
         (p .0, below N (t .n) order (p .1), p .2)
 
     -- one order is the other's opposite
-    pub opposite : (s : ℕ) → s < t .n → suc (place t hidden true s + place t hidden false s) ≡ t .n
+    pub opposite : (s : ℕ) → s < t .n → suc (sortPlace t hidden true s + sortPlace t hidden false s) ≡ t .n
     opposite s h = omega (arith, at-reversed s, at-forward s, total s h)
 
     -- the places are a permutation
-    pub permutation : (reversed : Bool) → Permutation (t .n) (place t hidden reversed)
+    pub permutation : (reversed : Bool) → Permutation (t .n) (sortPlace t hidden reversed)
     permutation true = record {
       below = λ s h. omega (arith, at-reversed s, total s h);
       one = λ s u h k e. behind-inj N (t .n) order (has s h) (has u k) (sym (at-reversed s) ∙ (e ∙ at-reversed u));
@@ -83,7 +86,7 @@ module _ (t : Lts) (v : Valid t) (hidden : Bool) where
     }
 
     -- reversed, the target of an accepted row to another state comes first; otherwise its source
-    pub topological : (reversed : Bool) → Topological t hidden reversed (place t hidden reversed)
+    pub topological : (reversed : Bool) → Topological t hidden reversed (sortPlace t hidden reversed)
     topological true = record {
       along = λ s a u p k f.
           let h = step-fields t v s a u p in
@@ -106,34 +109,38 @@ module _ (t : Lts) (v : Valid t) (hidden : Bool) where
   module _ (reversed : Bool) (places marks stack : List ℕ) (p : t .n ≤ length places) (a : (t .n + t .m) + 1 ≤ length marks)
       (b : (t .n + t .m) + 1 ≤ length stack) where
     checks : sortRefusal t (length places) (length marks) (length stack) ≡ none
-    unfolding sortRefusal roomb
+    unfolding sortRefusal
     checks =
-        checked-valid t (roomb (t .n) (t .m) (t .n) (length places) (length marks) && roomb (t .n) (t .m) (t .n) (length places)
-        (length stack)) none v
-        (and-both (and-both (le-leb (t .n) (length places) p) (le-leb ((t .n + t .m) + 1) (length marks) a))
-        (and-both (le-leb (t .n) (length places) p) (le-leb ((t .n + t .m) + 1) (length stack) b)))
+        let works = length marks ∷ length stack ∷ [] in
+        let room = leb (t .n) (length places) && worksLong t works in
+        none-due (tableTests t room)
+        (of-checked t room v
+        (and-both (le-leb (t .n) (length places) p) (of-roomy (t .n + t .m + 1) works (a, (b, tt)))))
 
     call : sortTopological t hidden reversed places marks stack
-        ≡ (cond (cyclic t hidden) (refused 11 0) (done []), (sorted t hidden reversed places, (zeros (length marks), zeros (length stack))))
+        ≡ (
+          cond (hasCycle t hidden) (refused 11 0) (done []),
+          (sorted t hidden reversed places, (zeros (length marks), zeros (length stack))),
+        )
     unfolding sortTopological
     call = rw checks
 
     -- 11 exactly if some state reaches itself through another one
     pub eleven : (sortTopological t hidden reversed places marks stack .0 ≡ refused 11 0) ↔ LongCycle t hidden
     eleven = (
-      λ e. go (cyclic t hidden) refl (sym (ap (λ (x : Said × (List ℕ × (List ℕ × List ℕ))). x .0) call) ∙ e),
+      λ e. go (hasCycle t hidden) refl (sym (ap (λ (x : Said × (List ℕ × (List ℕ × List ℕ))). x .0) call) ∙ e),
       λ c.
           ap (λ (x : Said × (List ℕ × (List ℕ × List ℕ))). x .0) call
           ∙ ap (λ (b : Bool). cond b (refused 11 0) (done [])) (cyclic-long t hidden v .1 c),
     )
       where
-        go : (c : Bool) → cyclic t hidden ≡ c → cond c (refused 11 0) (done []) ≡ refused 11 0 → LongCycle t hidden
+        go : (c : Bool) → hasCycle t hidden ≡ c → cond c (refused 11 0) (done []) ≡ refused 11 0 → LongCycle t hidden
         go true e q = cyclic-long t hidden v .0 e
         go false e q = absurd (apart [] 11 0 q)
 
     -- otherwise the places go over the first n cells
     pub sorts : (LongCycle t hidden → ⊥)
         → sortTopological t hidden reversed places marks stack
-        ≡ (done [], (written (t .n) (place t hidden reversed) places, (zeros (length marks), zeros (length stack))))
+        ≡ (done [], (written (t .n) (sortPlace t hidden reversed) places, (zeros (length marks), zeros (length stack))))
     unfolding sorted
     sorts free = call ∙ rw (fails (λ e. free (cyclic-long t hidden v .0 e)))

@@ -17,7 +17,7 @@ use Rattle.table_order.specs.Machine.{
   pushAll,
   keep,
   newIn,
-  mark,
+  markFor,
   left,
   rest,
   arc,
@@ -208,15 +208,15 @@ module _ (next : ℕ → List ℕ) (n : ℕ) where
         w : AsEnds (i .done) (i .gray) st x
         w = ended i e
 
-        same-mark : (s : ℕ) → s ≡ x → getD (set marks x (k + 2)) s 0 ≡ mark (w .gs) (x ∷ i .done) s
+        same-mark : (s : ℕ) → s ≡ x → getD (set marks x (k + 2)) s 0 ≡ markFor (w .gs) (x ∷ i .done) s
         same-mark s j =
             rw j (getD-set-same marks x (k + 2) 0 b ∙ omega
             (arith, mark-done (w .gs) (x ∷ i .done) x (List·Memᴰ·head refl), behind-head x (i .done), i .count))
 
-        other-mark : (s : ℕ) → s < n → (s ≡ x → ⊥) → getD (set marks x (k + 2)) s 0 ≡ mark (w .gs) (x ∷ i .done) s
+        other-mark : (s : ℕ) → s < n → (s ≡ x → ⊥) → getD (set marks x (k + 2)) s 0 ≡ markFor (w .gs) (x ∷ i .done) s
         other-mark s l f =
             getD-set-other marks x s (k + 2) 0 f
-            ∙ (i .marked s l ∙ (ap (λ (g : List ℕ). mark g (i .done) s) (w .same) ∙ sym (mark-finish (w .gs) (i .done) x s f)))
+            ∙ (i .marked s l ∙ (ap (λ (g : List ℕ). markFor g (i .done) s) (w .same) ∙ sym (mark-finish (w .gs) (i .done) x s f)))
 
         still : (s : ℕ) → newIn (set marks x (k + 2)) s ≡ newIn marks s
         still s =
@@ -311,7 +311,7 @@ module _ (next : ℕ → List ℕ) (n : ℕ) where
           w : AsWaits (i .done) (i .gray) st x
           w = entered i e
 
-          marked : (s : ℕ) → s < n → getD (set marks x 1) s 0 ≡ mark (x ∷ i .gray) (i .done) s
+          marked : (s : ℕ) → s < n → getD (set marks x 1) s 0 ≡ markFor (x ∷ i .gray) (i .done) s
           marked s l =
               ⊎-elim (λ j. rw j (getD-set-same marks x 1 0 b ∙
               sym (mark-gray (x ∷ i .gray) (i .done) x (unfinished i e) (List·Memᴰ·head refl))))
@@ -415,7 +415,7 @@ module _ (next : ℕ → List ℕ) (n m : ℕ) where
   unfolding rest
   search-end {r} {k} {marks} i = record {
     done = i .done;
-    marked = λ s l. i .marked s l ∙ ap (λ (g : List ℕ). mark g (i .done) s) (empty-gray next n (i .stacked));
+    marked = λ s l. i .marked s l ∙ ap (λ (g : List ℕ). markFor g (i .done) s) (empty-gray next n (i .stacked));
     order = i .order;
     covers = λ s h. ⊎-elim (λ j. j) (λ j. absurd (List·Memᴰ·not-nil j)) (i .covers s h);
     count = i .count;

@@ -161,16 +161,16 @@ module _ (next : ℕ → List ℕ) (n : ℕ) (within : (s t : ℕ) → Mem t (ne
             new : Mem s d′ → ⊥
             new m = ⊎-elim (λ k. isIn-not s d e k) (λ p. acyclic (cycle (mem-arc next s (p .0) (p .1)) (p .2))) (v .from s m)
 
-    pub record Swept (r : ℕ) : Type 0 where
+    pub record Sweeping (r : ℕ) : Type 0 where
       pub order : Ordered next n (sweep next n r)
       pub has : (t : ℕ) → t < r → Mem t (sweep next n r)
 
-    pub sweep-good : (r : ℕ) → r ≤ n → Swept r
+    pub sweep-good : (r : ℕ) → r ≤ n → Sweeping r
     unfolding sweep
     sweep-good zero h = record { order = none; has = λ t l. absurd (not-suc-le-zero l) }
     sweep-good (suc r) h = go (sweep-good r (omega arith))
       where
-        go : Swept r → Swept (suc r)
+        go : Sweeping r → Sweeping (suc r)
         go w = record {
           order = v .order;
           has = λ t l. ⊎-elim (λ e. v .has t (List·Memᴰ·head e)) (λ k. v .keeps t (w .has t k))

@@ -1,32 +1,32 @@
 -- The whole call: what refuses it, what it says, and what it leaves in the columns.
 use Prim.Native.Nat.{ℕ}
 use mathlib.Core.Bool.{Bool, _&&_, cond}
-use mathlib.Core.List.{List, []}
-use lib.Dec.{eqb}
+use mathlib.Core.List.{List, [], _∷_}
+use lib.Dec.{leb, eqb}
 use lib.ListN.{length}
 use Rattle.columns.specs.declared.answers.Refusal.{Refusal}
-use Rattle.columns.specs.Answers.{Said, done, refused, none}
+use Rattle.columns.specs.Answers.{Said, done, refused}
 use Rattle.columns.specs.Columns.{written, zeros}
+use Rattle.columns.specs.Due.{due, allLong}
 use Rattle.table.specs.Lts.{Lts}
-use Rattle.table.specs.Checks.{checkedTable, roomb}
-use Rattle.table_order.specs.Order.{place, cyclic}
+use Rattle.table.specs.Checks.{rowsLong, worksLong, badRow, tableTests}
+use Rattle.table_order.specs.Order.{sortPlace, hasCycle}
 
 -- a result column of n cells, and two work slices
 unfoldable pub sortRefusal : Lts → ℕ → ℕ → ℕ → Refusal
-unfolding checkedTable roomb
-sortRefusal t places marks stack =
-    checkedTable t (roomb (t .n) (t .m) (t .n) places marks && roomb (t .n) (t .m) (t .n) places stack) none
+unfolding due rowsLong badRow allLong
+sortRefusal t places marks stack = due (tableTests t (leb (t .n) places && worksLong t (marks ∷ stack ∷ [])))
 
 -- the places go over the first n cells; a cycle leaves them as they were
 unfoldable pub sorted : Lts → Bool → Bool → List ℕ → List ℕ
-unfolding cyclic written place
-sorted t hidden reversed places = cond (cyclic t hidden) places (written (t .n) (place t hidden reversed) places)
+unfolding hasCycle written sortPlace
+sorted t hidden reversed places = cond (hasCycle t hidden) places (written (t .n) (sortPlace t hidden reversed) places)
 
 -- 11 at 0 for a cycle; a call that the checks refuse leaves everything as it was, any other one leaves the work zero
 unfoldable pub sortTopological : Lts → Bool → Bool → List ℕ → List ℕ → List ℕ → Said × (List ℕ × (List ℕ × List ℕ))
-unfolding sortRefusal cyclic sorted
+unfolding sortRefusal hasCycle sorted
 sortTopological t hidden reversed places marks stack =
     let r = sortRefusal t (length places) (length marks) (length stack) in
     cond (eqb (r .number) 0)
-    (cond (cyclic t hidden) (refused 11 0) (done []), (sorted t hidden reversed places, (zeros (length marks), zeros (length stack))))
+    (cond (hasCycle t hidden) (refused 11 0) (done []), (sorted t hidden reversed places, (zeros (length marks), zeros (length stack))))
     (refused (r .number) (r .place), (places, (marks, stack)))

@@ -1,4 +1,5 @@
--- The search with a stack, as it stands between two turns: what the stack, the marks and the count say of the visits.
+-- Loop invariants of the search with a stack: what the proofs go by, nothing that a contract of an operation says. They say what the stack,
+-- the marks and the count have to do with the visits between two turns.
 -- A mark is 0 for a state not yet visited, 1 for one on the way, and 2 and its place for a finished one.
 use mathlib.Core.Path.{_≡_}
 use mathlib.Core.Logic.{_⊎_}
@@ -32,9 +33,9 @@ unfoldable pub newIn : List ℕ → ℕ → Bool
 newIn marks t = eqb (getD marks t 0) 0
 
 -- the mark of a state, where `gray` are on the way and `done` finished
-unfoldable pub mark : List ℕ → List ℕ → ℕ → ℕ
+unfoldable pub markFor : List ℕ → List ℕ → ℕ → ℕ
 unfolding isIn behind
-mark gray done s = cond (isIn s done) (2 + behind s done) (cond (isIn s gray) 1 0)
+markFor gray done s = cond (isIn s done) (2 + behind s done) (cond (isIn s gray) 1 0)
 
 -- the weights of the states below n that are not yet visited, added up
 unfoldable pub left : (ℕ → ℕ) → List ℕ → ℕ → ℕ
@@ -78,7 +79,7 @@ pub data Stacked (next : ℕ → List ℕ) (n : ℕ) : List ℕ → List ℕ →
 pub record Machine (next : ℕ → List ℕ) (n m bound : ℕ) (goal marks st : List ℕ) (k : ℕ) : Type 0 where
   pub gray : List ℕ
   pub done : List ℕ
-  pub marked : (s : ℕ) → s < n → getD marks s 0 ≡ mark gray done s
+  pub marked : (s : ℕ) → s < n → getD marks s 0 ≡ markFor gray done s
   pub stacked : Stacked next n done gray st
   pub order : Ordered next n done
   pub apart : (s : ℕ) → Mem s gray → Mem s done → ⊥
@@ -91,7 +92,7 @@ pub record Machine (next : ℕ → List ℕ) (n m bound : ℕ) (goal marks st : 
 -- between two searches: all states below r are finished, and what these led to
 pub record Idle (next : ℕ → List ℕ) (n m r : ℕ) (marks : List ℕ) (k : ℕ) : Type 0 where
   pub done : List ℕ
-  pub marked : (s : ℕ) → s < n → getD marks s 0 ≡ mark [] done s
+  pub marked : (s : ℕ) → s < n → getD marks s 0 ≡ markFor [] done s
   pub order : Ordered next n done
   pub covers : (s : ℕ) → s < r → Mem s done
   pub count : k ≡ length done

@@ -54,26 +54,26 @@ unfolding takes
 counts hidden s a u = takes hidden a && not (eqb u s)
 
 -- a row of s that counts
-unfoldable pub passes : Bool → ℕ → Row → Bool
+unfoldable pub ownCounts : Bool → ℕ → Row → Bool
 unfolding counts
-passes hidden s r = eqb (r .0) s && counts hidden s (r .1 .0) (r .1 .1)
+ownCounts hidden s r = eqb (r .0) s && counts hidden s (r .1 .0) (r .1 .1)
 
 -- the targets of these rows, in listed order
 unfoldable pub succs : Bool → List Row → ℕ → List ℕ
-unfolding passes
+unfolding ownCounts
 succs hidden [] s = []
-succs hidden (r ∷ rs) s = cond (passes hidden s r) ((r .1 .1) ∷ succs hidden rs s) (succs hidden rs s)
+succs hidden (r ∷ rs) s = cond (ownCounts hidden s r) ((r .1 .1) ∷ succs hidden rs s) (succs hidden rs s)
 
 -- the successors of s
 abbrev pub next : Lts → Bool → ℕ → List ℕ
 next t hidden = succs hidden (rows t)
 
 -- each state's place
-unfoldable pub place : Lts → Bool → Bool → ℕ → ℕ
+unfoldable pub sortPlace : Lts → Bool → Bool → ℕ → ℕ
 unfolding placeOf succs rowsOf
-place t hidden reversed s = placeOf (next t hidden) (t .n) reversed s
+sortPlace t hidden reversed s = placeOf (next t hidden) (t .n) reversed s
 
 -- a cycle longer than a self-loop: some state reaches itself through another one
-unfoldable pub cyclic : Lts → Bool → Bool
+unfoldable pub hasCycle : Lts → Bool → Bool
 unfolding some reaches
-cyclic t hidden = some (t .n) (λ s. some (t .n) (λ u. not (eqb s u) && (reaches t hidden s u && reaches t hidden u s)))
+hasCycle t hidden = some (t .n) (λ s. some (t .n) (λ u. not (eqb s u) && (reaches t hidden s u && reaches t hidden u s)))

@@ -6,7 +6,7 @@ ghost use Prim.Native.Nat.{ℕ, _+_, _≤_, _<_};
 ghost use lib.ListN.{length, getD};
 ghost use Rattle.columns.specs.Columns.{written};
 ghost use Rattle.table.specs.Lts.{Valid};
-ghost use Rattle.table_order.specs.Order.{next, cyclic};
+ghost use Rattle.table_order.specs.Order.{next, hasCycle};
 ghost use Rattle.table_order.specs.Call.{sorted};
 ghost use Rattle.table_order.specs.Machine.{stackOf, Machine, Idle};
 ghost use Rattle.table_order.specs.Turn.{seenOf, Pushed, Standing, Turned, Searched, Swept, markPlace};
@@ -145,9 +145,9 @@ fn search_from(
     label: &[u16],
     target: &[u16],
     hidden: bool,
+    root: usize,
     marks: &mut [u16],
     stack: &mut [u16],
-    root: usize,
     count: usize,
 ) -> usize
     requires { ⌜ Valid (ltsNow table source label target) ⌝ }
@@ -207,9 +207,9 @@ fn sweep_all(
             label,
             target,
             hidden,
+            root,
             &mut *marks,
             &mut *stack,
-            root,
             count,
         );
         if n < count {
@@ -260,7 +260,7 @@ pub fn sort_topological(
 ) -> bool
     requires { ⌜ Valid (ltsNow table source label target) ⌝ }
     requires { ⌜ (table .n ≤ length (now places)) × (table .n ≤ length (now marks)) × (table .m + 1 ≤ length (now stack)) ⌝ }
-    ensures { λ r. ⌜ r ≡ not (cyclic (ltsOf table source label target) hidden) ⌝ }
+    ensures { λ r. ⌜ r ≡ not (hasCycle (ltsOf table source label target) hidden) ⌝ }
     ensures { λ _. ⌜ is places ≡ sorted (ltsOf table source label target) hidden reversed (was places) ⌝ }
     ensures { λ _. ⌜ Cleared marks × Cleared stack ⌝ }
 {

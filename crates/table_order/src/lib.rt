@@ -15,7 +15,7 @@ use columns::answers::refusing;
 use columns::limits::CYCLIC;
 use table::Table;
 use table::checks::check;
-use table::checks::room;
+use table::checks::works_long;
 
 // The refusal of a call with the table, a result column of n cells and two work slices, given by their lengths.
 fn sort_refusal(
@@ -30,9 +30,8 @@ fn sort_refusal(
     ensures { λ r. ⌜ r ≡ sortRefusal (ltsOf table source label target) places marks stack ⌝ }
 {
     let n = table.n as usize;
-    let first = room(table, n, places, marks);
-    let second = room(table, n, places, stack);
-    check(table, source, label, target, first & second)
+    let room = (n <= places) & works_long(table, &[marks, stack]);
+    check(table, source, label, target, room)
 }
 
 // Each state's place, over the first n cells of `places`: depth first from 0 upward, the last listed successor first, self-loops

@@ -122,6 +122,35 @@ fn time_partition(clock: &Clock, given: &mut Given) {
     });
 }
 
+/// The calls that read a partition, and those on one of its blocks.
+fn time_readers(clock: &Clock, given: &Given) {
+    let (many, state) = (&given.many, given.state);
+    let some = state.value() % many.blocks.len();
+    let block = || *black_box(&many.blocks[some]);
+    clock.time("num_of_blocks", || black_box(many).num_of_blocks());
+    clock.time("len", || black_box(many).len());
+    clock.time("block_number", || black_box(many).block_number(black_box(state)).value());
+    clock.time("is_element_marked", || black_box(many).is_element_marked(black_box(state)) as usize);
+    clock.time("iter_block", || black_box(many).iter_block(BlockIndex::new(black_box(some))).count());
+    clock.time("read_block", || black_box(black_box(many).block(BlockIndex::new(black_box(some)))).end);
+    clock.time("Block::new", || black_box(Block::new(block().begin, block().end)).end);
+    clock.time("Block::new_unmarked", || black_box(Block::new_unmarked(block().begin, block().end)).end);
+    clock.time("Block::len", || block().len());
+    clock.time("Block::len_marked", || block().len_marked());
+    clock.time("Block::has_marked", || block().has_marked() as usize);
+    clock.time("Block::has_unmarked", || block().has_unmarked() as usize);
+    let mut one = block();
+    clock.time("Block::unmark_all", || {
+        black_box(&mut one).unmark_all();
+        one.marked_split
+    });
+    clock.time("tau_hat", || tau_hat(black_box(&given.table)).value());
+    clock.time("is_tau_hat", || {
+        let label = LabelIndex::new(given.table.num_of_labels());
+        is_tau_hat(black_box(label), black_box(&given.table)) as usize
+    });
+}
+
 fn rows_of(table: &Table, state: StateIndex) -> usize {
     table.outgoing_transitions(black_box(state)).map(|row| black_box(row).to).count()
 }
@@ -194,6 +223,7 @@ fn time_signatures(clock: &Clock, given: &Given) {
 
 fn main() {
     let (clock, mut given) = read();
+    time_readers(&clock, &given);
     time_partition(&clock, &mut given);
     time_table(&clock, &given);
     time_signatures(&clock, &given);

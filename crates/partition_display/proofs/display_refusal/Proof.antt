@@ -3,7 +3,7 @@ use borrow.Author.Needs.{needs}
 use mathlib.Core.Path.{_∙_}
 use Rattle.partition.specs.Partition.{Partition, parts}
 use Rattle.partition_display.specs.Display.{displayText}
-use Rattle.partition_display.proofs.Refusing.{display-out, display-short, display-fits, checked-reads}
+use Rattle.partition_display.proofs.Refusing.{display-out, display-on, checked-reads}
 use Rattle.partition_display.proofs.display_refusal.Statement.{statement}
 use Rattle.partition_display.proofs.display_refusal.Tie as tie
 
@@ -27,23 +27,14 @@ write-blocks-requires : tie.Need-write-blocks-requires
 write-blocks-requires c κs = let a = c .before .before .before .before .before .before .before .before .before in
     checked-reads (P a) (a .args .room) _ (c .before .before .check .ensures) (c .before .if1 .left)
 
-refuse-requires : tie.Need-refuse-requires
-refuse-requires c κs = search needs
+refuse-unless-requires : tie.Need-refuse-unless-requires
+refuse-unless-requires c κs = search needs
 
 returns-2 : tie.Need-returns-2
 unfolding displayText
-returns-2 c = let a = c .before .before .before .before .before .before .before .before .before .before .before .before .before in
-    c .refuse .ensures ∙ display-short (P a) (a .args .room) _ (c .before .before .before .before .before .before .check .ensures)
-    (c .before .before .before .before .before .if1 .left) (c .before .before .before .write-blocks .ensures) (c .before .if2 .taken)
-
-refuse-requires-2 : tie.Need-refuse-requires-2
-refuse-requires-2 c κs = search needs
-
-returns-3 : tie.Need-returns-3
-unfolding displayText
-returns-3 c = let a = c .before .before .before .before .before .before .before .before .before .before .before .before .before in
-    c .refuse2 .ensures ∙ display-fits (P a) (a .args .room) _ (c .before .before .before .before .before .before .check .ensures)
-    (c .before .before .before .before .before .if1 .left) (c .before .before .before .write-blocks .ensures) (c .before .if2 .left)
+returns-2 c = let a = c .before .before .before .before .before .before .before .before .before .before .before .before in
+    c .refuse-unless .ensures ∙ display-on (P a) (a .args .room) _ (c .before .before .before .before .before .check .ensures)
+    (c .before .before .before .before .if1 .left) (c .before .before .write-blocks .ensures)
 
 pub display-refusal-spec : {M : Type 1} → statement M
 display-refusal-spec =
@@ -53,7 +44,5 @@ display-refusal-spec =
     returns
     slice-aggregate-write-blocks
     write-blocks-requires
-    refuse-requires
-    returns-2
-    refuse-requires-2
-    returns-3)
+    refuse-unless-requires
+    returns-2)

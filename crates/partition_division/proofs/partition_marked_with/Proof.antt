@@ -5,13 +5,12 @@ use native.Mathlib.Omega.{arith}
 use Prim.Native.Nat.{ℕ}
 use mathlib.Core.List.{List, [], _∷_}
 use lib.ListN.{length}
-use Rattle.columns.specs.declared.answers.Refusal.{Refusal}
 use Rattle.columns.specs.Answers.{done}
 use Rattle.columns.specs.Columns.{zeros}
 use Rattle.columns.proofs.Saying.{left-refused, left-done}
 use Rattle.partition.specs.Partition.{Partition, parts}
 use Rattle.partition_division.specs.Divide.{partitionMarked}
-use Rattle.partition_division.specs.Division.{Work, work, cleared, divisionRefusal, partitionMarkedWith}
+use Rattle.partition_division.specs.Division.{Work, work, clearedWork, divisionRefusal, partitionMarkedWith}
 use Rattle.partition_division.proofs.Unfit.{division-ready}
 use Rattle.partition_division.proofs.partition_marked_with.Statement.{statement}
 use Rattle.partition_division.proofs.partition_marked_with.Tie as tie
@@ -24,6 +23,9 @@ P a =
 
 abbrev W : tie.Start → Work
 W a = work (a .args .old-elements .now) (a .args .block-sizes .now) (a .args .spare .now)
+
+abbrev works : tie.Start → List ℕ
+works a = length (a .args .old-elements .now) ∷ length (a .args .block-sizes .now) ∷ length (a .args .spare .now) ∷ []
 
 abbrev values : tie.Start → List ℕ
 values a =
@@ -62,42 +64,40 @@ returns c = let a =
     c .before .before .before .before .before .before .before .before .before .before .before .before .before .before .before .before
     .before .before .before .before in
     left-refused (divisionRefusal (P a) (a .args .block-index) (a .args .numbers .now) (W a)) _ (c .before .division-refusal .ensures)
-    (P a, W a) (partitionMarked (P a) (a .args .block-index) (a .args .numbers .now), cleared (W a)) (values a) _ (c .if1 .taken) refl
+    (P a, W a) (partitionMarked (P a) (a .args .block-index) (a .args .numbers .now), clearedWork (W a)) (values a) _ (c .if1 .taken) refl
 
 clear-work-requires : tie.Need-clear-work-requires
 clear-work-requires c κs = search needs
 
 partition-marked-with-requires : tie.Need-partition-marked-with-requires
-unfolding divisionRefusal
 partition-marked-with-requires c κs = let a =
     c .before .before .before .before .before .before .before .before .before .before .before .before .before .before .before .before
     .before .before .before .before .before .before .before .before .before .before .before .before .before .before .before .before .before
     .before .before .before .before .before .before in
-    let q = division-ready (P a) (a .args .block-index) (a .args .numbers .now) (W a)
-    (sym (ap (λ (r : Refusal). r .number)
+    let q = division-ready (P a) (a .args .block-index) (a .args .numbers .now) (works a) _
     (c .before .before .before .before .before .before .before .before .before .before .before .before .before .before .before .before
-    .before .before .before .before .division-refusal .ensures)) ∙
-    c .before .before .before .before .before .before .before .before .before .before .before .before .before .before .before .before
+    .before .before .before .before .division-refusal .ensures)
+    (c .before .before .before .before .before .before .before .before .before .before .before .before .before .before .before .before
     .before .before .before .if1 .left) in (
       q .ready,
       (
         (
-          q .room .numbers,
+          q .numbers,
           omega (
             arith,
-            q .room .first,
+            q .rooms .0,
             c .before .before .before .before .before .before .before .before .before .before .before .before .before .before .before
                 .clear-work .kept .0,
           ),
           omega (
             arith,
-            q .room .second,
+            q .rooms .1 .0,
             c .before .before .before .before .before .before .before .before .before .before .before .before .before .before .before
                 .clear-work .kept .1 .0,
           ),
           omega (
             arith,
-            q .room .third,
+            q .rooms .1 .1 .0,
             c .before .before .before .before .before .before .before .before .before .before .before .before .before .before .before
                 .clear-work .kept .1 .1 .0,
           ),
@@ -203,7 +203,7 @@ returns-2 c = let a =
     (c .before .before .before .before .before .before .before .before .before .before .before .before .before .before .before .before
     .before .before .before .before .before .before .before .before .before .before .before .before .before .before .before .before
     .before .before .before .before .before .before .before .division-refusal .ensures) (P a, W a)
-    (partitionMarked (P a) (a .args .block-index) (a .args .numbers .now), cleared (W a)) (values a) _ _
+    (partitionMarked (P a) (a .args .block-index) (a .args .numbers .now), clearedWork (W a)) (values a) _ _
     (c .before .before .before .before .before .before .before .before .before .before .before .before .before .before .before .before
     .before .before .before .before .before .before .before .before .before .before .before .before .before .before .before .before
     .before .before .before .before .before .before .if1 .left)

@@ -1,6 +1,7 @@
 -- `split_marked` meets its contract.
 use borrow.Author.Needs.{needs}
 use Rattle.partition.specs.Partition.{Partition, parts}
+use Rattle.partition_split.specs.Split.{splitRefusal}
 use Rattle.partition_split.proofs.Answering.{split-ready, split-refused, split-answered}
 use Rattle.partition_split.proofs.split_marked.Statement.{statement}
 use Rattle.partition_split.proofs.split_marked.Tie as tie
@@ -17,8 +18,8 @@ cast-n c = search needs
 cast-count : tie.Need-cast-count
 cast-count c = search needs
 
-split-refusal-requires : tie.Need-split-refusal-requires
-split-refusal-requires c κs = search needs
+argument-refusal-requires : tie.Need-argument-refusal-requires
+argument-refusal-requires c κs = search needs
 
 refusing-number-requires : tie.Need-refusing-number-requires
 refusing-number-requires c κs = search needs
@@ -42,18 +43,20 @@ same-length-6 : tie.Need-same-length-6
 same-length-6 c = search needs
 
 returns : tie.Need-returns
+unfolding splitRefusal
 returns c = let a =
     c .before .before .before .before .before .before .before .before .before .before .before .before .before .before .before .before
     .before .before in
-    split-refused (P a) (a .args .block-index) (a .args .choice .now) _ (c .before .before .split-refusal .ensures)
+    split-refused (P a) (a .args .block-index) (a .args .choice .now) _ (c .before .before .argument-refusal .ensures)
     (c .refusing-number .result) (c .before .if1 .taken) (c .refusing-number .ensures)
 
 split-marked-requires : tie.Need-split-marked-requires
+unfolding splitRefusal
 split-marked-requires c κs = let a =
     c .before .before .before .before .before .before .before .before .before .before .before .before .before .before .before .before
     .before .before .before .before .before .before .before in
     let q = split-ready (P a) (a .args .block-index) (a .args .choice .now) _
-    (c .before .before .before .before .before .before .before .split-refusal .ensures)
+    (c .before .before .before .before .before .before .before .argument-refusal .ensures)
     (c .before .before .before .before .before .before .if1 .left) in
     (q .sound, (q .known, q .room))
 
@@ -79,13 +82,14 @@ same-length-12 : tie.Need-same-length-12
 same-length-12 c = search needs
 
 returns-2 : tie.Need-returns-2
+unfolding splitRefusal
 returns-2 c = let a =
     c .before .before .before .before .before .before .before .before .before .before .before .before .before .before .before .before
     .before .before .before .before .before .before .before .before .before .before .before .before .before .before .before .before .before
     .before .before .before .before in
     split-answered (P a) (a .args .block-index) (a .args .choice .now) _
     (c .before .before .before .before .before .before .before .before .before .before .before .before .before .before .before .before
-    .before .before .before .before .before .split-refusal .ensures) (c .number .result)
+    .before .before .before .before .before .argument-refusal .ensures) (c .number .result)
     (c .before .before .before .before .before .before .before .before .before .before .before .before .before .before .before .before
     .before .before .before .before .if1 .left)
     (c .before .before .before .before .before .before .before .before .before .before .before .before .before .split-marked .result)
@@ -98,7 +102,7 @@ split-marked-spec =
     (tie.spec
     cast-n
     cast-count
-    split-refusal-requires
+    argument-refusal-requires
     refusing-number-requires
     same-length
     same-length-2

@@ -3,25 +3,24 @@ use borrow.Author.Needs.{needs}
 use native.Mathlib.Omega.{arith}
 use Prim.Native.Nat.{ℕ, _+_, _≤_}
 use mathlib.Core.Path.{_≡_, refl, sym, ap, ap₂, _∙_}
-use mathlib.Core.Bool.{Bool, _&&_}
-use mathlib.Core.List.{List, [], _∷_, _++_, map}
+use mathlib.Core.Bool.{Bool}
+use mathlib.Core.List.{List, [], _∷_, _++_}
 use lib.ListN.{length, getD, take, drop, length-replicate}
 use lib.Seq.{length-take-le}
 use Rattle.columns.specs.declared.answers.Refusal.{Refusal}
-use Rattle.columns.specs.Answers.{refused, none}
+use Rattle.columns.specs.Answers.{refused}
 use Rattle.columns.specs.Columns.{zeros}
 use Rattle.columns.specs.Rows.{pairsOf}
 use Rattle.columns.specs.Sets.{Pair}
 use Rattle.columns.proofs.Lists.{front-zeros, zeros-at, take-zeros}
-use Rattle.columns.proofs.TwoColumns.{length-pairs}
 use Rattle.partition.specs.Partition.{Partition, parts}
 use Rattle.signatures.specs.Pairs.{Columns, signature}
 use Rattle.signatures.specs.Signing.{roomy, signatureRefusal}
 use Rattle.signatures.proofs.Outcomes.{signing-refused, signing-on}
-use Rattle.signatures.proofs.Ready.{Ready, signature-ready}
-use Rattle.signatures.proofs.Works.{Wide, roomy-of, long-append, long-again, zeroed, level, cleared-append}
+use Rattle.table_partition.proofs.Refusals.{BothReady, both-ready}
+use Rattle.signatures.proofs.Works.{Wide, wide-of, zeroed, level, cleared-append}
 use Rattle.table.specs.Lts.{Lts, lts}
-use Rattle.signatures_branching.specs.Branching.{branchingPushed, branchingBisimSignature}
+use Rattle.signatures_branching.specs.Branching.{branchingPushed, branchingSignature, branchingBisimSignature}
 use Rattle.signatures_branching.proofs.MoreWorks.{with-more, finish-more}
 use Rattle.signatures_branching.proofs.branching_bisim_signature.Statement.{statement}
 use Rattle.signatures_branching.proofs.branching_bisim_signature.Tie as tie
@@ -44,39 +43,39 @@ Works a =
     ∷ a .args .queue .now ∷ []
 
 abbrev R : tie.Start → Refusal
-R a = signatureRefusal (L a) (P a) (a .args .state) (roomy (L a) (Works a)) none
+R a = signatureRefusal (L a) (P a) (a .args .state) (roomy (L a) (Works a))
 
 abbrev Pushed : tie.Start → List Pair
 Pushed a = branchingPushed (L a) (a .args .element-to-block .now) (a .args .state)
 
+abbrev Signature : tie.Start → List Pair
+Signature a = branchingSignature (L a) (a .args .element-to-block .now) (a .args .state)
+
 -- where the call begins
-abbrev start : tie.After-signature-refusal → tie.Start
+abbrev start : tie.After-argument-refusal → tie.Start
 start q =
     q .before .before .before .before .before .before .before .before .before .before .before .before .before .before .before .before
     .before .before .before .before .before
 
 -- the checks have answered R
-answered : (q : tie.After-signature-refusal) → q .signature-refusal .result ≡ R (start q)
-unfolding roomy
+answered : (q : tie.After-argument-refusal) → q .argument-refusal .result ≡ R (start q)
+unfolding roomy signatureRefusal
 answered q =
     let a = start q in
-    let k = a .args .table .n + a .args .table .m + 1 in
-    let ls : List ℕ = map (λ (w : List ℕ). length w) (Works a) in
-    let x = length (a .args .queue .now) in
-    q .signature-refusal .ensures
-    ∙ ap (λ (b : Bool). signatureRefusal (L a) (P a) (a .args .state) b none)
-    (ap₂ (λ (x y : Bool). x && y) (q .before .before .roomy .ensures) (q .before .roomy2 .ensures)
-    ∙ long-append k (take 4 ls) (drop 4 ls ++ (x ∷ x ∷ [])) ∙ long-again k ls x ∙ long-again k (take 5 ls) x)
+    q .argument-refusal .ensures
+    ∙ ap (λ (b : Bool). signatureRefusal (L a) (P a) (a .args .state) b) (q .before .works-long .ensures)
 
 -- and where they refuse nothing
-ready : (q : tie.After-signature-refusal) → q .signature-refusal .result .number ≡ 0
-    → Ready (L (start q)) (P (start q)) (start q .args .state) (roomy (L (start q)) (Works (start q))) none
-ready q z = signature-ready (L (start q)) (P (start q)) refl (start q .args .state) (roomy (L (start q)) (Works (start q))) none _
+ready : (q : tie.After-argument-refusal) → q .argument-refusal .result .number ≡ 0
+    → BothReady (L (start q)) (P (start q)) (start q .args .state) (start q .args .table .n) (roomy (L (start q)) (Works (start q)))
+unfolding signatureRefusal
+ready q z =
+    both-ready (L (start q)) (P (start q)) refl (start q .args .state) (start q .args .table .n) (roomy (L (start q)) (Works (start q))) _
     (answered q) z
 
-wide : (q : tie.After-signature-refusal) → q .signature-refusal .result .number ≡ 0
+wide : (q : tie.After-argument-refusal) → q .argument-refusal .result .number ≡ 0
     → Wide (L (start q)) (Works (start q))
-wide q z = roomy-of (L (start q)) (Works (start q)) (ready q z .enough)
+wide q z = wide-of (L (start q)) (Works (start q)) (ready q z .enough)
 
 -- the marks and the queue once they are cleared
 module _ (q : tie.After-clear2) where
@@ -143,14 +142,14 @@ module _ (q : tie.After-push-branching) where
 cast-n : tie.Need-cast-n
 cast-n c = search needs
 
-roomy-requires : tie.Need-roomy-requires
-roomy-requires c κs = search needs
+slice-aggregate-works-long : tie.Need-slice-aggregate-works-long
+slice-aggregate-works-long c = search needs
 
-roomy-requires-2 : tie.Need-roomy-requires-2
-roomy-requires-2 c κs = search needs
+works-long-requires : tie.Need-works-long-requires
+works-long-requires c κs = search needs
 
-signature-refusal-requires : tie.Need-signature-refusal-requires
-signature-refusal-requires c κs = search needs
+argument-refusal-requires : tie.Need-argument-refusal-requires
+argument-refusal-requires c κs = search needs
 
 refusing-number-requires : tie.Need-refusing-number-requires
 refusing-number-requires c κs = search needs
@@ -160,7 +159,8 @@ unfolding branchingBisimSignature
 returns c =
     let a = start (c .before .before) in
     let e = answered (c .before .before) in
-    signing-refused (R a) (Pushed a) (Out a) (Works a) _ (λ z. c .before .if1 .taken (ap (λ (r : Refusal). r .number) e ∙ z))
+    signing-refused (R a) (length (Pushed a)) (Signature a) (Out a) (Works a) _
+    (λ z. c .before .if1 .taken (ap (λ (r : Refusal). r .number) e ∙ z))
     (c .refusing-number .ensures ∙ ap (λ (r : Refusal). refused (r .number) (r .place)) e)
 
 clear-requires : tie.Need-clear-requires
@@ -211,19 +211,19 @@ sign-requires c κs =
     )
 
 same-length : tie.Need-same-length
-same-length c = c .before .before .before .before .before .before .before .before .before .before .before .before .sign .kept .1 .0
+same-length c = c .before .before .before .before .before .before .before .before .before .before .before .before .sign .kept .0
 
 same-length-2 : tie.Need-same-length-2
-same-length-2 c = c .before .before .before .before .before .before .before .before .before .before .before .before .sign .kept .1 .1 .0
+same-length-2 c = c .before .before .before .before .before .before .before .before .before .before .before .before .sign .kept .1 .0
 
 same-length-3 : tie.Need-same-length-3
-same-length-3 c = c .before .before .before .before .before .before .before .before .before .before .before .before .sign .kept .1 .1 .1 .0
+same-length-3 c = c .before .before .before .before .before .before .before .before .before .before .before .before .sign .kept .1 .1 .0
     ∙ c .before .before .before .before .before .before .before .before .before .before .before .before .before .before .before .before
     .before .before .before .before .before .before .before .before .before .before .before .push-branching .kept .1 .1 .1 .1 .1 .1 .0
 
 same-length-4 : tie.Need-same-length-4
 same-length-4 c =
-    c .before .before .before .before .before .before .before .before .before .before .before .before .sign .kept .1 .1 .1 .1 .0 ∙
+    c .before .before .before .before .before .before .before .before .before .before .before .before .sign .kept .1 .1 .1 .0 ∙
     c .before .before .before .before .before .before .before .before .before .before .before .before .before .before .before .before
     .before .before .before .before .before .before .before .before .before .before .before .push-branching .kept .1 .1 .1 .1 .1 .1 .1 .0
 
@@ -272,7 +272,7 @@ returns-2 c =
     (ap₂ _++_ (level w (take 4 (Works a)) (p .kept .1 .1 .1 .1 .1 .1 .0, (p .kept .1 .1 .1 .1 .1 .1 .1 .0, (refl, (refl, tt)))))
     (zeroed more (drop 4 (Works a)) (marks-left q, (queue-left q, tt)))
     ∙ cleared-append (take 4 (Works a)) (drop 4 (Works a)))
-    ∙ signing-on (R a) (Pushed a) (Out a) (Works a) (p .result) _ (Works a)
+    ∙ signing-on (R a) (length (Pushed a)) (Signature a) (Out a) (Works a) (p .result) _ (Works a)
     (sym (ap (λ (r : Refusal). r .number) (answered
     (c .before .before .before .before .before .before .before .before .before .before .before .before .before .before .before .before
     .before .before .before .before .before .before .before .before .before .before .before .before .before .before .before .before
@@ -286,9 +286,9 @@ branching-bisim-signature-spec =
     tie.close
     (tie.spec
     cast-n
-    roomy-requires
-    roomy-requires-2
-    signature-refusal-requires
+    slice-aggregate-works-long
+    works-long-requires
+    argument-refusal-requires
     refusing-number-requires
     returns
     clear-requires

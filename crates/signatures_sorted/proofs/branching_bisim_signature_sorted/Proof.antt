@@ -3,11 +3,11 @@ use borrow.Author.Needs.{needs}
 use borrow.Author.Tests.{leb-true}
 use native.Mathlib.Omega.{arith}
 use Prim.Native.Nat.{ℕ, _+_, _≤_}
-use mathlib.Core.Path.{_≡_, refl, sym, ap, ap₂, _∙_}
+use mathlib.Core.Path.{_≡_, refl, sym, ap, _∙_}
 use mathlib.Core.Bool.{Bool, _&&_}
-use mathlib.Core.List.{List, [], _∷_, _++_, map}
+use mathlib.Core.List.{List, [], _∷_}
 use lib.Dec.{leb}
-use lib.ListN.{length, take, drop}
+use lib.ListN.{length}
 use Rattle.columns.specs.Answers.{refused}
 use Rattle.columns.specs.Sets.{Pair}
 use Rattle.columns.specs.declared.answers.Refusal.{Refusal}
@@ -15,15 +15,15 @@ use Rattle.columns.proofs.Bools.{and-left, and-right}
 use Rattle.partition.specs.Partition.{Partition, parts}
 use Rattle.signatures.specs.Pairs.{Columns, signature}
 use Rattle.signatures.specs.Signing.{roomy}
-use Rattle.signatures.proofs.Ready.{Ready}
+use Rattle.table_partition.proofs.Refusals.{BothReady}
 use Rattle.signatures.proofs.Outcomes.{signing-refused, signing-on}
 use Rattle.pairs.specs.Lists.{listAt, Lists}
 use Rattle.table.specs.Lts.{Lts, lts}
-use Rattle.signatures_sorted.specs.Sorted.{Given, flat, sortedPushed, sortedRefusal, branchingBisimSignatureSorted}
+use Rattle.signatures_sorted.specs.Sorted.{Given, flat, sortedPushed, sortedSignature, sortedRefusal, branchingBisimSignatureSorted}
 use Rattle.signatures_sorted.proofs.Openings.{lists-taken}
 use Rattle.signatures_sorted.proofs.Emptied.{still-zero}
-use Rattle.signatures_sorted.proofs.Refused.{tested, sorted-ready, sorted-lists}
-use Rattle.signatures.proofs.Works.{Wide, roomy-of, long-append, long-again, level}
+use Rattle.signatures_sorted.proofs.Refused.{sorted-ready, sorted-lists}
+use Rattle.signatures.proofs.Works.{Wide, wide-of, level}
 use Rattle.signatures_sorted.proofs.branching_bisim_signature_sorted.Statement.{statement}
 use Rattle.signatures_sorted.proofs.branching_bisim_signature_sorted.Tie as tie
 
@@ -62,6 +62,12 @@ Pushed a =
     (listAt (a .args .starts .now) (a .args .given-labels .now) (a .args .given-blocks .now))
     (a .args .state)
 
+abbrev Signature : tie.Start → List Pair
+Signature a =
+    sortedSignature (L a) (a .args .element-to-block .now)
+    (listAt (a .args .starts .now) (a .args .given-labels .now) (a .args .given-blocks .now))
+    (a .args .state)
+
 -- where the call begins
 abbrev start : tie.After-sorted-refusal → tie.Start
 start q =
@@ -73,17 +79,12 @@ answered : (q : tie.After-sorted-refusal) → q .sorted-refusal .result ≡ R (s
 unfolding roomy
 answered q =
     let a = start q in
-    let k = a .args .table .n + a .args .table .m + 1 in
-    let ls : List ℕ = map (λ (w : List ℕ). length w) (Works a) in
-    let x = length (a .args .tree .now) in
     q .sorted-refusal .ensures
-    ∙ ap (λ (b : Bool). sortedRefusal (L a) (P a) (a .args .state) (G a) (Starts a && b))
-    (ap₂ (λ (x y : Bool). x && y) (q .before .before .before .roomy .ensures) (q .before .before .roomy2 .ensures)
-    ∙ long-append k (take 4 ls) (drop 4 ls ++ (x ∷ [])) ∙ long-again k (take 6 ls) x)
+    ∙ ap (λ (b : Bool). sortedRefusal (L a) (P a) (a .args .state) (G a) (Starts a && b)) (q .before .works-long .ensures)
 
 -- and where they refuse nothing
 module _ (q : tie.After-sorted-refusal) (z : q .sorted-refusal .result .number ≡ 0) where
-  ready : Ready (L (start q)) (P (start q)) (start q .args .state) (Room (start q)) (tested (L (start q)) (G (start q)))
+  ready : BothReady (L (start q)) (P (start q)) (start q .args .state) (start q .args .table .n) (Room (start q))
   ready = sorted-ready (L (start q)) (P (start q)) refl (start q .args .state) (G (start q)) (Room (start q)) _ (answered q) z
 
   lists : Lists (G (start q) .starts) (L (start q) .n) (G (start q) .labels) (G (start q) .blocks)
@@ -94,17 +95,17 @@ module _ (q : tie.After-sorted-refusal) (z : q .sorted-refusal .result .number �
 
   wide : Wide (L (start q)) (Works (start q))
   wide =
-      roomy-of (L (start q)) (Works (start q))
+      wide-of (L (start q)) (Works (start q))
       (and-right (Starts (start q)) (roomy (L (start q)) (Works (start q))) (ready .enough))
 
-roomy-requires : tie.Need-roomy-requires
-roomy-requires c κs = search needs
+cast-n : tie.Need-cast-n
+cast-n c = search needs
 
-roomy-requires-2 : tie.Need-roomy-requires-2
-roomy-requires-2 c κs = search needs
+slice-aggregate-works-long : tie.Need-slice-aggregate-works-long
+slice-aggregate-works-long c = search needs
 
-cast-lists : tie.Need-cast-lists
-cast-lists c = search needs
+works-long-requires : tie.Need-works-long-requires
+works-long-requires c κs = search needs
 
 add-lists : tie.Need-add-lists
 add-lists c = search needs
@@ -113,7 +114,7 @@ sorted-refusal-requires : tie.Need-sorted-refusal-requires
 sorted-refusal-requires c κs e = leb-true _ _ (and-left
     (Starts (c .before .before .before .before .before .before .before .before .before .before .before .before .before .before .before
     .before .before .before .before .before .before .before .before .before))
-    (c .before .before .roomy .result && c .before .roomy2 .result) e)
+    (c .works-long .result) e)
 
 refusing-number-requires : tie.Need-refusing-number-requires
 refusing-number-requires c κs = search needs
@@ -124,7 +125,8 @@ returns c =
     let a = c .before .before .before .before .before .before .before .before .before .before .before .before .before .before .before
     .before .before .before .before .before .before .before .before .before .before .before .before in
     let e = answered (c .before .before) in
-    signing-refused (R a) (Pushed a) (Out a) (Works a) _ (λ z. c .before .if1 .taken (ap (λ (r : Refusal). r .number) e ∙ z))
+    signing-refused (R a) (length (Pushed a)) (Signature a) (Out a) (Works a) _
+    (λ z. c .before .if1 .taken (ap (λ (r : Refusal). r .number) e ∙ z))
     (c .refusing-number .ensures ∙ ap (λ (r : Refusal). refused (r .number) (r .place)) e)
 
 wipe-requires : tie.Need-wipe-requires
@@ -287,7 +289,7 @@ returns-2 c =
     let works : List (List ℕ) = w .last .0 ∷ w .last .1 .0 ∷ w .last .1 .1 .0 ∷ w .last .1 .1 .1 .0 ∷ first c .clear .last .0
     ∷ second c .clear2 .last .0 ∷ third c .clear3 .last .0 ∷ [] in
     ended c .branching-bisim-signature-sorted .ensures
-    ∙ signing-on (R a) (Pushed a) (Out a) (Works a) (length (Pushed a)) (signature (Pushed a)) works
+    ∙ signing-on (R a) (length (Pushed a)) (Signature a) (Out a) (Works a) (length (Pushed a)) (Signature a) works
     (sym (ap (λ (r : Refusal). r .number) (answered (tried c))) ∙
     c .before .before .before .before .before .before .before .before .before .before .before .before .before .before .before .before
     .before .before .before .before .before .before .before .before .before .before .before .before .before .before .before .before
@@ -317,9 +319,9 @@ pub branching-bisim-signature-sorted-spec : {M : Type 1} → statement M
 branching-bisim-signature-sorted-spec =
     tie.close
     (tie.spec
-    roomy-requires
-    roomy-requires-2
-    cast-lists
+    cast-n
+    slice-aggregate-works-long
+    works-long-requires
     add-lists
     sorted-refusal-requires
     refusing-number-requires

@@ -1,10 +1,11 @@
 -- `sort_refusal` meets its contract.
 use borrow.Author.Needs.{needs}
-use mathlib.Core.Path.{ap₂, _∙_}
 use mathlib.Core.Bool.{Bool, _&&_}
-use Rattle.columns.specs.Answers.{none}
+use mathlib.Core.Path.{ap, _∙_}
+use lib.Dec.{leb}
+use Rattle.columns.specs.Due.{due}
+use Rattle.table.specs.Checks.{tableTests}
 use Rattle.table.specs.Lts.{Lts, lts}
-use Rattle.table.specs.Checks.{checkedTable}
 use Rattle.table_order.specs.Call.{sortRefusal}
 use Rattle.table_order.proofs.sort_refusal.Statement.{statement}
 use Rattle.table_order.proofs.sort_refusal.Tie as tie
@@ -16,11 +17,11 @@ L a = lts (a .args .table) (a .args .source .now) (a .args .label .now) (a .args
 cast-n : tie.Need-cast-n
 cast-n c = search needs
 
-room-requires : tie.Need-room-requires
-room-requires c κs = search needs
+slice-aggregate-works-long : tie.Need-slice-aggregate-works-long
+slice-aggregate-works-long c = search needs
 
-room-requires-2 : tie.Need-room-requires-2
-room-requires-2 c κs = search needs
+works-long-requires : tie.Need-works-long-requires
+works-long-requires c κs = search needs
 
 check-requires : tie.Need-check-requires
 check-requires c κs = search needs
@@ -28,9 +29,10 @@ check-requires c κs = search needs
 returns : tie.Need-returns
 unfolding sortRefusal
 returns c = let a = c .before .before .before .before .before .before .before in
-    c .check .ensures ∙ ap₂ (λ (x y : Bool). checkedTable (L a) (x && y) none) (c .before .before .room .ensures)
-    (c .before .room2 .ensures)
+    c .check .ensures
+    ∙ ap (λ (b : Bool). due (tableTests (L a) (leb (a .args .table .n) (a .args .places) && b))) (c .before .works-long .ensures)
 
 pub sort-refusal-spec : {M : Type 1} → statement M
 sort-refusal-spec =
-    tie.close (tie.spec cast-n room-requires room-requires-2 check-requires returns)
+    tie.close
+    (tie.spec cast-n slice-aggregate-works-long works-long-requires check-requires returns)

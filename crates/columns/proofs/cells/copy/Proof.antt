@@ -9,10 +9,10 @@ use Rattle.columns.proofs.cells.copy.Statement.{statement}
 use Rattle.columns.proofs.cells.copy.Tie as tie
 
 abbrev Inv-loop : tie.InvT-loop
-Inv-loop to₀ from i₀ to i = Painted (λ k. getD from k 0) (length from) to₀ i to
+Inv-loop from to₀ i₀ to i = Painted (λ k. getD from k 0) (length from) to₀ i to
 
 abbrev μ-loop : tie.MeasureT-loop
-μ-loop to₀ from i₀ to i = length from - i
+μ-loop from to₀ i₀ to i = length from - i
 
 loop-holds : tie.Need-loop-holds Inv-loop μ-loop
 loop-holds c = painted-none _ (length (c .args .from .now)) (c .args .to .now)

@@ -12,10 +12,10 @@ use Rattle.columns.proofs.rows.distinct.Statement.{statement}
 use Rattle.columns.proofs.rows.distinct.Tie as tie
 
 abbrev Inv-loop : tie.InvT-loop
-Inv-loop order₀ a b c last₀ r₀ i₀ order last r i = Picking rowLt (keyOf a b c) order₀ order last r i
+Inv-loop a b c order₀ last₀ r₀ i₀ order last r i = Picking rowLt (keyOf a b c) order₀ order last r i
 
 abbrev μ-loop : tie.MeasureT-loop
-μ-loop order₀ a b c last₀ r₀ i₀ order last r i = length order₀ - i
+μ-loop a b c order₀ last₀ r₀ i₀ order last r i = length order₀ - i
 
 returns : tie.Need-returns Inv-loop μ-loop
 unfolding firstsBy

@@ -10,10 +10,10 @@ use Rattle.columns.proofs.rows.gather.Statement.{statement}
 use Rattle.columns.proofs.rows.gather.Tie as tie
 
 abbrev Inv-loop : tie.InvT-loop
-Inv-loop to₀ order a i₀ to i = Painted (λ k. cell a (getD order k 0)) (length order) to₀ i to
+Inv-loop a order to₀ i₀ to i = Painted (λ k. cell a (getD order k 0)) (length order) to₀ i to
 
 abbrev μ-loop : tie.MeasureT-loop
-μ-loop to₀ order a i₀ to i = length order - i
+μ-loop a order to₀ i₀ to i = length order - i
 
 loop-holds : tie.Need-loop-holds Inv-loop μ-loop
 loop-holds c = painted-none _ (length (c .before .before .before .args .order .now)) (c .before .before .before .args .to .now)

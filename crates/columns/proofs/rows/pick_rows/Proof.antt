@@ -33,7 +33,7 @@ returns c =
     .before .before .before .before .before .args .b .now in
     let d = c .before .before .before .before .before .before .before .before .before .before .before .before .before .before .before
     .before .before .before .before .before .args .c .now in
-    let e : c .before .before .before .before .before .before .before .before .sort .last .0 ≡ sortBy a b d
+    let e : c .before .before .before .before .before .before .before .before .sort .last .1 .1 .1 .0 ≡ sortBy a b d
     (listed (length
     (c .before .before .before .before .before .before .before .before .before .before .before .before .before .before .before .before
     .before .before .before .before .args .order .now)) (λ k. k)) =

@@ -38,32 +38,32 @@ pick-rows-requires c κs = (
 slice-reshare-prefix-write-rows : tie.Need-slice-reshare-prefix-write-rows
 slice-reshare-prefix-write-rows c =
     let g = c .before .before .before .before .before .before .before .before .before .before .before .before .before .before .before
-    .before .before .before .args in
-    let q = c .before .before .before .before .before .before .before .pick-rows in
-    let k = lent (g .m) (q .result) (g .a .now) (g .b .now) (g .c .now) (g .order .now) (q .last .0)
-    (c .before .before .before .before .before .before .before .before .before .before .before .before .before .before .before .before
-    .before .before .pre .1 .1 .0) (q .ensures .0) (q .ensures .1 .0) (q .kept .0) in
+    .args in
+    let q = c .before .before .before .before .pick-rows in
+    let k = lent (g .m) (q .result) (g .a .now) (g .b .now) (g .c .now) (g .order .now) (q .last .1 .1 .1 .0)
+    (c .before .before .before .before .before .before .before .before .before .before .before .before .before .before .before .pre .1
+    .1 .0) (q .ensures .0) (q .ensures .1 .0) (q .kept .1 .1 .1 .0) in
     omega (arith, k .few, k .wide)
 
 slice-aggregate-write-rows : tie.Need-slice-aggregate-write-rows
 slice-aggregate-write-rows c =
     let g = c .before .before .before .before .before .before .before .before .before .before .before .before .before .before .before
-    .before .before .before .before .args in
-    let q = c .before .before .before .before .before .before .before .before .pick-rows in
-    let k = lent (g .m) (q .result) (g .a .now) (g .b .now) (g .c .now) (g .order .now) (q .last .0)
+    .before .args in
+    let q = c .before .before .before .before .before .pick-rows in
+    let k = lent (g .m) (q .result) (g .a .now) (g .b .now) (g .c .now) (g .order .now) (q .last .1 .1 .1 .0)
     (c .before .before .before .before .before .before .before .before .before .before .before .before .before .before .before .before
-    .before .before .before .pre .1 .1 .0) (q .ensures .0) (q .ensures .1 .0) (q .kept .0) in
-    sym (length-take-le (q .result) (q .last .0 ++ drop (g .m) (g .order .now)) (omega (arith, k .few, k .wide)))
+    .pre .1 .1 .0) (q .ensures .0) (q .ensures .1 .0) (q .kept .1 .1 .1 .0) in
+    sym (length-take-le (q .result) (q .last .1 .1 .1 .0 ++ drop (g .m) (g .order .now)) (omega (arith, k .few, k .wide)))
 
 write-rows-requires : tie.Need-write-rows-requires
 write-rows-requires c κs =
     let g = c .before .before .before .before .before .before .before .before .before .before .before .before .before .before .before
     .before .before .before .before .args in
     let q = c .before .before .before .before .before .before .before .before .pick-rows in
-    let k = lent (g .m) (q .result) (g .a .now) (g .b .now) (g .c .now) (g .order .now) (q .last .0)
+    let k = lent (g .m) (q .result) (g .a .now) (g .b .now) (g .c .now) (g .order .now) (q .last .1 .1 .1 .0)
     (c .before .before .before .before .before .before .before .before .before .before .before .before .before .before .before .before
-    .before .before .before .pre .1 .1 .0) (q .ensures .0) (q .ensures .1 .0) (q .kept .0) in
-    let n = length-take-le (q .result) (q .last .0 ++ drop (g .m) (g .order .now)) (omega (arith, k .few, k .wide)) in
+    .before .before .before .pre .1 .1 .0) (q .ensures .0) (q .ensures .1 .0) (q .kept .1 .1 .1 .0) in
+    let n = length-take-le (q .result) (q .last .1 .1 .1 .0 ++ drop (g .m) (g .order .now)) (omega (arith, k .few, k .wide)) in
     let v = c .before .before .before .before .before .before .before .before .before .before .before .before .before .before .before
     .before .before .before .before .pre .1 .0 in
     (omega (arith, n, k .few, v .0), omega (arith, n, k .few, v .1), omega (arith, n, k .few, v .2))
@@ -77,11 +77,11 @@ slice-aggregate-clear c =
     .before .before .before .before .before .before .before .before .before .before .before .before .args in
     let q = c .before .before .before .before .before .before .before .before .before .before .before .before .before .before .before
     .before .pick-rows in
-    let k = lent (g .m) (q .result) (g .a .now) (g .b .now) (g .c .now) (g .order .now) (q .last .0)
+    let k = lent (g .m) (q .result) (g .a .now) (g .b .now) (g .c .now) (g .order .now) (q .last .1 .1 .1 .0)
     (c .before .before .before .before .before .before .before .before .before .before .before .before .before .before .before .before
     .before .before .before .before .before .before .before .before .before .before .before .pre .1 .1 .0) (q .ensures .0)
-    (q .ensures .1 .0) (q .kept .0) in
-    sym (length-take-le (g .m) (q .last .0 ++ drop (g .m) (g .order .now)) (k .wide))
+    (q .ensures .1 .0) (q .kept .1 .1 .1 .0) in
+    sym (length-take-le (g .m) (q .last .1 .1 .1 .0 ++ drop (g .m) (g .order .now)) (k .wide))
 
 clear-requires : tie.Need-clear-requires
 clear-requires c κs = search needs
@@ -107,10 +107,10 @@ returns c =
     .before .before .before .before .before .before .before .before .before .before .before .before .before .before .before .args in
     let q = c .before .before .before .before .before .before .before .before .before .before .before .before .before .before .before
     .before .before .before .before .pick-rows in
-    let k = lent (g .m) (q .result) (g .a .now) (g .b .now) (g .c .now) (g .order .now) (q .last .0)
+    let k = lent (g .m) (q .result) (g .a .now) (g .b .now) (g .c .now) (g .order .now) (q .last .1 .1 .1 .0)
     (c .before .before .before .before .before .before .before .before .before .before .before .before .before .before .before .before
     .before .before .before .before .before .before .before .before .before .before .before .before .before .before .pre .1 .1 .0)
-    (q .ensures .0) (q .ensures .1 .0) (q .kept .0) in
+    (q .ensures .0) (q .ensures .1 .0) (q .kept .1 .1 .1 .0) in
     let h = c .before .before .before .before .before .before .before .before .before .before .before .before .before .before .before
     .before .before .before .before .before .before .before .before .before .before .before .before .before .before .before .pre .0 in
     let w = c .before .before .before .before .before .before .before .before .before .before .write-rows .ensures in (
@@ -125,8 +125,8 @@ returns c =
             w .1 .1 ∙ ap (λ (t : List ℕ). over (map (cell (g .c .now)) t) (g .z .now)) (k .front) ∙
                 ap (λ (t : List ℕ). over t (g .z .now)) (third-column (g .m) (g .a .now) (g .b .now) (g .c .now) (h .0) (h .1) (h .2)),
             (
-              wiped-front (g .m) (g .order .now) (q .last .0 ++ drop (g .m) (g .order .now)) (c .before .before .clear .last .0) (k .wide)
-                  (c .before .before .clear .ensures) (k .rest),
+              wiped-front (g .m) (g .order .now) (q .last .1 .1 .1 .0 ++ drop (g .m) (g .order .now))
+                  (c .before .before .clear .last .0) (k .wide) (c .before .before .clear .ensures) (k .rest),
               q .ensures .1 .1 ∙ ap (λ (i : ℕ). wiped (i / 2) (g .spare .now))
                   (length-take-le (g .m) (g .order .now)
                   (c .before .before .before .before .before .before .before .before .before .before .before .before .before .before .before

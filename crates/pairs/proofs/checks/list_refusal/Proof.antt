@@ -3,9 +3,12 @@ use borrow.Author.Needs.{needs}
 use native.Mathlib.Omega.{arith}
 use Prim.Native.Nat.{ℕ}
 use mathlib.Core.Path.{ap, _∙_}
+use mathlib.Core.List.{[], _∷_}
+use lib.Dec.{leb}
 use lib.ListN.{length}
-use Rattle.columns.specs.Answers.{none}
-use Rattle.pairs.specs.Pairs.{badAt, badPair, leastBad, listRefusal}
+use Rattle.columns.specs.Due.{test, due}
+use Rattle.columns.specs.Limits.{wrongList}
+use Rattle.pairs.specs.Pairs.{badPair, leastTest}
 use Rattle.pairs.proofs.Refusals.{shorter-left, shorter-right}
 use Rattle.pairs.proofs.checks.list_refusal.Statement.{statement}
 use Rattle.pairs.proofs.checks.list_refusal.Tie as tie
@@ -19,15 +22,15 @@ first-bad-requires c κs = let l = shorter-left (length (c .before .before .befo
     let r = shorter-right (length (c .before .before .before .args .labels .now)) (length (c .before .before .before .args .blocks .now)) in
     (omega arith, omega (arith, l), omega (arith, r))
 
-bad-at-requires : tie.Need-bad-at-requires
-bad-at-requires c κs = search needs
+refuse-unless-requires : tie.Need-refuse-unless-requires
+refuse-unless-requires c κs = search needs
 
 returns : tie.Need-returns
-unfolding listRefusal leastBad
-returns c = c .bad-at .ensures ∙ (ap (λ (i : ℕ). badAt (c .before .before .shorter .result) i none) (c .before .first-bad .ensures)
-    ∙ ap (λ (n : ℕ). leastBad n (badPair (c .before .before .before .before .before .args .labels .now)
-    (c .before .before .before .before .before .args .blocks .now) 0) none) (c .before .before .shorter .ensures))
+returns c = let a = c .before .before .before .before .before in
+    c .refuse-unless .ensures
+    ∙ ap (λ (i : ℕ). due (test (leb (c .before .before .shorter .result) i) wrongList i ∷ [])) (c .before .first-bad .ensures)
+    ∙ ap (λ (n : ℕ). due (leastTest n (badPair (a .args .labels .now) (a .args .blocks .now) 0) ∷ [])) (c .before .before .shorter .ensures)
 
 pub list-refusal-spec : {M : Type 1} → statement M
 list-refusal-spec =
-    tie.close (tie.spec shorter-requires first-bad-requires bad-at-requires returns)
+    tie.close (tie.spec shorter-requires first-bad-requires refuse-unless-requires returns)

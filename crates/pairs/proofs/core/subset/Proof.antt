@@ -9,14 +9,14 @@ use Rattle.pairs.specs.Pairs.{pairAt}
 use Rattle.pairs.specs.Subset.{notBelow}
 use Rattle.pairs.proofs.Refusals.{shorter-left, shorter-right}
 use Rattle.pairs.proofs.Subsets.{rises, at-ends}
-use Rattle.pairs.proofs.Walking.{stands-below, Walk, walk-start, walk-skip, walk-found, walk-missing, walk-end}
+use Rattle.pairs.proofs.Walking.{stands-below, SubsetWalk, walk-start, walk-skip, walk-found, walk-missing, walk-end}
 use borrow.Author.Tests.{not-true, not-false}
 use Rattle.pairs.proofs.core.subset.Statement.{statement}
 use Rattle.pairs.proofs.core.subset.Tie as tie
 
 abbrev Inv-loop : tie.InvT-loop
 Inv-loop self-labels self-blocks other-labels other-blocks label block n m i₀ j₀ i j =
-    Walk n m (pairAt self-labels self-blocks) (pairAt other-labels other-blocks) (label, block) i j
+    SubsetWalk n m (pairAt self-labels self-blocks) (pairAt other-labels other-blocks) (label, block) i j
 
 abbrev μ-loop : tie.MeasureT-loop
 μ-loop self-labels self-blocks other-labels other-blocks label block n m i₀ j₀ i j = m - j

@@ -1,7 +1,6 @@
 -- `lists.lists_refusal` meets its contract.
 use borrow.Author.Needs.{needs}
 use mathlib.Core.Path.{_∙_}
-use Rattle.columns.specs.Answers.{none}
 use Rattle.pairs.proofs.Listing.{bad-start-found, starts-found, bad-pair-found}
 use Rattle.pairs.proofs.lists.lists_refusal.Statement.{statement}
 use Rattle.pairs.proofs.lists.lists_refusal.Tie as tie
@@ -21,7 +20,7 @@ refuse-requires c κs = search needs
 returns : tie.Need-returns
 returns c = let a = c .before .before .before .before .before .before .before .args in
     c .refuse .ensures ∙ bad-start-found (a .starts .now) (a .n) (a .labels .now) (a .blocks .now) _ _
-    (c .before .before .before .shorter .ensures) (c .before .before .first-bad-start .ensures) none (c .before .if1 .taken)
+    (c .before .before .before .shorter .ensures) (c .before .before .first-bad-start .ensures) (c .before .if1 .taken)
 
 first-bad-in-requires : tie.Need-first-bad-in-requires
 first-bad-in-requires c κs = let a = c .before .before .before .before .before .before .args in (
@@ -30,13 +29,13 @@ first-bad-in-requires c κs = let a = c .before .before .before .before .before 
       (c .before .first-bad-start .ensures) (c .if1 .left),
 )
 
-bad-at-requires : tie.Need-bad-at-requires
-bad-at-requires c κs = search needs
+refuse-unless-requires : tie.Need-refuse-unless-requires
+refuse-unless-requires c κs = search needs
 
 returns-2 : tie.Need-returns-2
 returns-2 c = let a = c .before .before .before .before .before .before .before .before .args in
-    c .bad-at .ensures ∙ bad-pair-found (a .starts .now) (a .n) (a .labels .now) (a .blocks .now) _ _
-    (c .before .before .before .before .shorter .ensures) (c .before .before .before .first-bad-start .ensures) _ none
+    c .refuse-unless .ensures ∙ bad-pair-found (a .starts .now) (a .n) (a .labels .now) (a .blocks .now) _ _
+    (c .before .before .before .before .shorter .ensures) (c .before .before .before .first-bad-start .ensures) _
     (c .before .before .if1 .left) (c .before .first-bad-in .ensures)
 
 pub lists-refusal-spec : {M : Type 1} → statement M
@@ -49,5 +48,5 @@ lists-refusal-spec =
     refuse-requires
     returns
     first-bad-in-requires
-    bad-at-requires
+    refuse-unless-requires
     returns-2)

@@ -6,7 +6,7 @@ use mathlib.Core.Bool.{not}
 use mathlib.Core.Path.{sym, ap, ap₂, _∙_}
 use Rattle.columns.specs.Sets.{pairLt}
 use Rattle.pairs.specs.Pairs.{pairAt}
-use Rattle.pairs_merge.specs.Merged.{Heads, heads, placeOf, endAt, headOf}
+use Rattle.pairs_merge.specs.Merged.{Heads, heads, headPlace, endAt, headOf}
 use Rattle.pairs_merge.proofs.Ranks.{way-end, way-none, way-last}
 use Rattle.pairs_merge.proofs.heads.not_after.Statement.{statement}
 use Rattle.pairs_merge.proofs.heads.not_after.Tie as tie
@@ -23,7 +23,7 @@ place-requires-2 : tie.Need-place-requires-2
 place-requires-2 c κs = search needs
 
 returns : tie.Need-returns
-unfolding placeOf endAt
+unfolding headPlace endAt
 returns c = sym (way-end (D (c .before .before .before .before .before .before .before .before .before))
     (c .before .before .before .before .before .before .before .before .before .args .a)
     (c .before .before .before .before .before .before .before .before .before .args .b)
@@ -36,7 +36,7 @@ place-requires-4 : tie.Need-place-requires-4
 place-requires-4 c κs = search needs
 
 returns-2 : tie.Need-returns-2
-unfolding placeOf endAt
+unfolding headPlace endAt
 returns-2 c = way-none (D (c .before .before .before .before .before .before .before .before .before .before .before .before))
     (c .before .before .before .before .before .before .before .before .before .before .before .before .args .a)
     (c .before .before .before .before .before .before .before .before .before .before .before .before .args .b)
@@ -93,7 +93,7 @@ below-requires : tie.Need-below-requires
 below-requires c κs = search needs
 
 returns-3 : tie.Need-returns-3
-unfolding placeOf endAt headOf pairAt
+unfolding headPlace endAt headOf pairAt
 returns-3 c = ap not (c .below .ensures)
     ∙ (ap₂ (λ (y x : ℕ). not
     (pairLt (pairAt

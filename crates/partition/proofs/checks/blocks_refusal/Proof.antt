@@ -1,14 +1,12 @@
 -- `checks.blocks_refusal` meets its contract.
 use borrow.Author.Needs.{needs}
-use borrow.Author.Tests.{lt-ltb, le-ltb, le-leb, lt-leb, not-true, not-false}
-use mathlib.Core.Path.{_≡_, refl, sym, ap, _∙_}
 use mathlib.Core.Bool.{true}
-use lib.Dec.{ltb}
-use Rattle.columns.specs.Limits.{outOfRange}
-use Rattle.partition.specs.Checks.{blocksRefusal}
+use mathlib.Core.List.{[], _∷_}
+use mathlib.Core.Path.{refl, _∙_}
+use Rattle.columns.specs.Due.{indexTest}
+use Rattle.columns.proofs.Chains.{chained}
+use Rattle.partition.specs.Checks.{partitionTests, blocksRefusal}
 use Rattle.partition.specs.Partition.{Partition, parts}
-use Rattle.columns.specs.Answers.{refusal, none, unless}
-use Rattle.partition.proofs.Refusals.{checked-on, checked-out}
 use Rattle.partition.proofs.checks.blocks_refusal.Statement.{statement}
 use Rattle.partition.proofs.checks.blocks_refusal.Tie as tie
 
@@ -21,53 +19,36 @@ P a =
 check-requires : tie.Need-check-requires
 check-requires c κs = search needs
 
+index-refusal-requires : tie.Need-index-refusal-requires
+index-refusal-requires c κs = search needs
+
+index-refusal-requires-2 : tie.Need-index-refusal-requires-2
+index-refusal-requires-2 c κs = search needs
+
+or-else-requires : tie.Need-or-else-requires
+or-else-requires c κs = search needs
+
+or-else-requires-2 : tie.Need-or-else-requires-2
+or-else-requires-2 c κs = search needs
+
 returns : tie.Need-returns
 unfolding blocksRefusal
-returns c = let a = c .before .before .before .before .before .before .before .before in
-    checked-out (P a) true (unless (ltb (a .args .l) (a .args .count)) (refusal outOfRange (a .args .l))
-    (unless (ltb (a .args .r) (a .args .count)) (refusal outOfRange (a .args .r)) (none))) _ (c .before .check .ensures) (c .if1 .taken)
-
-refuse-requires : tie.Need-refuse-requires
-refuse-requires c κs = search needs
-
-returns-2 : tie.Need-returns-2
-unfolding blocksRefusal
-returns-2 c = let a = c .before .before .before .before .before .before .before .before .before .before in c .refuse .ensures ∙
-    sym (checked-on (P a) true (unless (ltb (a .args .l) (a .args .count)) (refusal outOfRange (a .args .l))
-    (unless (ltb (a .args .r) (a .args .count)) (refusal outOfRange (a .args .r)) (none))) _ (c .before .before .before .check .ensures)
-    (c .before .before .if1 .left) ∙ simp (le-ltb _ _ (c .before .if2 .taken)))
-
-refuse-requires-2 : tie.Need-refuse-requires-2
-refuse-requires-2 c κs = search needs
-
-returns-3 : tie.Need-returns-3
-unfolding blocksRefusal
-returns-3 c = let a = c .before .before .before .before .before .before .before .before .before .before .before in c .refuse2 .ensures ∙
-    sym (checked-on (P a) true (unless (ltb (a .args .l) (a .args .count)) (refusal outOfRange (a .args .l))
-    (unless (ltb (a .args .r) (a .args .count)) (refusal outOfRange (a .args .r)) (none))) _
-    (c .before .before .before .before .check .ensures)
-    (c .before .before .before .if1 .left) ∙ simp (lt-ltb _ _ (c .before .before .if2 .left), le-ltb _ _ (c .before .if3 .taken)))
-
-refuse-requires-3 : tie.Need-refuse-requires-3
-refuse-requires-3 c κs = search needs
-
-returns-4 : tie.Need-returns-4
-unfolding blocksRefusal
-returns-4 c = let a = c .before .before .before .before .before .before .before .before .before .before .before in c .refuse3 .ensures ∙
-    sym (checked-on (P a) true (unless (ltb (a .args .l) (a .args .count)) (refusal outOfRange (a .args .l))
-    (unless (ltb (a .args .r) (a .args .count)) (refusal outOfRange (a .args .r)) (none))) _
-    (c .before .before .before .before .check .ensures)
-    (c .before .before .before .if1 .left) ∙ simp (lt-ltb _ _ (c .before .before .if2 .left), lt-ltb _ _ (c .before .if3 .left)))
+returns c = let a = c .before .before .before .before .before .before .before .before .before .before .before in
+    let l = indexTest (a .args .l) (a .args .count) ∷ [] in
+    let r = indexTest (a .args .r) (a .args .count) ∷ [] in
+    c .or-else2 .ensures
+    ∙ chained (partitionTests (P a) true) (indexTest (a .args .l) (a .args .count) ∷ r) refl _
+    (c .before .before .before .before .check .ensures) _
+    (c .before .or-else .ensures
+    ∙ chained l r refl _ (c .before .before .before .index-refusal .ensures) _ (c .before .before .index-refusal2 .ensures))
 
 pub blocks-refusal-spec : {M : Type 1} → statement M
 blocks-refusal-spec =
     tie.close
     (tie.spec
     check-requires
-    returns
-    refuse-requires
-    returns-2
-    refuse-requires-2
-    returns-3
-    refuse-requires-3
-    returns-4)
+    index-refusal-requires
+    index-refusal-requires-2
+    or-else-requires
+    or-else-requires-2
+    returns)

@@ -5,13 +5,13 @@ use native.Mathlib.Omega.{arith}
 use mathlib.Core.List.{[], _∷_}
 use lib.ListN.{getD}
 use lib.Dec.{ltb}
-use mathlib.Core.Bool.{not}
+use mathlib.Core.Bool.{true, not}
 use Rattle.columns.proofs.Saying.{asked-refused, asked-done}
 use Rattle.columns.specs.Answers.{bit}
 use Rattle.partition.specs.Checks.{stateRefusal}
 use Rattle.partition.specs.Partition.{Partition, parts}
 use Rattle.partition.specs.Readers.{blockNumber}
-use Rattle.partition.proofs.Refusals.{state-ready}
+use Rattle.partition.proofs.Refusals.{argument-ready}
 use Rattle.partition_calls.proofs.BlockPartition.block_number.Statement.{statement}
 use Rattle.partition_calls.proofs.BlockPartition.block_number.Tie as tie
 
@@ -27,8 +27,8 @@ cast-n c = search needs
 cast-count : tie.Need-cast-count
 cast-count c = search needs
 
-state-refusal-requires : tie.Need-state-refusal-requires
-state-refusal-requires c κs = search needs
+argument-refusal-requires : tie.Need-argument-refusal-requires
+argument-refusal-requires c κs = search needs
 
 refusing-number-requires : tie.Need-refusing-number-requires
 refusing-number-requires c κs = search needs
@@ -36,7 +36,7 @@ refusing-number-requires c κs = search needs
 returns : tie.Need-returns
 unfolding blockNumber
 returns c = let a = c .before .before .before .before .before .before .before .before .before .before .before in
-    c .refusing-number .ensures ∙ asked-refused (stateRefusal (P a) (a .args .element)) _ (c .before .before .state-refusal .ensures)
+    c .refusing-number .ensures ∙ asked-refused (stateRefusal (P a) (a .args .element)) _ (c .before .before .argument-refusal .ensures)
     (getD (a .args .element-to-block .now) (a .args .element) 0 ∷ []) (c .before .if1 .taken)
 
 mul-number-of : tie.Need-mul-number-of
@@ -44,7 +44,8 @@ mul-number-of c = search needs
 
 shared-slice-read-number-of : tie.Need-shared-slice-read-number-of
 shared-slice-read-number-of c = let a = c .before .before .before .before .before .before .before .before .before .before .before in
-    let q = state-ready (P a) (a .args .element) _ (c .before .before .state-refusal .ensures) (c .before .if1 .left) in
+    let q = argument-ready (P a) (a .args .element) (a .args .self .n) true _ (c .before .before .argument-refusal .ensures)
+    (c .before .if1 .left) in
     omega (arith, q .known, q .sound .long .element-to-block)
 
 number-of-requires : tie.Need-number-of-requires
@@ -53,7 +54,7 @@ number-of-requires c κs = search needs
 returns-2 : tie.Need-returns-2
 unfolding blockNumber
 returns-2 c = let a = c .before .before .before .before .before .before .before .before .before .before .before .before in
-    c .number-of .ensures ∙ asked-done (stateRefusal (P a) (a .args .element)) _ (c .before .before .before .state-refusal .ensures)
+    c .number-of .ensures ∙ asked-done (stateRefusal (P a) (a .args .element)) _ (c .before .before .before .argument-refusal .ensures)
     (getD (a .args .element-to-block .now) (a .args .element) 0 ∷ []) (c .before .before .if1 .left)
 
 pub block-number-spec : {M : Type 1} → statement M
@@ -62,7 +63,7 @@ block-number-spec =
     (tie.spec
     cast-n
     cast-count
-    state-refusal-requires
+    argument-refusal-requires
     refusing-number-requires
     returns
     mul-number-of

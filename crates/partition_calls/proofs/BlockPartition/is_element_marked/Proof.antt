@@ -5,16 +5,16 @@ use native.Mathlib.Omega.{arith}
 use mathlib.Core.List.{[], _∷_}
 use lib.ListN.{getD}
 use lib.Dec.{ltb}
-use mathlib.Core.Bool.{not}
+use mathlib.Core.Bool.{true, not}
 use Rattle.columns.proofs.Saying.{asked-refused, asked-done}
 use Rattle.columns.specs.Answers.{bit}
 use Rattle.partition.specs.Checks.{stateRefusal}
 use Rattle.partition.specs.Partition.{Partition, parts}
 use Rattle.partition.specs.Readers.{isElementMarked}
-use mathlib.Core.Bool.{Bool}
+use mathlib.Core.Bool.{true, Bool}
 use Rattle.columns.specs.Answers.{done}
 use Rattle.partition.specs.Readers.{unmarkedb}
-use Rattle.partition.proofs.Refusals.{state-ready}
+use Rattle.partition.proofs.Refusals.{argument-ready}
 use Rattle.partition.proofs.Marks.{block-known, marked-read}
 use Rattle.partition_calls.proofs.BlockPartition.is_element_marked.Statement.{statement}
 use Rattle.partition_calls.proofs.BlockPartition.is_element_marked.Tie as tie
@@ -31,8 +31,8 @@ cast-n c = search needs
 cast-count : tie.Need-cast-count
 cast-count c = search needs
 
-state-refusal-requires : tie.Need-state-refusal-requires
-state-refusal-requires c κs = search needs
+argument-refusal-requires : tie.Need-argument-refusal-requires
+argument-refusal-requires c κs = search needs
 
 refusing-flag-requires : tie.Need-refusing-flag-requires
 refusing-flag-requires c κs = search needs
@@ -40,22 +40,24 @@ refusing-flag-requires c κs = search needs
 returns : tie.Need-returns
 unfolding isElementMarked
 returns c = let a = c .before .before .before .before .before .before .before .before .before .before .before in c .refusing-flag .ensures ∙
-    asked-refused (stateRefusal (P a) (a .args .element)) _ (c .before .before .state-refusal .ensures)
+    asked-refused (stateRefusal (P a) (a .args .element)) _ (c .before .before .argument-refusal .ensures)
     (bit (not (unmarkedb (P a) (a .args .element))) ∷ []) (c .before .if1 .taken)
 
 at-requires : tie.Need-at-requires
 at-requires c κs = let a = c .before .before .before .before .before .before .before .before .before .before in
-    let q = state-ready (P a) (a .args .element) _ (c .before .state-refusal .ensures) (c .if1 .left) in
+    let q = argument-ready (P a) (a .args .element) (a .args .self .n) true _ (c .before .argument-refusal .ensures) (c .if1 .left) in
     omega (arith, q .known, q .sound .long .element-to-block)
 
 at-requires-2 : tie.Need-at-requires-2
 at-requires-2 c κs = let a = c .before .before .before .before .before .before .before .before .before .before .before in
-    let q = state-ready (P a) (a .args .element) _ (c .before .before .state-refusal .ensures) (c .before .if1 .left) in
+    let q = argument-ready (P a) (a .args .element) (a .args .self .n) true _ (c .before .before .argument-refusal .ensures)
+    (c .before .if1 .left) in
     omega (arith, q .known, q .sound .long .element-offset)
 
 at-requires-3 : tie.Need-at-requires-3
 at-requires-3 c κs = let a = c .before .before .before .before .before .before .before .before .before .before .before .before in
-    let q = state-ready (P a) (a .args .element) _ (c .before .before .before .state-refusal .ensures) (c .before .before .if1 .left) in
+    let q = argument-ready (P a) (a .args .element) (a .args .self .n) true _ (c .before .before .before .argument-refusal .ensures)
+    (c .before .before .if1 .left) in
     block-known (P a) _ _ (c .before .at .ensures .0) (q .sound) (q .known)
 
 flag-requires : tie.Need-flag-requires
@@ -67,7 +69,7 @@ returns-2 c = let a = c .before .before .before .before .before .before .before 
     c .flag .ensures ∙ ap (λ (b : Bool). done (bit b ∷ []))
     (marked-read (P a) _ _ _ _ (c .before .before .before .at .ensures .0) (c .before .before .at2 .ensures .0)
     (c .before .at3 .ensures .0)) ∙ asked-done (stateRefusal (P a) (a .args .element)) _
-    (c .before .before .before .before .before .state-refusal .ensures) (bit (not (unmarkedb (P a) (a .args .element))) ∷ [])
+    (c .before .before .before .before .before .argument-refusal .ensures) (bit (not (unmarkedb (P a) (a .args .element))) ∷ [])
     (c .before .before .before .before .if1 .left)
 
 pub is-element-marked-spec : {M : Type 1} → statement M
@@ -76,7 +78,7 @@ is-element-marked-spec =
     (tie.spec
     cast-n
     cast-count
-    state-refusal-requires
+    argument-refusal-requires
     refusing-flag-requires
     returns
     at-requires

@@ -26,8 +26,8 @@ cast-n c = search needs
 cast-count : tie.Need-cast-count
 cast-count c = search needs
 
-block-refusal-requires : tie.Need-block-refusal-requires
-block-refusal-requires c κs = search needs
+argument-refusal-requires : tie.Need-argument-refusal-requires
+argument-refusal-requires c κs = search needs
 
 refusing-requires : tie.Need-refusing-requires
 refusing-requires c κs = search needs
@@ -35,7 +35,7 @@ refusing-requires c κs = search needs
 returns : tie.Need-returns
 unfolding iterBlockRefusal
 returns c = let a = c .before .before .before .before .before .before .before .before .before .before .before in c .refusing .ensures ∙
-    asked-refused (blockRefusal (P a) (a .args .block-index)) _ (c .before .before .block-refusal .ensures) ([]) (c .before .if1 .taken)
+    asked-refused (blockRefusal (P a) (a .args .block-index)) _ (c .before .before .argument-refusal .ensures) ([]) (c .before .if1 .taken)
 
 finished-requires : tie.Need-finished-requires
 finished-requires c κs = search needs
@@ -43,7 +43,7 @@ finished-requires c κs = search needs
 returns-2 : tie.Need-returns-2
 unfolding iterBlockRefusal
 returns-2 c = let a = c .before .before .before .before .before .before .before .before .before .before .before in c .finished .ensures ∙
-    asked-done (blockRefusal (P a) (a .args .block-index)) _ (c .before .before .block-refusal .ensures) ([]) (c .before .if1 .left)
+    asked-done (blockRefusal (P a) (a .args .block-index)) _ (c .before .before .argument-refusal .ensures) ([]) (c .before .if1 .left)
 
 pub iter-block-refusal-spec : {M : Type 1} → statement M
 iter-block-refusal-spec =
@@ -51,7 +51,7 @@ iter-block-refusal-spec =
     (tie.spec
     cast-n
     cast-count
-    block-refusal-requires
+    argument-refusal-requires
     refusing-requires
     returns
     finished-requires

@@ -1,5 +1,6 @@
 -- `BlockPartition.mark_element` meets its contract.
 use borrow.Author.Needs.{needs}
+use mathlib.Core.Bool.{true}
 use mathlib.Core.Path.{_≡_, refl, sym, ap, _∙_}
 use mathlib.Core.List.{[], _∷_}
 use Rattle.columns.proofs.Saying.{left-refused, left-done}
@@ -7,7 +8,7 @@ use Rattle.partition.specs.Checks.{stateRefusal}
 use Rattle.partition.specs.Partition.{Partition, parts}
 use Rattle.partition.specs.Mark.{mark, markElement}
 use Rattle.partition.proofs.Marks.{markable, mark-done}
-use Rattle.partition.proofs.Refusals.{state-ready}
+use Rattle.partition.proofs.Refusals.{argument-ready}
 use Rattle.partition_calls.proofs.BlockPartition.mark_element.Statement.{statement}
 use Rattle.partition_calls.proofs.BlockPartition.mark_element.Tie as tie
 
@@ -23,8 +24,8 @@ cast-n c = search needs
 cast-count : tie.Need-cast-count
 cast-count c = search needs
 
-state-refusal-requires : tie.Need-state-refusal-requires
-state-refusal-requires c κs = search needs
+argument-refusal-requires : tie.Need-argument-refusal-requires
+argument-refusal-requires c κs = search needs
 
 refusing-requires : tie.Need-refusing-requires
 refusing-requires c κs = search needs
@@ -41,13 +42,14 @@ same-length-3 c = search needs
 returns : tie.Need-returns
 unfolding markElement
 returns c = let a = c .before .before .before .before .before .before .before .before .before .before .before .before .before .before in
-    left-refused (stateRefusal (P a) (a .args .element)) _ (c .before .before .state-refusal .ensures) (P a) (mark (P a) (a .args .element))
+    left-refused (stateRefusal (P a) (a .args .element)) _ (c .before .before .argument-refusal .ensures) (P a)
+    (mark (P a) (a .args .element))
     [] _ (c .before .if1 .taken) (c .refusing .ensures)
 
 mark-element-requires : tie.Need-mark-element-requires
 mark-element-requires c κs = let a =
     c .before .before .before .before .before .before .before .before .before .before .before .before .before .before .before .before in
-    let q = state-ready (P a) (a .args .element) _ (c .before .before .before .before .state-refusal .ensures)
+    let q = argument-ready (P a) (a .args .element) (a .args .self .n) true _ (c .before .before .before .before .argument-refusal .ensures)
     (c .before .before .before .if1 .left) in
     markable (P a) (a .args .element) (q .sound) (q .known)
 
@@ -69,7 +71,7 @@ returns-2 c = let a =
     c .before .before .before .before .before .before .before .before .before .before .before .before .before .before .before .before
     .before .before .before .before .before .before .before .before in
     left-done (stateRefusal (P a) (a .args .element)) _
-    (c .before .before .before .before .before .before .before .before .before .before .before .before .state-refusal .ensures) (P a)
+    (c .before .before .before .before .before .before .before .before .before .before .before .before .argument-refusal .ensures) (P a)
     (mark (P a) (a .args .element)) [] _ _
     (c .before .before .before .before .before .before .before .before .before .before .before .if1 .left) (c .finished .ensures)
     (mark-done (P a) (a .args .element) _
@@ -81,7 +83,7 @@ mark-element-spec =
     (tie.spec
     cast-n
     cast-count
-    state-refusal-requires
+    argument-refusal-requires
     refusing-requires
     same-length
     same-length-2

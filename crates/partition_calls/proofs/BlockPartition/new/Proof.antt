@@ -15,8 +15,8 @@ P a =
     parts (a .args .elements .now) (a .args .element-offset .now) (a .args .element-to-block .now) (a .args .begin .now)
     (a .args .marked-split .now) (a .args .end .now) (a .args .n) 1
 
-new-refusal-requires : tie.Need-new-refusal-requires
-new-refusal-requires c κs = search needs
+size-refusal-requires : tie.Need-size-refusal-requires
+size-refusal-requires c κs = search needs
 
 same-length : tie.Need-same-length
 same-length c = search needs
@@ -39,13 +39,14 @@ same-length-6 c = search needs
 returns : tie.Need-returns
 unfolding newPartition
 returns c = let a = c .before .before .before .before .before .before .before .before .before .before .before .before .before .before in
-    left-refused (newRefusal (P a)) _ (c .before .new-refusal .ensures) (P a) (fresh (P a)) (a .args .n ∷ 1 ∷ []) _ (c .if1 .taken) refl
+    left-refused (newRefusal (P a)) _ (c .before .size-refusal .ensures) (P a) (fresh (P a)) (a .args .n ∷ 1 ∷ []) _ (c .if1 .taken) refl
 
 new-requires : tie.Need-new-requires
+unfolding newRefusal
 new-requires c κs = let a =
     c .before .before .before .before .before .before .before .before .before .before .before .before .before .before .before .before
     .before .before .before .before in
-    let q = new-ready (P a) _ (c .before .before .before .before .before .before .before .new-refusal .ensures)
+    let q = new-ready (P a) _ (c .before .before .before .before .before .before .before .size-refusal .ensures)
     (c .before .before .before .before .before .before .if1 .left) in
     (q .long, (q .some, q .small))
 
@@ -74,7 +75,7 @@ returns-2 c = let a =
     .before .before .before .before .before .before .before .before .before .before .before .before .before .before .before .before .before
     in left-done (newRefusal (P a)) _
     (c .before .before .before .before .before .before .before .before .before .before .before .before .before .before .before .before
-    .before .before .before .before .new-refusal .ensures) (P a) (fresh (P a)) (a .args .n ∷ 1 ∷ []) _ _
+    .before .before .before .before .size-refusal .ensures) (P a) (fresh (P a)) (a .args .n ∷ 1 ∷ []) _ _
     (c .before .before .before .before .before .before .before .before .before .before .before .before .before .before .before .before
     .before .before .before .if1 .left) refl
     (c .before .before .before .before .before .before .before .before .before .before .before .before .new .ensures)
@@ -83,7 +84,7 @@ pub new-spec : {M : Type 1} → statement M
 new-spec =
     tie.close
     (tie.spec
-    new-refusal-requires
+    size-refusal-requires
     same-length
     same-length-2
     same-length-3

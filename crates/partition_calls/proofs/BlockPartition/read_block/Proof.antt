@@ -1,5 +1,6 @@
 -- `BlockPartition.read_block` meets its contract.
 use borrow.Author.Needs.{needs}
+use mathlib.Core.Bool.{true}
 use mathlib.Core.Path.{_≡_, refl, sym, ap, _∙_}
 use native.Mathlib.Omega.{arith}
 use mathlib.Core.List.{[], _∷_}
@@ -11,7 +12,7 @@ use Rattle.partition.specs.Block.{blockValues}
 use Rattle.partition.specs.declared.block.Block.{Block}
 use Rattle.partition.specs.Partition.{Partition, parts}
 use Rattle.partition.specs.Readers.{readBlock}
-use Rattle.partition.proofs.Refusals.{block-ready}
+use Rattle.partition.proofs.Refusals.{argument-ready}
 use mathlib.Core.List.{List}
 use Prim.Native.Nat.{ℕ}
 use Rattle.partition_calls.proofs.BlockPartition.read_block.Statement.{statement}
@@ -34,24 +35,25 @@ cast-n c = search needs
 cast-count : tie.Need-cast-count
 cast-count c = search needs
 
-block-refusal-requires : tie.Need-block-refusal-requires
-block-refusal-requires c κs = search needs
+argument-refusal-requires : tie.Need-argument-refusal-requires
+argument-refusal-requires c κs = search needs
 
 returns : tie.Need-returns
 unfolding readBlock
 returns c = let a = c .before .before .before .before .before .before .before .before .before .before in
-    asked-refused (blockRefusal (P a) (a .args .block-index)) _ (c .before .block-refusal .ensures) (values a) (c .if1 .taken)
+    asked-refused (blockRefusal (P a) (a .args .block-index)) _ (c .before .argument-refusal .ensures) (values a) (c .if1 .taken)
 
 read-block-requires : tie.Need-read-block-requires
 read-block-requires c κs = let a = c .before .before .before .before .before .before .before .before .before .before in
-    let q = block-ready (P a) (a .args .block-index) _ (c .before .block-refusal .ensures) (c .if1 .left) in
+    let q = argument-ready (P a) (a .args .block-index) (a .args .self .count) true _ (c .before .argument-refusal .ensures)
+    (c .if1 .left) in
     omega (arith, q .known, q .sound .consistent .most, q .sound .long .begin, q .sound .long .marked-split, q .sound .long .end)
 
 returns-2 : tie.Need-returns-2
 unfolding readBlock
 returns-2 c = let a = c .before .before .before .before .before .before .before .before .before .before .before in
     ap (λ (b : Block). done (blockValues b)) (c .read-block .ensures) ∙
-    asked-done (blockRefusal (P a) (a .args .block-index)) _ (c .before .before .block-refusal .ensures) (values a)
+    asked-done (blockRefusal (P a) (a .args .block-index)) _ (c .before .before .argument-refusal .ensures) (values a)
     (c .before .if1 .left)
 
 pub read-block-spec : {M : Type 1} → statement M
@@ -60,7 +62,7 @@ read-block-spec =
     (tie.spec
     cast-n
     cast-count
-    block-refusal-requires
+    argument-refusal-requires
     returns
     read-block-requires
     returns-2)

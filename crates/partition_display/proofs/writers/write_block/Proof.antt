@@ -3,17 +3,17 @@ use borrow.Author.Needs.{needs}
 use Prim.Native.Nat.{_+_, _-_}
 use mathlib.Core.Path.{_≡_, _∙_}
 use native.Mathlib.Omega.{arith}
-use Rattle.partition_display.proofs.Writes.{Joining, joined-none, joined-more, joined-done, wrote-length}
+use Rattle.partition_display.proofs.Writes.{Joining, separated-none, separated-more, separated-done, wrote-length}
 use Rattle.partition_display.specs.Display.{elementText, blockText}
 use Rattle.partition_display.proofs.writers.write_block.Statement.{statement}
 use Rattle.partition_display.proofs.writers.write_block.Tie as tie
 
 abbrev Inv-loop : tie.InvT-loop
-Inv-loop text₀ at elements from split to size next₀ i₀ text next i =
+Inv-loop elements from split to text₀ at size next₀ i₀ text next i =
     Joining (λ k. elementText elements split (from + k)) 7 size text₀ next₀ text next i
 
 abbrev μ-loop : tie.MeasureT-loop
-μ-loop text₀ at elements from split to size next₀ i₀ text next i = size - i
+μ-loop elements from split to text₀ at size next₀ i₀ text next i = size - i
 
 sub-size : tie.Need-sub-size Inv-loop μ-loop
 sub-size c = search needs
@@ -22,7 +22,7 @@ write-byte-requires : tie.Need-write-byte-requires Inv-loop μ-loop
 write-byte-requires c κs = search needs
 
 loop-holds : tie.Need-loop-holds Inv-loop μ-loop
-loop-holds c = (omega arith, (omega arith, joined-none _ _ _))
+loop-holds c = (omega arith, (omega arith, separated-none _ _ _))
 
 write-separator-requires : tie.Need-write-separator-requires Inv-loop μ-loop
 write-separator-requires c κs = search needs
@@ -44,7 +44,7 @@ loop-again c = (
   omega arith,
   (
     omega arith,
-    joined-more _ _ (c .before .before .before .before .before .before .before .before .before .loop .inv .1 .1)
+    separated-more _ _ (c .before .before .before .before .before .before .before .before .before .loop .inv .1 .1)
         (c .before .before .before .before .before .before .write-separator .ensures .0) (c .before .before .write-element .ensures .0),
   ),
 )
@@ -61,7 +61,7 @@ returns : tie.Need-returns Inv-loop μ-loop
 unfolding blockText
 returns c = let a = c .before .before .before .before .before .before .before .before .before .before .before .before in
     let e : c .before .before .before .before .before .loop .i ≡ a .args .to - a .args .from = omega arith in (
-      joined-done _ _ _ (c .before .before .before .before .before .before .before .before .write-byte .ensures .0)
+      separated-done _ _ _ (c .before .before .before .before .before .before .before .before .write-byte .ensures .0)
           (c .before .before .before .before .before .loop .inv .1 .1) (c .before .before .write-byte2 .ensures .0) e,
       omega arith,
     )

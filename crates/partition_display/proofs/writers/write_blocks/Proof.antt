@@ -5,7 +5,7 @@ use Prim.Native.Nat.{_+_, _*_, _-_}
 use mathlib.Core.Path.{_≡_, _∙_}
 use native.Mathlib.Omega.{arith}
 use lib.ListN.{getD}
-use Rattle.partition_display.proofs.Writes.{Joining, joined-none, joined-more, joined-done, wrote-length}
+use Rattle.partition_display.proofs.Writes.{Joining, separated-none, separated-more, separated-done, wrote-length}
 use Rattle.partition_display.specs.Display.{blockText, blocksText}
 use Rattle.partition_display.proofs.writers.write_blocks.Statement.{statement}
 use Rattle.partition_display.proofs.writers.write_blocks.Tie as tie
@@ -21,7 +21,7 @@ write-byte-requires : tie.Need-write-byte-requires Inv-loop μ-loop
 write-byte-requires c κs = search needs
 
 loop-holds : tie.Need-loop-holds Inv-loop μ-loop
-loop-holds c = (omega arith, (omega arith, joined-none _ _ _))
+loop-holds c = (omega arith, (omega arith, separated-none _ _ _))
 
 at-requires : tie.Need-at-requires Inv-loop μ-loop
 at-requires c κs = search needs
@@ -53,7 +53,7 @@ loop-again c = (
   omega arith,
   (
     omega arith,
-    joined-more _ _ (c .before .before .before .before .before .before .before .before .before .before .before .before .loop .inv .1 .1)
+    separated-more _ _ (c .before .before .before .before .before .before .before .before .before .before .before .before .loop .inv .1 .1)
         (c .before .before .before .before .before .before .write-separator .ensures .0)
         (rw (
           c .before .before .before .before .before .before .before .before .before .before .at .ensures .0,
@@ -77,7 +77,7 @@ unfolding blocksText
 returns c = let a =
     c .before .before .before .before .before .before .before .before .before .before .before .before .before .before .before in
     let e : c .before .before .before .before .before .loop .b ≡ a .args .count = omega arith in
-    joined-done _ _ _ (c .before .before .before .before .before .before .before .before .write-byte .ensures .0)
+    separated-done _ _ _ (c .before .before .before .before .before .before .before .before .write-byte .ensures .0)
     (c .before .before .before .before .before .loop .inv .1 .1) (c .before .before .write-byte2 .ensures .0) e
 
 pub write-blocks-spec : {M : Type 1} → statement M

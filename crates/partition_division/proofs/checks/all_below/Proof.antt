@@ -9,14 +9,14 @@ use lib.ListN.{length, getD, set, length-set}
 use lib.Dec.{eqb, ltb}
 use Rattle.columns.specs.Tests.{all}
 use Rattle.columns.proofs.All.{all-none, all-more, all-fails, all-done}
-use Rattle.partition_division.specs.Marked.{chosen}
+use Rattle.partition_division.specs.Marked.{markedFrom}
 use borrow.Author.Tests.{eq-eqb, ne-eqb, not-true, not-false, lt-ltb, le-ltb}
 use Rattle.partition_division.proofs.checks.all_below.Statement.{statement}
 use Rattle.partition_division.proofs.checks.all_below.Tie as tie
 
 abbrev Inv-loop : tie.InvT-loop
 Inv-loop n offset block b m k numbers s₀ s = (s ≤ n) ×
-    (all s (λ s. cond (chosen offset block b m s) (ltb (getD numbers s 0) k) true) ≡ true)
+    (all s (λ s. cond (markedFrom offset block b m s) (ltb (getD numbers s 0) k) true) ≡ true)
 
 abbrev μ-loop : tie.MeasureT-loop
 μ-loop n offset block b m k numbers s₀ s = n - s
@@ -29,7 +29,7 @@ below-at-requires c κs = omega arith
 
 returns : tie.Need-returns Inv-loop μ-loop
 returns c = let a = c .before .before .before .before .before .before .before .args in
-    sym (all-fails (λ s. cond (chosen (a .element-offset .now) (a .element-to-block .now) (a .b) (a .m) s)
+    sym (all-fails (λ s. cond (markedFrom (a .element-offset .now) (a .element-to-block .now) (a .b) (a .m) s)
     (ltb (getD (a .numbers .now) s 0) (a .k)) true) (a .n) (c .before .before .before .loop .s) (c .before .before .loop-test .taken)
     (sym (c .before .below-at .ensures) ∙ not-true _ (c .if1 .taken)))
 
@@ -42,14 +42,14 @@ loop-less c = omega arith
 loop-again : tie.Need-loop-again Inv-loop μ-loop
 loop-again c = let a = c .before .before .before .before .before .before .before .args in (
   omega arith,
-  all-more (λ s. cond (chosen (a .element-offset .now) (a .element-to-block .now) (a .b) (a .m) s)
+  all-more (λ s. cond (markedFrom (a .element-offset .now) (a .element-to-block .now) (a .b) (a .m) s)
       (ltb (getD (a .numbers .now) s 0) (a .k)) true) (c .before .before .before .loop .s) (c .before .before .before .loop .inv .1)
       (sym (c .before .below-at .ensures) ∙ not-false _ (c .if1 .left)),
 )
 
 returns-2 : tie.Need-returns-2 Inv-loop μ-loop
 returns-2 c = let a = c .before .before .before .before .before .args in
-    all-done (λ s. cond (chosen (a .element-offset .now) (a .element-to-block .now) (a .b) (a .m) s)
+    all-done (λ s. cond (markedFrom (a .element-offset .now) (a .element-to-block .now) (a .b) (a .m) s)
     (ltb (getD (a .numbers .now) s 0) (a .k)) true) (c .before .loop .s) (a .n) (c .before .loop .inv .1) (omega arith)
 
 pub all-below-spec : {M : Type 1} → statement M

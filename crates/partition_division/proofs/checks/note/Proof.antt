@@ -7,8 +7,8 @@ use mathlib.Core.Logic.{_⊎_, inl, inr, ⊎-elim}
 use mathlib.Core.List.{List}
 use lib.ListN.{length, getD, set, length-set}
 use lib.Dec.{eqb, ltb}
-use Rattle.partition_division.specs.Marked.{chosen}
-use Rattle.partition_passes.specs.Passes.{held}
+use Rattle.partition_division.specs.Marked.{markedFrom}
+use Rattle.partition_passes.specs.Invariants.{tallied}
 use Rattle.partition_division.proofs.Noting.{noted-none, noted-pass, noted-more}
 use borrow.Author.Tests.{eq-eqb, ne-eqb, not-true, not-false, lt-ltb, le-ltb}
 use Rattle.partition_division.proofs.checks.note.Statement.{statement}
@@ -17,7 +17,7 @@ use Rattle.partition_division.proofs.checks.note.Tie as tie
 abbrev Inv-loop : tie.InvT-loop
 Inv-loop n offset block b m numbers seen₀ s₀ seen s =
     (s ≤ n) × ((length seen ≡ length seen₀) × ((k : ℕ) → k < n →
-    eqb (getD seen k 0) 0 ≡ eqb (held (chosen offset block b m) (λ s. getD numbers s 0) s k) 0))
+    eqb (getD seen k 0) 0 ≡ eqb (tallied (markedFrom offset block b m) (λ s. getD numbers s 0) s k) 0))
 
 abbrev μ-loop : tie.MeasureT-loop
 μ-loop n offset block b m numbers seen₀ s₀ seen s = n - s
@@ -32,8 +32,8 @@ loop-holds c = (
   ),
 )
 
-is-chosen-requires : tie.Need-is-chosen-requires Inv-loop μ-loop
-is-chosen-requires c κs = omega arith
+is-marked-requires : tie.Need-is-marked-requires Inv-loop μ-loop
+is-marked-requires c κs = omega arith
 
 at-requires : tie.Need-at-requires Inv-loop μ-loop
 at-requires c κs = omega arith
@@ -56,11 +56,11 @@ loop-again c =
     let a = c .before .before .before .before .before .before .before .before in
     let i = c .before .before .before .loop .inv in
     let s = c .before .before .before .loop .s in
-    let F = chosen (a .args .element-offset .now) (a .args .element-to-block .now) (a .args .b) (a .args .m) in
+    let F = markedFrom (a .args .element-offset .now) (a .args .element-to-block .now) (a .args .b) (a .args .m) in
     let W : ℕ → ℕ = λ s. getD (a .args .numbers .now) s 0 in
     ⊎-elim
     (λ w.
-    let y : F s ≡ true = sym (c .before .is-chosen .ensures) ∙ w .0 .taken in (
+    let y : F s ≡ true = sym (c .before .is-marked .ensures) ∙ w .0 .taken in (
       omega arith,
       (
         ap length (w .6) ∙ w .3 .kept .1 .1 .0 ∙ i .1 .0,
@@ -69,7 +69,7 @@ loop-again c =
       ),
     ))
     (λ w.
-    let y : F s ≡ false = sym (c .before .is-chosen .ensures) ∙ w .0 .left in (
+    let y : F s ≡ false = sym (c .before .is-marked .ensures) ∙ w .0 .left in (
       omega arith,
       (
         ap length (w .1) ∙ i .1 .0,
@@ -87,7 +87,7 @@ returns c = λ k w.
     let a = c .before .before .before .before .before .before .args in
     let e : c .before .loop .s ≡ a .n = omega arith in
     c .before .loop .inv .1 .1 k w ∙ ap (λ (y : ℕ). eqb
-    (held (chosen (a .element-offset .now) (a .element-to-block .now) (a .b) (a .m)) (λ s. getD (a .numbers .now) s 0) y k) 0) e
+    (tallied (markedFrom (a .element-offset .now) (a .element-to-block .now) (a .b) (a .m)) (λ s. getD (a .numbers .now) s 0) y k) 0) e
 
 pub note-spec : {M : Type 1} → statement M
 note-spec =
@@ -96,7 +96,7 @@ note-spec =
     Inv-loop
     μ-loop
     loop-holds
-    is-chosen-requires
+    is-marked-requires
     at-requires
     note-one-requires
     add-s

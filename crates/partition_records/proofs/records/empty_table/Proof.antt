@@ -1,6 +1,6 @@
 -- `partition_records::records::empty_table` meets its contract.
 use borrow.Author.Needs.{needs}
-use Rattle.partition_records.specs.Records.{blank}
+use Rattle.partition_records.specs.Tables.{blank}
 use Rattle.partition_records.proofs.records.empty_table.Statement.{statement}
 use Rattle.partition_records.proofs.records.empty_table.Tie as tie
 

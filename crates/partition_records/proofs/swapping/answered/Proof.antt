@@ -3,7 +3,7 @@ use borrow.Author.Needs.{needs}
 use mathlib.Core.Path.{refl, ap, sym}
 use Rattle.columns.specs.declared.answers.Outcome.{Outcome}
 use Rattle.columns.specs.Answers.{saidOutcome}
-use Rattle.partition_records.specs.Records.{went}
+use Rattle.partition_records.specs.Tables.{went}
 use Rattle.partition_records.proofs.swapping.answered.Statement.{statement}
 use Rattle.partition_records.proofs.swapping.answered.Tie as tie
 

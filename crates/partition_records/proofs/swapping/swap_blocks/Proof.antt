@@ -66,10 +66,11 @@ use Rattle.partition.proofs.block.Block.Laws as T′
 use Rattle.partition_calls.specs.declared.BlockPartition.{BlockPartition}
 use Rattle.partition_calls.proofs.BlockPartition as G
 use Rattle.partition_calls.proofs.BlockPartition.Laws as G′
-use Rattle.partition_records.specs.Records.{noBlock, blank, exchanged, went, swapNumbers}
+use Rattle.partition_records.specs.Records.{noBlock, exchanged}
+use Rattle.partition_records.specs.Tables.{blank, went, swapNumbers}
 use Rattle.partition_records.specs.declared.swapping.Swapped.{Swapped}
 use Rattle.partition_records.proofs.Agreeing.{both-within, records-left}
-use Rattle.partition_records.proofs.Fields.{laid, length-laid, laid-front, laid-more}
+use Rattle.partition_records.proofs.Fields.{laidRecords, length-laid, laid-front, laid-more}
 use Rattle.partition_records.proofs.Shared.{R, Tab, table, block-val, table-vals, table-tells, is-table, ref-at}
 use Rattle.partition_records.proofs.Shared.{block-typed, table-typed, var, sets, resets}
 use Rattle.partition_records.proofs.Shared.{record-out, record-put, slot-row, row-slot, answers}
@@ -133,7 +134,7 @@ module _ {M : Type 1} (𝓤 : URA M) (H : Heap 𝓤) (A : Atoms 𝓤) (W : Given
       At ys i = ‵ (row R fullShare ys l₉ 0) ∷ ‵ (fat fullShare word l₁₀ 0 (vint w64 i)) ∷ Rest
 
       abbrev Copied : ℕ → ℕ → Fml
-      Copied t i = fsep (feq ℕ (i + t) m) (fsep (row R fullShare (laid xs ts i) l₉ 0) (fat fullShare word l₁₀ 0 (vint w64 i)))
+      Copied t i = fsep (feq ℕ (i + t) m) (fsep (row R fullShare (laidRecords xs ts i) l₉ 0) (fat fullShare word l₁₀ 0 (vint w64 i)))
 
       abbrev Inv : ℕ → List (Item 𝓤)
       Inv t = ‵ (fex ℕ (Copied t)) ∷ Rest
@@ -143,7 +144,7 @@ module _ {M : Type 1} (𝓤 : URA M) (H : Heap 𝓤) (A : Atoms 𝓤) (W : Given
       Left = anyQ (afterBlock 𝓤 H (afterSeq 𝓤 H (Wp 𝓤 H (𝓣 .C) (𝓣 .Λ) E code-mir.t-7 (atReturn 𝓤 H E Post)) (atReturn 𝓤 H E Post)))
 
       abbrev Then : Type 1
-      Then = (i : ℕ) → i ≡ m → Sq W (At (laid xs ts i) i) (runs (𝓣 .C) (𝓣 .Λ) E code-mir.t-7 (atRet E Post))
+      Then = (i : ℕ) → i ≡ m → Sq W (At (laidRecords xs ts i) i) (runs (𝓣 .C) (𝓣 .Λ) E code-mir.t-7 (atRet E Post))
 
       turn : Then → (t : ℕ) → Sq W (Inv t) (runs (𝓣 .C) (𝓣 .Λ) E code-mir.turn-1 (anyQ (afterTurn 𝓤 H (Below 𝓤 H A _<_ Inv t) (Kit.post 𝓤 H
           Left))))
@@ -174,11 +175,11 @@ module _ {M : Type 1} (𝓤 : URA M) (H : Heap 𝓤) (A : Atoms 𝓤) (W : Given
           sets ! 8 (addr ! (from ! (stop !))) refl (tt, tt) $
           sets ! 9 (bin ! (var ! 8 refl) (var ! 7 refl) tt) refl (tt, tt) $
           rewrite ! 9 (λ (p : ℕ). ‵ (fat fullShare tyPtr l₂₃ 0 (vptr l₉ p))) (sym (place-is 6 0 i)) refl $
-          move ! (1 ∷ []) $ record-out ! (laid xs ts i) i l₉ 0 (room-at i e) (λ _.
+          move ! (1 ∷ []) $ record-out ! (laidRecords xs ts i) i l₉ 0 (room-at i e) (λ _.
           -- [table[i]; what it owns; the others; the row; _10; _17; _18; _19; _20; _21; _22; _23; …]
           assigns ! (of-opd ! (var ! 8 refl)) (from ! (hop ! (look ! 11 refl) (stop !))) (store-raw ! 0 refl (block-typed 𝓤 H A W
           (getD xs i noBlock) _ g)) $
-          record-put ! (laid xs ts i) i (getD xs i noBlock) l₉ 0 (room-at i e) g $
+          record-put ! (laidRecords xs ts i) i (getD xs i noBlock) l₉ 0 (room-at i e) g $
           rewrite ! 0 (λ (ys : List Block). ‵ (row R fullShare ys l₉ 0)) (laid-more xs ts i (within i e) (small i e)) refl $
           assigns-last ! (bin ! (var ! 2 refl) (lit ! tt) (record { fits = next-fits i e })) (from ! (stop !)) (store ! 2 refl
           (tt, record { fits = next-fits i e })) $
@@ -204,7 +205,7 @@ module _ {M : Type 1} (𝓤 : URA M) (H : Heap 𝓤) (A : Atoms 𝓤) (W : Given
           next-fits : (i : ℕ) → i + suc t ≡ m → i + 1 < 2 ^ 64
           next-fits i e = omega arith
 
-          room-at : (i : ℕ) → i + suc t ≡ m → i < length (laid xs ts i)
+          room-at : (i : ℕ) → i + suc t ≡ m → i < length (laidRecords xs ts i)
           room-at i e = omega (arith, small i e, length-laid xs ts i (omega arith) (omega arith))
 
       copies : Then → Sq W (At ts 0) (runs (𝓣 .C) (𝓣 .Λ) E code-mir.t-6 (atRet E Post))
@@ -366,11 +367,11 @@ module _ {M : Type 1} (𝓤 : URA M) (H : Heap 𝓤) (A : Atoms 𝓤) (W : Given
   within t m r zs h et d = both-within es os ls xs (p .n) (p .count) a b m (h .0) (h .2) t et (said (r .answer)) zs (d .0) (r .go) (d .1)
 
   -- what the loop leaves
-  full : (m : ℕ) (ts : List Block) (i : ℕ) → Limited m → length ts ≡ maxStates → i ≡ m → length (laid xs ts i) ≡ maxStates
+  full : (m : ℕ) (ts : List Block) (i : ℕ) → Limited m → length ts ≡ maxStates → i ≡ m → length (laidRecords xs ts i) ≡ maxStates
   full m ts i h long e = length-laid xs ts i (omega (arith, h .0)) (omega (arith, h .1)) ∙ long
 
-  front : (m : ℕ) (ts : List Block) (i : ℕ) → Limited m → i ≡ m → take m (laid xs ts i) ≡ take m xs
-  front m ts i h e = subst (λ (k : ℕ). take k (laid xs ts i) ≡ take k xs) e (laid-front xs ts i (omega (arith, h .0)))
+  front : (m : ℕ) (ts : List Block) (i : ℕ) → Limited m → i ≡ m → take m (laidRecords xs ts i) ≡ take m xs
+  front m ts i h e = subst (λ (k : ℕ). take k (laidRecords xs ts i) ≡ take k xs) e (laid-front xs ts i (omega (arith, h .0)))
 
   -- ---- what each call binds outside, and what it asks
   abbrev to-limit : Limit 𝓤 H A at-mem run .Ghost
@@ -495,21 +496,22 @@ module _ {M : Type 1} (𝓤 : URA M) (H : Heap 𝓤) (A : Atoms 𝓤) (W : Given
         move ! (0 ∷ 51 ∷ 1 ∷ 37 ∷ 35 ∷ 33 ∷ 31 ∷ 29 ∷ 27 ∷ 25 ∷ 60 ∷ 54 ∷ []) $
         copies 𝓤 H A W 𝓣 Post xs b₃ o₃ gB _ l₀ l₁ l₂ l₃ l₄ l₅ l₆ l₇ l₈ l₉ l₁₀ l₁₁ l₁₂ l₁₃ l₁₄ l₁₅ l₁₆ l₁₇ l₁₈ l₁₉ l₂₀ l₂₁ l₂₂ l₂₃ l₂₄ l₂₅
         l₂₆ l₂₇ l₂₈ l₂₉ l₃₀ l₃₁ l₃₂ l₃₃ ts m (e₁ .0) (e₁ .1) long (λ i ei.
-        row-slot ! (laid xs ts i) l₉ (full m ts i e₁ long ei) (λ is₃.
+        row-slot ! (laidRecords xs ts i) l₉ (full m ts i e₁ long ei) (λ is₃.
         -- the column form on the table by value
         sets ! 33 (addr ! (from ! (fld ! refl (hop ! (look-in ! 62 (sub ! 0 refl (whole !))) (stop !))))) refl (tt, tt) $
         sets ! 31 (agg ! (and-then ! (var ! 33 refl) (and-then ! (load ! (from ! (fld ! refl (stop !))) (look-in ! 62 (sub ! 1 refl
         (whole !)))) (no-more !)))) refl (tt, (tt, (record { fits = gL .0 }, tt))) $
-        resets ! 42 (of-opd ! (var ! 0 refl)) refl (table-typed 𝓤 H A W (laid xs ts i) _ is₃) $
+        resets ! 42 (of-opd ! (var ! 0 refl)) refl (table-typed 𝓤 H A W (laidRecords xs ts i) _ is₃) $
         move ! (74 ∷ 73 ∷ 72 ∷ 77 ∷ 76 ∷ 75 ∷ []) $ join ! $ join ! $ join ! $ join ! $ join ! $
-        use1 W (raw (SwapOn 𝓤 H A at-mem run .pre (to-swap (laid xs ts i) m))) (goes-swap (laid xs ts i) m is₃ (is₁ .1) (e₁ .1)) $
-        calls-at ! fm (SwapOn 𝓤 H A at-mem run) known-swap (to-swap (laid xs ts i) m)
+        use1 W (raw (SwapOn 𝓤 H A at-mem run .pre (to-swap (laidRecords xs ts i) m)))
+        (goes-swap (laidRecords xs ts i) m is₃ (is₁ .1) (e₁ .1)) $
+        calls-at ! fm (SwapOn 𝓤 H A at-mem run) known-swap (to-swap (laidRecords xs ts i) m)
         (and-then ! (var ! 69 refl) (and-then ! (var ! 67 refl) (and-then ! (var ! 65 refl) (and-then ! (var ! 32 refl)
         (and-then ! (var ! 43 refl) (and-then ! (var ! 12 refl) (and-then ! (var ! 60 refl) (and-then ! (var ! 58 refl) (no-more !)))))))))
         (λ w₄.
         answers ! tt U.the-row (‵ (flft κ₀ q₀) ⊛ ‵ (flft κ₁ q₁) ⊛ ‵ (flft κ₂ q₂) ⊛ ‵ ftrue)
-        (λ ws. ‵ (lasts swap-table.ended (κ₀, (κ₁, (κ₂, tt))) (swap-args (laid xs ts i) m) ws))
-        (λ r ws. Swaps (laid xs ts i) m r (ws .1 .1 .1 .0)) w₄ (λ r ws is₄ e₄.
+        (λ ws. ‵ (lasts swap-table.ended (κ₀, (κ₁, (κ₂, tt))) (swap-args (laidRecords xs ts i) m) ws))
+        (λ r ws. Swaps (laidRecords xs ts i) m r (ws .1 .1 .1 .0)) w₄ (λ r ws is₄ e₄.
         fsplit ! $ drop ! $ fsplit ! $ drop ! $ fsplit ! $ drop ! $ fsplit ! $ fsplit ! $ move ! (1 ∷ []) $ feqL ! (λ long₄.
         move ! (1 ∷ []) $ drop ! $
         land ! (from ! (stop !)) (init ! 54 refl (LL.lawful U.the-type U′.the-laws 𝓤 H A W .typed r _ is₄ .0)) $
@@ -518,7 +520,7 @@ module _ {M : Type 1} (𝓤 : URA M) (H : Heap 𝓤) (A : Atoms 𝓤) (W : Given
         -- the records are exchanged where it was done
         move ! (4 ∷ 17 ∷ 19 ∷ 21 ∷ 23 ∷ 25 ∷ 27 ∷ 29 ∷ 31 ∷ 48 ∷ 50 ∷ 52 ∷ 59 ∷ 61 ∷ 12 ∷ []) $
         swaps 𝓤 H A W 𝓣 Post xs b₃ o₃ gB _ l₀ l₁ l₂ l₃ l₄ l₅ l₆ l₇ l₈ l₉ l₁₀ l₁₁ l₁₂ l₁₃ l₁₄ l₁₅ l₁₆ l₁₇ l₁₈ l₁₉ l₂₀ l₂₁ l₂₂ l₂₃ l₂₄ l₂₅
-        l₂₆ l₂₇ l₂₈ l₂₉ l₃₀ l₃₁ l₃₂ l₃₃ a b ga gb (r .go) (within (laid xs ts i) m r (ws .1 .1 .1 .0) e₁ (front m ts i e₁ ei) e₄)
+        l₂₆ l₂₇ l₂₈ l₂₉ l₃₀ l₃₁ l₃₂ l₃₃ a b ga gb (r .go) (within (laidRecords xs ts i) m r (ws .1 .1 .1 .0) e₁ (front m ts i e₁ ei) e₄)
         (λ us lu eu.
         -- the borrow is closed at them
         sets ! 72 (of-opd ! (load ! (from ! (fld ! refl (stop !))) (look-in ! 56 (sub ! 0 refl (whole !))))) refl
@@ -537,7 +539,7 @@ module _ {M : Type 1} (𝓤 : URA M) (H : Heap 𝓤) (A : Atoms 𝓤) (W : Given
         free1 ! $ move ! (10 ∷ 20 ∷ []) $ free1 ! $ move ! (9 ∷ 18 ∷ []) $ free1 ! $ move ! (8 ∷ 16 ∷ []) $ free1 ! $ move ! (7 ∷ 14 ∷ []) $
         free1 ! $ move ! (6 ∷ 12 ∷ []) $ free1 ! $ move ! (5 ∷ 10 ∷ []) $ free1 ! $ move ! (4 ∷ 8 ∷ []) $ free1 ! $ move ! (3 ∷ 6 ∷ []) $
         free1 ! $ free0 ! $
-        keep ! (4 ∷ 2 ∷ 3 ∷ 0 ∷ 1 ∷ []) $ by ! (exits (laid xs ts i) m r (ws .1 .1 .1 .0) us e₁ (front m ts i e₁ ei) e₄ eu long₄ lu
+        keep ! (4 ∷ 2 ∷ 3 ∷ 0 ∷ 1 ∷ []) $ by ! (exits (laidRecords xs ts i) m r (ws .1 .1 .1 .0) us e₁ (front m ts i e₁ ei) e₄ eu long₄ lu
         (answer-is r _ is₄)))))))))))))))))))))))))))))))))))))))))))))))
 
 swap-blocks-meets : {M : Type 1} (𝓤 : URA M) (H : Heap 𝓤) (A : Atoms 𝓤) → Given 𝓤 H A →

@@ -61,7 +61,8 @@ use Rattle.partition.proofs.block.Block.Laws as T′
 use Rattle.partition_calls.specs.declared.BlockPartition.{BlockPartition}
 use Rattle.partition_calls.proofs.BlockPartition as G
 use Rattle.partition_calls.proofs.BlockPartition.Laws as G′
-use Rattle.partition_records.specs.Records.{swapRecords, swapFirst}
+use Rattle.partition_records.specs.Records.{swapRecords}
+use Rattle.partition_records.specs.Tables.{swapFirst}
 use Rattle.partition_records.specs.declared.swapping.SwappedTable.{SwappedTable}
 use Rattle.partition_records.proofs.Shared.{R, Tab, table, table-vals, table-val, table-tells, ref-at, table-typed}
 use Rattle.partition_records.proofs.Shared.{var, sets, slot-row, row-slot, answers}

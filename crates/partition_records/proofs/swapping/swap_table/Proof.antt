@@ -4,7 +4,7 @@ use mathlib.Core.Path.{sym, ap, _∙_}
 use lib.Seq.{length-take-le}
 use Rattle.columns.specs.declared.answers.Answer.{Answer}
 use Rattle.columns.specs.Answers.{said}
-use Rattle.partition_records.specs.Records.{went}
+use Rattle.partition_records.specs.Tables.{went}
 use Rattle.partition_records.proofs.Agreeing.{numbers-left}
 use Rattle.partition_records.proofs.swapping.swap_table.Statement.{statement}
 use Rattle.partition_records.proofs.swapping.swap_table.Tie as tie

@@ -6,7 +6,8 @@ use mathlib.Core.Path.{_≡_, ap, _∙_}
 use lib.ListN.{length, length-set, length-replicate}
 use Rattle.columns.specs.Limits.{maxStates}
 use Rattle.partition.specs.declared.block.Block.{Block}
-use Rattle.partition_records.specs.Records.{blank, noBlock}
+use Rattle.partition_records.specs.Records.{noBlock}
+use Rattle.partition_records.specs.Tables.{blank}
 use Rattle.replay_calls.proofs.records.table_of.Statement.{statement}
 use Rattle.replay_calls.proofs.records.table_of.Tie as tie
 

@@ -10,11 +10,11 @@ use Rattle.replay_lines.proofs.output.byte_cells.Statement.{statement}
 use Rattle.replay_lines.proofs.output.byte_cells.Tie as tie
 
 abbrev Inv-loop : tie.InvT-loop
-Inv-loop out₀ used cells count at₀ i₀ out at i = (i ≤ length cells) × (i ≤ count) ×
+Inv-loop cells count out₀ used at₀ i₀ out at i = (i ≤ length cells) × (i ≤ count) ×
     ((at, out) ≡ puts (spelledAll (take i cells)) (used, out₀))
 
 abbrev μ-loop : tie.MeasureT-loop
-μ-loop out₀ used cells count at₀ i₀ out at i = length cells - i
+μ-loop cells count out₀ used at₀ i₀ out at i = length cells - i
 
 loop-holds : tie.Need-loop-holds Inv-loop μ-loop
 loop-holds c = (search needs, search needs, listed-none)
@@ -44,7 +44,7 @@ loop-again c = (
   search needs,
   listed-turn (c .before .before .before .before .before .before .before .before .args .cells .now)
       (c .before .before .before .before .before .before .loop .i) _ (c .before .before .before .before .before .before .loop .inv .2)
-      (puts-as _ _ _ (c .number .ensures) (ap spelled (c .before .widest .ensures))) (search needs),
+      (puts-as _ _ _ (c .number .ensures) (ap spelled (c .before .before .widest .ensures))) (search needs),
 )
 
 returns-2 : tie.Need-returns-2 Inv-loop μ-loop

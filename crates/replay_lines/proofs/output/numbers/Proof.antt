@@ -10,16 +10,16 @@ use Rattle.replay_lines.proofs.output.numbers.Statement.{statement}
 use Rattle.replay_lines.proofs.output.numbers.Tie as tie
 
 abbrev Inv-loop : tie.InvT-loop
-Inv-loop out₀ used count numbers at₀ i₀ out at i = (i ≤ 6) × (i ≤ count) × ((at, out) ≡ puts (spelledAll (take i numbers)) (used, out₀))
+Inv-loop count out₀ used numbers at₀ i₀ out at i = (i ≤ 6) × (i ≤ count) × ((at, out) ≡ puts (spelledAll (take i numbers)) (used, out₀))
 
 abbrev μ-loop : tie.MeasureT-loop
-μ-loop out₀ used count numbers at₀ i₀ out at i = 6 - i
+μ-loop count out₀ used numbers at₀ i₀ out at i = 6 - i
 
 loop-holds : tie.Need-loop-holds Inv-loop μ-loop
 loop-holds c = (search needs, search needs, listed-none)
 
 returns : tie.Need-returns Inv-loop μ-loop
-returns c = listed-stop (c .before .before .before .args .t3) (c .before .before .loop .i) (c .before .before .before .args .count) _
+returns c = listed-stop (c .before .before .before .args .t1) (c .before .before .loop .i) (c .before .before .before .args .count) _
     (c .before .before .loop .inv .2) (c .if1 .taken)
 
 mul-number : tie.Need-mul-number Inv-loop μ-loop
@@ -41,12 +41,12 @@ loop-again : tie.Need-loop-again Inv-loop μ-loop
 loop-again c = (
   search needs,
   search needs,
-  listed-turn (c .before .before .before .before .before .args .t3) (c .before .before .before .before .loop .i) _
+  listed-turn (c .before .before .before .before .before .args .t1) (c .before .before .before .before .loop .i) _
       (c .before .before .before .before .loop .inv .2) (c .number .ensures) (search needs),
 )
 
 returns-2 : tie.Need-returns-2 Inv-loop μ-loop
-returns-2 c = listed-end (c .before .before .args .t3) (c .before .loop .i) (c .before .before .args .count) _ (c .before .loop .inv .2)
+returns-2 c = listed-end (c .before .before .args .t1) (c .before .loop .i) (c .before .before .args .count) _ (c .before .loop .inv .2)
     (search needs) (search needs)
 
 pub numbers-spec : {M : Type 1} → statement M

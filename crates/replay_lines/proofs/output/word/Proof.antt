@@ -9,10 +9,10 @@ use Rattle.replay_lines.proofs.output.word.Statement.{statement}
 use Rattle.replay_lines.proofs.output.word.Tie as tie
 
 abbrev Inv-loop : tie.InvT-loop
-Inv-loop out₀ used word at₀ i₀ out at i = (i ≤ length word) × ((at, out) ≡ puts (take i word) (used, out₀))
+Inv-loop word out₀ used at₀ i₀ out at i = (i ≤ length word) × ((at, out) ≡ puts (take i word) (used, out₀))
 
 abbrev μ-loop : tie.MeasureT-loop
-μ-loop out₀ used word at₀ i₀ out at i = length word - i
+μ-loop word out₀ used at₀ i₀ out at i = length word - i
 
 loop-holds : tie.Need-loop-holds Inv-loop μ-loop
 loop-holds c = (search needs, puts-none)

@@ -5,7 +5,7 @@ use native.Mathlib.Omega.{arith}
 use mathlib.Core.Path.{_≡_, ap, _∙_}
 use Prim.Native.Nat.{ℕ}
 use lib.ListN.{getD}
-use Rattle.signatures.specs.Inductive.{markedIn}
+use Rattle.signatures.specs.Inductive.{markedBy}
 use Rattle.signatures.proofs.core.marked.Statement.{statement}
 use Rattle.signatures.proofs.core.marked.Tie as tie
 
@@ -26,7 +26,7 @@ split q = q .before .at2 .ensures .0 ∙ ap (λ (b : ℕ). getD (q .before .befo
     (q .before .before .at .ensures .0)
 
 returns : tie.Need-returns
-unfolding markedIn
+unfolding markedBy
 returns c =
     let a = c .before .before .before .before .before .before .before .args in
     simp
@@ -34,7 +34,7 @@ returns c =
     (omega (arith, c .if1 .taken, c .before .at3 .ensures .0, split (c .before))))
 
 returns-2 : tie.Need-returns-2
-unfolding markedIn
+unfolding markedBy
 returns-2 c =
     let a = c .before .before .before .before .before .before .before .args in
     simp

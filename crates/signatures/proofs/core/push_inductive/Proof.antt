@@ -8,8 +8,8 @@ use mathlib.Core.List.{[], map}
 use lib.Dec.{eqb}
 use lib.ListN.{getD}
 use Rattle.columns.proofs.TwoColumns.{pairs-none}
-use Rattle.signatures.specs.Inductive.{inertb, markedIn, keyedAt, inductivePushed}
-use Rattle.signatures.specs.Strong.{ownRows, pairAt}
+use Rattle.signatures.specs.Inductive.{inertb, markedBy, keyedAt, inductivePushed}
+use Rattle.signatures.specs.Strong.{ownRows, rowPair}
 use Rattle.signatures.proofs.Pushing.{Pushing, push-start, push-more, push-done}
 use Rattle.table.proofs.RowsOf.{RowsFrom, rows-from}
 use Rattle.signatures.proofs.Keys.{keyed-either}
@@ -23,7 +23,7 @@ Inv-loop source label target element-offset element-to-block marked-split state 
     end d₀ pushed-labels pushed-blocks i d =
     Pushing []
     (λ k.
-    cond (inertb label target element-to-block b k && markedIn element-offset element-to-block marked-split (getD target k 0))
+    cond (inertb label target element-to-block b k && markedBy element-offset element-to-block marked-split (getD target k 0))
     (tau-hat, getD state-to-key (getD target k 0) 0) (getD label k 0, getD element-to-block (getD target k 0) 0))
     (λ k. eqb (getD source k 0) state) i₀ end pushed-labels₀ pushed-blocks₀ i d pushed-labels pushed-blocks
 
@@ -245,7 +245,7 @@ loop-again c =
     (c .before .before .before .before .before .before .inert .result && c .before .before .before .before .before .marked .result) _ e
     (ap₂ _&&_ (c .before .before .before .before .before .before .inert .ensures)
     (c .before .before .before .before .before .marked .ensures ∙
-    ap (markedIn (a .element-offset .now) (a .element-to-block .now) (a .marked-split .now)) e))
+    ap (markedBy (a .element-offset .now) (a .element-to-block .now) (a .marked-split .now)) e))
     (c .before .before .before .either .ensures) (c .either2 .ensures))
     (omega (
       arith,
@@ -271,7 +271,7 @@ same-length-2 : tie.Need-same-length-2 Inv-loop μ-loop
 same-length-2 c = c .before .loop .inv .right
 
 returns : tie.Need-returns Inv-loop μ-loop
-unfolding inductivePushed ownRows keyedAt pairAt
+unfolding inductivePushed ownRows keyedAt rowPair
 returns c =
     let a = c .before .before .before .before .before .before .before .before .before .before .before .before .before .before .args in
     let f = from (c .before .before) in (
@@ -279,7 +279,7 @@ returns c =
           ∙ ap (λ (b : ℕ).
           map
           (keyedAt (L (c .before .before .before .before .before .before .before .before .before .before .before .before .before .before))
-          (a .element-to-block .now) (markedIn (a .element-offset .now) (a .element-to-block .now) (a .marked-split .now))
+          (a .element-to-block .now) (markedBy (a .element-offset .now) (a .element-to-block .now) (a .marked-split .now))
           (a .state-to-key .now) b)
           (ownRows (L (c .before .before .before .before .before .before .before .before .before .before .before .before .before .before))
           (a .state)))

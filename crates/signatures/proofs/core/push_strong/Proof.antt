@@ -7,7 +7,7 @@ use mathlib.Core.List.{[]}
 use lib.Dec.{eqb}
 use lib.ListN.{getD}
 use Rattle.columns.proofs.TwoColumns.{pairs-none}
-use Rattle.signatures.specs.Strong.{ownRows, pairAt, strongPushed}
+use Rattle.signatures.specs.Strong.{ownRows, rowPair, strongPushed}
 use Rattle.signatures.proofs.Pushing.{Pushing, push-start, push-more, push-done}
 use Rattle.table.proofs.RowsOf.{RowsFrom, rows-from}
 use Rattle.signatures.proofs.core.push_strong.Statement.{statement}
@@ -134,7 +134,7 @@ same-length-2 : tie.Need-same-length-2 Inv-loop μ-loop
 same-length-2 c = c .before .loop .inv .right
 
 returns : tie.Need-returns Inv-loop μ-loop
-unfolding strongPushed ownRows pairAt
+unfolding strongPushed ownRows rowPair
 returns c =
     let f = from (c .before .before) in (
       push-done _ _ _ _ _ _ _ _ _ _ _ (c .before .loop .inv)

@@ -8,7 +8,7 @@ use lib.ListN.{length, take, drop}
 use lib.Seq.{length-take-le}
 use Rattle.columns.specs.Columns.{wiped}
 use Rattle.columns.proofs.Lists.{wiped-front}
-use Rattle.columns.proofs.RowSets.{Lent, lent}
+use Rattle.columns.proofs.RowSets.{RowsLent, lent}
 use Rattle.signatures.proofs.Picks.{picked-count, picked-over}
 use Rattle.signatures.proofs.flat.flatten.Statement.{statement}
 use Rattle.signatures.proofs.flat.flatten.Tie as tie
@@ -19,18 +19,18 @@ lent-length a = length-take-le (a .args .d) (a .args .order .now) (a .pre .1 .0)
 
 -- `order` once the numbers are picked
 abbrev Order : tie.After-pick-rows → List ℕ
-Order q = q .pick-rows .last .0 ++ drop (q .before .before .before .before .before .before .before .before .before .args .d)
+Order q = q .pick-rows .last .1 .1 .1 .0 ++ drop (q .before .before .before .before .before .before .before .before .before .args .d)
     (q .before .before .before .before .before .before .before .before .before .args .order .now)
 
 picked : (q : tie.After-pick-rows)
-    → Lent (q .before .before .before .before .before .before .before .before .before .args .d) (q .pick-rows .result)
+    → RowsLent (q .before .before .before .before .before .before .before .before .before .args .d) (q .pick-rows .result)
     (q .before .before .before .before .before .before .before .before .before .args .pushed-labels .now)
     (q .before .before .before .before .before .before .before .before .before .args .pushed-blocks .now)
     (q .before .before .before .before .before .before .before .before .before .args .pushed-blocks .now)
-    (q .before .before .before .before .before .before .before .before .before .args .order .now) (q .pick-rows .last .0)
+    (q .before .before .before .before .before .before .before .before .before .args .order .now) (q .pick-rows .last .1 .1 .1 .0)
 picked q =
     lent _ _ _ _ _ _ _ (q .before .before .before .before .before .before .before .before .before .pre .1 .0) (q .pick-rows .ensures .0)
-    (q .pick-rows .ensures .1 .0) (q .pick-rows .kept .0)
+    (q .pick-rows .ensures .1 .0) (q .pick-rows .kept .1 .1 .1 .0)
 
 slice-relend-prefix-pick-rows : tie.Need-slice-relend-prefix-pick-rows
 slice-relend-prefix-pick-rows c = search needs
@@ -47,16 +47,16 @@ pick-rows-requires c κs = (
 slice-reshare-prefix-write-pairs : tie.Need-slice-reshare-prefix-write-pairs
 slice-reshare-prefix-write-pairs c = omega (
   arith,
-  picked (c .before .before .before .before .before .before) .few,
-  picked (c .before .before .before .before .before .before) .wide,
+  picked (c .before .before .before .before) .few,
+  picked (c .before .before .before .before) .wide,
 )
 
 slice-aggregate-write-pairs : tie.Need-slice-aggregate-write-pairs
-slice-aggregate-write-pairs c = sym (length-take-le _ (Order (c .before .before .before .before .before .before .before))
+slice-aggregate-write-pairs c = sym (length-take-le _ (Order (c .before .before .before .before .before))
     (omega (
       arith,
-      picked (c .before .before .before .before .before .before .before) .few,
-      picked (c .before .before .before .before .before .before .before) .wide,
+      picked (c .before .before .before .before .before) .few,
+      picked (c .before .before .before .before .before) .wide,
     )))
 
 write-pairs-requires : tie.Need-write-pairs-requires

@@ -9,20 +9,20 @@ use mathlib.Core.List.{List, [], _∷_}
 use lib.Dec.{leb}
 use lib.ListN.{length}
 use Rattle.columns.specs.declared.answers.Refusal.{Refusal}
-use Rattle.columns.specs.Answers.{refused, none}
+use Rattle.columns.specs.Answers.{refused}
 use Rattle.columns.specs.Rows.{pairsOf}
 use Rattle.columns.specs.Sets.{Pair}
 use Rattle.columns.proofs.Bools.{and-left, and-right}
 use Rattle.partition.specs.Partition.{Partition, parts}
 use Rattle.partition.specs.Readers.{unmarkedb}
 use Rattle.partition.proofs.Marks.{block-known}
-use Rattle.signatures.specs.Inductive.{markedIn, inductivePushed, branchingBisimSignatureInductive}
+use Rattle.signatures.specs.Inductive.{markedBy, inductivePushed, inductiveSignature, branchingBisimSignatureInductive}
 use Rattle.signatures.specs.Pairs.{Columns, signature}
 use Rattle.signatures.specs.Signing.{roomy, signatureRefusal}
 use Rattle.signatures.proofs.Outcomes.{signing-refused, signing-on}
 use Rattle.columns.proofs.TwoColumns.{length-pairs}
-use Rattle.signatures.proofs.Ready.{Ready, signature-ready}
-use Rattle.signatures.proofs.Works.{Wide, roomy-of, level}
+use Rattle.table_partition.proofs.Refusals.{BothReady, both-ready}
+use Rattle.signatures.proofs.Works.{Wide, wide-of, level}
 use Rattle.signatures.proofs.inductive.branching_bisim_signature_inductive.Statement.{statement}
 use Rattle.signatures.proofs.inductive.branching_bisim_signature_inductive.Tie as tie
 use Rattle.table.specs.Lts.{Lts, lts}
@@ -46,59 +46,68 @@ abbrev Keys : tie.Start → Bool
 Keys a = leb (a .args .table .n) (length (a .args .state-to-key .now))
 
 abbrev R : tie.Start → Refusal
-R a = signatureRefusal (L a) (P a) (a .args .state) (Keys a && roomy (L a) (Works a)) none
+R a = signatureRefusal (L a) (P a) (a .args .state) (Keys a && roomy (L a) (Works a))
 
 abbrev Pushed : tie.Start → List Pair
 Pushed a = inductivePushed (L a) (a .args .element-to-block .now) (λ u. not (unmarkedb (P a) u)) (a .args .state-to-key .now)
     (a .args .state)
 
+abbrev Signature : tie.Start → List Pair
+Signature a = inductiveSignature (L a) (a .args .element-to-block .now) (λ u. not (unmarkedb (P a) u)) (a .args .state-to-key .now)
+    (a .args .state)
+
 -- marked as the code reads it
 read : (a : tie.Start)
     → inductivePushed (L a) (a .args .element-to-block .now)
-    (markedIn (a .args .element-offset .now) (a .args .element-to-block .now) (a .args .marked-split .now)) (a .args .state-to-key .now)
+    (markedBy (a .args .element-offset .now) (a .args .element-to-block .now) (a .args .marked-split .now)) (a .args .state-to-key .now)
     (a .args .state)
     ≡ Pushed a
-unfolding markedIn unmarkedb
+unfolding markedBy unmarkedb
 read a = refl
 
 -- where the call begins
-abbrev start : tie.After-signature-refusal → tie.Start
+abbrev start : tie.After-argument-refusal → tie.Start
 start q =
     q .before .before .before .before .before .before .before .before .before .before .before .before .before .before .before .before
-    .before .before .before
+    .before .before .before .before
 
 -- the checks have answered R
-answered : (q : tie.After-signature-refusal) → q .signature-refusal .result ≡ R (start q)
-unfolding roomy
+answered : (q : tie.After-argument-refusal) → q .argument-refusal .result ≡ R (start q)
+unfolding roomy signatureRefusal
 answered q =
-    q .signature-refusal .ensures
-    ∙ ap (λ (b : Bool). signatureRefusal (L (start q)) (P (start q)) (start q .args .state) (Keys (start q) && b) none)
-    (q .before .before .roomy .ensures)
+    q .argument-refusal .ensures
+    ∙ ap (λ (b : Bool). signatureRefusal (L (start q)) (P (start q)) (start q .args .state) (Keys (start q) && b))
+    (q .before .works-long .ensures)
 
 -- and where they refuse nothing
-ready : (q : tie.After-signature-refusal) → q .signature-refusal .result .number ≡ 0
-    → Ready (L (start q)) (P (start q)) (start q .args .state) (Keys (start q) && roomy (L (start q)) (Works (start q))) none
-ready q z = signature-ready (L (start q)) (P (start q)) refl (start q .args .state)
-    (Keys (start q) && roomy (L (start q)) (Works (start q))) none _ (answered q) z
+ready : (q : tie.After-argument-refusal) → q .argument-refusal .result .number ≡ 0
+    → BothReady (L (start q)) (P (start q)) (start q .args .state) (start q .args .table .n)
+    (Keys (start q) && roomy (L (start q)) (Works (start q)))
+unfolding signatureRefusal
+ready q z = both-ready (L (start q)) (P (start q)) refl (start q .args .state) (start q .args .table .n)
+    (Keys (start q) && roomy (L (start q)) (Works (start q))) _ (answered q) z
 
-wide : (q : tie.After-signature-refusal) → q .signature-refusal .result .number ≡ 0
+wide : (q : tie.After-argument-refusal) → q .argument-refusal .result .number ≡ 0
     → Wide (L (start q)) (Works (start q))
 wide q z =
-    roomy-of (L (start q)) (Works (start q))
+    wide-of (L (start q)) (Works (start q))
     (and-right (Keys (start q)) (roomy (L (start q)) (Works (start q))) (ready q z .enough))
 
-keyed : (q : tie.After-signature-refusal) → q .signature-refusal .result .number ≡ 0 →
+keyed : (q : tie.After-argument-refusal) → q .argument-refusal .result .number ≡ 0 →
     start q .args .table .n ≤ length (start q .args .state-to-key .now)
 keyed q z = leb-true _ _ (and-left (Keys (start q)) (roomy (L (start q)) (Works (start q))) (ready q z .enough))
 
-roomy-requires : tie.Need-roomy-requires
-roomy-requires c κs = search needs
+cast-n : tie.Need-cast-n
+cast-n c = search needs
 
-cast-keys : tie.Need-cast-keys
-cast-keys c = search needs
+slice-aggregate-works-long : tie.Need-slice-aggregate-works-long
+slice-aggregate-works-long c = search needs
 
-signature-refusal-requires : tie.Need-signature-refusal-requires
-signature-refusal-requires c κs = search needs
+works-long-requires : tie.Need-works-long-requires
+works-long-requires c κs = search needs
+
+argument-refusal-requires : tie.Need-argument-refusal-requires
+argument-refusal-requires c κs = search needs
 
 refusing-number-requires : tie.Need-refusing-number-requires
 refusing-number-requires c κs = search needs
@@ -107,9 +116,10 @@ returns : tie.Need-returns
 unfolding branchingBisimSignatureInductive
 returns c =
     let a = c .before .before .before .before .before .before .before .before .before .before .before .before .before .before .before
-    .before .before .before .before .before .before in
+    .before .before .before .before .before .before .before in
     let e = answered (c .before .before) in
-    signing-refused (R a) (Pushed a) (Out a) (Works a) _ (λ z. c .before .if1 .taken (ap (λ (r : Refusal). r .number) e ∙ z))
+    signing-refused (R a) (length (Pushed a)) (Signature a) (Out a) (Works a) _
+    (λ z. c .before .if1 .taken (ap (λ (r : Refusal). r .number) e ∙ z))
     (c .refusing-number .ensures ∙ ap (λ (r : Refusal). refused (r .number) (r .place)) e)
 
 push-inductive-requires : tie.Need-push-inductive-requires
@@ -120,9 +130,7 @@ push-inductive-requires c κs =
       (
         (r .sound .long .element-offset, r .sound .long .element-to-block),
         (
-          λ u l. block-known
-              (P (c .before .before .before .before .before .before .before .before .before .before .before .before .before .before .before
-              .before .before .before .before .before .before .before)) u _ refl (r .sound) l,
+          λ u l. block-known (P (start (c .before .before .before))) u _ refl (r .sound) l,
           (omega (arith, w .0), omega (arith, w .1 .0)),
         ),
       ),
@@ -144,19 +152,19 @@ sign-requires c κs =
     )
 
 same-length : tie.Need-same-length
-same-length c = c .before .before .before .before .before .before .before .before .before .before .before .before .sign .kept .1 .0
+same-length c = c .before .before .before .before .before .before .before .before .before .before .before .before .sign .kept .0
 
 same-length-2 : tie.Need-same-length-2
-same-length-2 c = c .before .before .before .before .before .before .before .before .before .before .before .before .sign .kept .1 .1 .0
+same-length-2 c = c .before .before .before .before .before .before .before .before .before .before .before .before .sign .kept .1 .0
 
 same-length-3 : tie.Need-same-length-3
-same-length-3 c = c .before .before .before .before .before .before .before .before .before .before .before .before .sign .kept .1 .1 .1 .0
+same-length-3 c = c .before .before .before .before .before .before .before .before .before .before .before .before .sign .kept .1 .1 .0
     ∙ c .before .before .before .before .before .before .before .before .before .before .before .before .before .before .before .before
     .before .before .before .before .before .before .before .push-inductive .kept .1 .1 .1 .1 .1 .1 .1 .1 .1 .0
 
 same-length-4 : tie.Need-same-length-4
 same-length-4 c =
-    c .before .before .before .before .before .before .before .before .before .before .before .before .sign .kept .1 .1 .1 .1 .0 ∙
+    c .before .before .before .before .before .before .before .before .before .before .before .before .sign .kept .1 .1 .1 .0 ∙
     c .before .before .before .before .before .before .before .before .before .before .before .before .before .before .before .before
     .before .before .before .before .before .before .before .push-inductive .kept .1 .1 .1 .1 .1 .1 .1 .1 .1 .1 .0
 
@@ -173,13 +181,13 @@ unfolding branchingBisimSignatureInductive
 returns-2 c =
     let a = c .before .before .before .before .before .before .before .before .before .before .before .before .before .before .before
     .before .before .before .before .before .before .before .before .before .before .before .before .before .before .before .before
-    .before .before .before .before .before .before .before .before .before .before .before .before .before .before .before in
+    .before .before .before .before .before .before .before .before .before .before .before .before .before .before .before .before in
     let q = c .before .before .before .before .before .before .before .before .before .before .before .before .before .before .before
     .before .before .before .before .before .before .before .before .push-inductive in
     let l : List ℕ = q .last .1 .1 .1 .1 .1 .1 .1 .1 .1 .0 in
     let b : List ℕ = q .last .1 .1 .1 .1 .1 .1 .1 .1 .1 .1 .0 in
     c .before .before .before .before .before .before .before .before .before .before .before .before .sign .ensures
-    ∙ signing-on (R a) (Pushed a) (Out a) (Works a) (q .result) (signature (pairsOf (q .result) l b))
+    ∙ signing-on (R a) (length (Pushed a)) (Signature a) (Out a) (Works a) (q .result) (signature (pairsOf (q .result) l b))
     (l ∷ b ∷ a .args .order .now ∷ a .args .spare .now ∷ [])
     (sym (ap (λ (r : Refusal). r .number) (answered
     (c .before .before .before .before .before .before .before .before .before .before .before .before .before .before .before .before
@@ -194,9 +202,10 @@ pub branching-bisim-signature-inductive-spec : {M : Type 1} → statement M
 branching-bisim-signature-inductive-spec =
     tie.close
     (tie.spec
-    roomy-requires
-    cast-keys
-    signature-refusal-requires
+    cast-n
+    slice-aggregate-works-long
+    works-long-requires
+    argument-refusal-requires
     refusing-number-requires
     returns
     push-inductive-requires

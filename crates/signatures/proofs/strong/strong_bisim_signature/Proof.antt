@@ -7,17 +7,17 @@ use mathlib.Core.Bool.{Bool}
 use mathlib.Core.List.{List, [], _∷_}
 use lib.ListN.{length}
 use Rattle.columns.specs.declared.answers.Refusal.{Refusal}
-use Rattle.columns.specs.Answers.{refused, none}
+use Rattle.columns.specs.Answers.{refused}
 use Rattle.columns.specs.Rows.{pairsOf}
 use Rattle.columns.specs.Sets.{Pair}
 use Rattle.partition.specs.Partition.{Partition, parts}
 use Rattle.signatures.specs.Pairs.{Columns, signature}
 use Rattle.signatures.specs.Signing.{roomy, signatureRefusal}
-use Rattle.signatures.specs.Strong.{strongPushed, strongBisimSignature}
+use Rattle.signatures.specs.Strong.{strongPushed, strongSignature, strongBisimSignature}
 use Rattle.signatures.proofs.Outcomes.{signing-refused, signing-on}
 use Rattle.columns.proofs.TwoColumns.{length-pairs}
-use Rattle.signatures.proofs.Ready.{Ready, signature-ready}
-use Rattle.signatures.proofs.Works.{Wide, roomy-of, level}
+use Rattle.table_partition.proofs.Refusals.{BothReady, both-ready}
+use Rattle.signatures.proofs.Works.{Wide, wide-of, level}
 use Rattle.signatures.proofs.strong.strong_bisim_signature.Statement.{statement}
 use Rattle.signatures.proofs.strong.strong_bisim_signature.Tie as tie
 use Rattle.table.specs.Lts.{Lts, lts}
@@ -38,39 +38,50 @@ abbrev Works : tie.Start → List (List ℕ)
 Works a = a .args .pushed-labels .now ∷ a .args .pushed-blocks .now ∷ a .args .order .now ∷ a .args .spare .now ∷ []
 
 abbrev R : tie.Start → Refusal
-R a = signatureRefusal (L a) (P a) (a .args .state) (roomy (L a) (Works a)) none
+R a = signatureRefusal (L a) (P a) (a .args .state) (roomy (L a) (Works a))
 
 abbrev Pushed : tie.Start → List Pair
 Pushed a = strongPushed (L a) (a .args .element-to-block .now) (a .args .state)
 
+abbrev Signature : tie.Start → List Pair
+Signature a = strongSignature (L a) (a .args .element-to-block .now) (a .args .state)
+
 -- where the call begins
-abbrev start : tie.After-signature-refusal → tie.Start
+abbrev start : tie.After-argument-refusal → tie.Start
 start q =
     q .before .before .before .before .before .before .before .before .before .before .before .before .before .before .before .before
-    .before
+    .before .before .before
 
 -- the checks have answered R
-answered : (q : tie.After-signature-refusal) → q .signature-refusal .result ≡ R (start q)
-unfolding roomy
+answered : (q : tie.After-argument-refusal) → q .argument-refusal .result ≡ R (start q)
+unfolding roomy signatureRefusal
 answered q =
-    q .signature-refusal .ensures
-    ∙ ap (λ (b : Bool). signatureRefusal (L (start q)) (P (start q)) (start q .args .state) b none) (q .before .roomy .ensures)
+    q .argument-refusal .ensures
+    ∙ ap (λ (b : Bool). signatureRefusal (L (start q)) (P (start q)) (start q .args .state) b) (q .before .works-long .ensures)
 
 -- and where they refuse nothing
-ready : (q : tie.After-signature-refusal) → q .signature-refusal .result .number ≡ 0
-    → Ready (L (start q)) (P (start q)) (start q .args .state) (roomy (L (start q)) (Works (start q))) none
-ready q z = signature-ready (L (start q)) (P (start q)) refl (start q .args .state) (roomy (L (start q)) (Works (start q))) none _
+ready : (q : tie.After-argument-refusal) → q .argument-refusal .result .number ≡ 0
+    → BothReady (L (start q)) (P (start q)) (start q .args .state) (start q .args .table .n) (roomy (L (start q)) (Works (start q)))
+unfolding signatureRefusal
+ready q z =
+    both-ready (L (start q)) (P (start q)) refl (start q .args .state) (start q .args .table .n) (roomy (L (start q)) (Works (start q))) _
     (answered q) z
 
-wide : (q : tie.After-signature-refusal) → q .signature-refusal .result .number ≡ 0
+wide : (q : tie.After-argument-refusal) → q .argument-refusal .result .number ≡ 0
     → Wide (L (start q)) (Works (start q))
-wide q z = roomy-of (L (start q)) (Works (start q)) (ready q z .enough)
+wide q z = wide-of (L (start q)) (Works (start q)) (ready q z .enough)
 
-roomy-requires : tie.Need-roomy-requires
-roomy-requires c κs = search needs
+cast-n : tie.Need-cast-n
+cast-n c = search needs
 
-signature-refusal-requires : tie.Need-signature-refusal-requires
-signature-refusal-requires c κs = search needs
+slice-aggregate-works-long : tie.Need-slice-aggregate-works-long
+slice-aggregate-works-long c = search needs
+
+works-long-requires : tie.Need-works-long-requires
+works-long-requires c κs = search needs
+
+argument-refusal-requires : tie.Need-argument-refusal-requires
+argument-refusal-requires c κs = search needs
 
 refusing-number-requires : tie.Need-refusing-number-requires
 refusing-number-requires c κs = search needs
@@ -79,9 +90,10 @@ returns : tie.Need-returns
 unfolding strongBisimSignature
 returns c =
     let a = c .before .before .before .before .before .before .before .before .before .before .before .before .before .before .before
-    .before .before .before .before in
+    .before .before .before .before .before .before in
     let e = answered (c .before .before) in
-    signing-refused (R a) (Pushed a) (Out a) (Works a) _ (λ z. c .before .if1 .taken (ap (λ (r : Refusal). r .number) e ∙ z))
+    signing-refused (R a) (length (Pushed a)) (Signature a) (Out a) (Works a) _
+    (λ z. c .before .if1 .taken (ap (λ (r : Refusal). r .number) e ∙ z))
     (c .refusing-number .ensures ∙ ap (λ (r : Refusal). refused (r .number) (r .place)) e)
 
 push-strong-requires : tie.Need-push-strong-requires
@@ -103,19 +115,19 @@ sign-requires c κs =
     )
 
 same-length : tie.Need-same-length
-same-length c = c .before .before .before .before .before .before .before .before .before .before .before .before .sign .kept .1 .0
+same-length c = c .before .before .before .before .before .before .before .before .before .before .before .before .sign .kept .0
 
 same-length-2 : tie.Need-same-length-2
-same-length-2 c = c .before .before .before .before .before .before .before .before .before .before .before .before .sign .kept .1 .1 .0
+same-length-2 c = c .before .before .before .before .before .before .before .before .before .before .before .before .sign .kept .1 .0
 
 same-length-3 : tie.Need-same-length-3
-same-length-3 c = c .before .before .before .before .before .before .before .before .before .before .before .before .sign .kept .1 .1 .1 .0
+same-length-3 c = c .before .before .before .before .before .before .before .before .before .before .before .before .sign .kept .1 .1 .0
     ∙ c .before .before .before .before .before .before .before .before .before .before .before .before .before .before .before .before
     .before .before .before .before .before .before .before .push-strong .kept .1 .1 .1 .1 .1 .1 .0
 
 same-length-4 : tie.Need-same-length-4
 same-length-4 c =
-    c .before .before .before .before .before .before .before .before .before .before .before .before .sign .kept .1 .1 .1 .1 .0 ∙
+    c .before .before .before .before .before .before .before .before .before .before .before .before .sign .kept .1 .1 .1 .0 ∙
     c .before .before .before .before .before .before .before .before .before .before .before .before .before .before .before .before
     .before .before .before .before .before .before .before .push-strong .kept .1 .1 .1 .1 .1 .1 .1 .0
 
@@ -132,13 +144,13 @@ unfolding strongBisimSignature
 returns-2 c =
     let a = c .before .before .before .before .before .before .before .before .before .before .before .before .before .before .before
     .before .before .before .before .before .before .before .before .before .before .before .before .before .before .before .before
-    .before .before .before .before .before .before .before .before .before .before .before .before .before in
+    .before .before .before .before .before .before .before .before .before .before .before .before .before .before .before in
     let q = c .before .before .before .before .before .before .before .before .before .before .before .before .before .before .before
     .before .before .before .before .before .before .before .before .push-strong in
     let l : List ℕ = q .last .1 .1 .1 .1 .1 .1 .0 in
     let b : List ℕ = q .last .1 .1 .1 .1 .1 .1 .1 .0 in
     c .before .before .before .before .before .before .before .before .before .before .before .before .sign .ensures
-    ∙ signing-on (R a) (Pushed a) (Out a) (Works a) (q .result) (signature (pairsOf (q .result) l b))
+    ∙ signing-on (R a) (length (Pushed a)) (Signature a) (Out a) (Works a) (q .result) (signature (pairsOf (q .result) l b))
     (l ∷ b ∷ a .args .order .now ∷ a .args .spare .now ∷ [])
     (sym (ap (λ (r : Refusal). r .number) (answered
     (c .before .before .before .before .before .before .before .before .before .before .before .before .before .before .before .before
@@ -153,8 +165,10 @@ pub strong-bisim-signature-spec : {M : Type 1} → statement M
 strong-bisim-signature-spec =
     tie.close
     (tie.spec
-    roomy-requires
-    signature-refusal-requires
+    cast-n
+    slice-aggregate-works-long
+    works-long-requires
+    argument-refusal-requires
     refusing-number-requires
     returns
     push-strong-requires

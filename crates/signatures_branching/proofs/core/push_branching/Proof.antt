@@ -12,8 +12,8 @@ use Rattle.columns.proofs.TwoColumns.{length-pairs}
 use Rattle.signatures.specs.Pairs.{signature}
 use Rattle.table.specs.Lts.{Lts, lts, Valid}
 use Rattle.table.proofs.Searching.{search-few}
-use Rattle.signatures_branching.specs.Visiting.{Lists, outerOf, Visits}
-use Rattle.signatures_branching.proofs.Endings.{search-lists, search-marks}
+use Rattle.signatures_branching.specs.Visiting.{outerOf, Visits}
+use Rattle.signatures_branching.proofs.Endings.{ListsReached, search-lists, search-marks}
 use Rattle.signatures_branching.proofs.Visited.{visited-count, visited-few, visited-signature}
 use Rattle.signatures_branching.proofs.core.push_branching.Statement.{statement}
 use Rattle.signatures_branching.proofs.core.push_branching.Tie as tie
@@ -48,8 +48,8 @@ module _ (q : tie.After-reach) where
       (q .reach .result .pairs)
   visits = q .reach .ensures
 
-  lists : Lists (L (q .before .before .before .before .before .before .before .before .before .before .before .before .before)) home state
-      queue tail
+  lists : ListsReached (L (q .before .before .before .before .before .before .before .before .before .before .before .before .before)) home
+      state queue tail
   lists = search-lists (L (q .before .before .before .before .before .before .before .before .before .before .before .before .before))
       (valid (q .before .before .before .before .before .before .before .before .before .before .before .before .before)) home state marks
       queue tail (visits .search)

@@ -12,13 +12,12 @@ use Rattle.columns.proofs.Bools.{and-both, and-no-left, and-no-right}
 use Rattle.columns.proofs.Counting.{many-strict}
 use Rattle.columns.proofs.TwoColumns.{length-pairs}
 use Rattle.signatures.specs.Inductive.{inertb}
-use Rattle.signatures.specs.Strong.{pairAt}
+use Rattle.signatures.specs.Strong.{rowPair}
 use Rattle.signatures.proofs.Pushing.{Pushing, push-start, push-more, push-pass, push-done}
 use Rattle.table.proofs.RowsOf.{RowsFrom, rows-from}
 use Rattle.table.specs.Lts.{Lts, lts, Valid}
 use Rattle.table.proofs.Stretches.{rising}
-use Rattle.signatures_branching.specs.Branching.{outerb}
-use Rattle.signatures_branching.specs.Visiting.{outerPairs}
+use Rattle.signatures_branching.specs.Branching.{outerb, outerPairs}
 use Rattle.signatures_branching.proofs.Visited.{length-outer}
 use Rattle.signatures_branching.proofs.core.push_outer.Statement.{statement}
 use Rattle.signatures_branching.proofs.core.push_outer.Tie as tie
@@ -244,7 +243,7 @@ same-length-2 : tie.Need-same-length-2 Inv-loop μ-loop
 same-length-2 c = c .before .loop .inv .right
 
 returns : tie.Need-returns Inv-loop μ-loop
-unfolding outerPairs outerb pairAt
+unfolding outerPairs outerb rowPair
 returns c =
     let f = from (c .before .before) in
     push-done _ _ _ _ _ _ _ _ _ _ _ (c .before .loop .inv)

@@ -12,8 +12,8 @@ use Rattle.columns.proofs.TwoColumns.{pairs-none}
 use Rattle.table.specs.Lts.{Lts, lts, Valid}
 use Rattle.table.specs.Search.{Search}
 use Rattle.table.proofs.Searching.{search-start, search-few}
-use Rattle.signatures_branching.specs.Branching.{inertEdge}
-use Rattle.signatures_branching.specs.Visiting.{outerPairs, Visits}
+use Rattle.signatures_branching.specs.Branching.{inertEdge, outerPairs}
+use Rattle.signatures_branching.specs.Visiting.{Visits}
 use Rattle.signatures_branching.proofs.core.reach.Statement.{statement}
 use Rattle.signatures_branching.proofs.core.reach.Tie as tie
 

@@ -5,12 +5,12 @@ use mathlib.Core.Path.{_≡_, refl, ap, _∙_}
 use mathlib.Core.Logic.{_⊎_, inl, inr}
 use lib.ListN.{length, getD, length-set}
 use Rattle.columns.specs.Columns.{zeros}
-use Rattle.signatures_branching.proofs.Unmarking.{Left, unmark-more, unmark-done}
+use Rattle.signatures_branching.proofs.Unmarking.{MarksFrom, unmark-more, unmark-done}
 use Rattle.signatures_branching.proofs.core.unmark.Statement.{statement}
 use Rattle.signatures_branching.proofs.core.unmark.Tie as tie
 
 abbrev Inv-loop : tie.InvT-loop
-Inv-loop marks₀ queue tail k₀ marks k = (k ≤ tail) × (length marks ≡ length marks₀) × ((u : ℕ) → Left queue tail marks k u)
+Inv-loop marks₀ queue tail k₀ marks k = (k ≤ tail) × (length marks ≡ length marks₀) × ((u : ℕ) → MarksFrom queue tail marks k u)
 
 abbrev μ-loop : tie.MeasureT-loop
 μ-loop marks₀ queue tail k₀ marks k = tail - k
@@ -20,7 +20,7 @@ loop-holds c = (omega arith, refl, λ u. go u (c .before .before .pre .1 u))
   where
     go : (u : ℕ) → (getD (c .before .before .args .marks .now) u 0 ≡ 0) ⊎
         ((j : ℕ) × (j < c .before .before .args .tail) × (getD (c .before .before .args .queue .now) j 0 ≡ u))
-        → Left (c .before .before .args .queue .now) (c .before .before .args .tail) (c .before .before .args .marks .now) 0 u
+        → MarksFrom (c .before .before .args .queue .now) (c .before .before .args .tail) (c .before .before .args .marks .now) 0 u
     go u (inl z) = inl z
     go u (inr j) = inr (j .0, omega arith, j .1, j .2)
 

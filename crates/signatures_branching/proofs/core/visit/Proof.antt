@@ -15,15 +15,15 @@ use Rattle.columns.proofs.Bools.{and-both, and-no-left, and-no-right, contra}
 use Rattle.columns.proofs.Counting.{many-strict}
 use Rattle.columns.proofs.TwoColumns.{length-pairs}
 use Rattle.signatures.specs.Inductive.{inertb}
-use Rattle.signatures.specs.Strong.{pairAt}
+use Rattle.signatures.specs.Strong.{rowPair}
 use Rattle.signatures.proofs.Pushing.{Pushing, push-start, push-more, push-pass, push-done}
 use Rattle.table.proofs.RowsOf.{RowsFrom, rows-from}
 use Rattle.table.specs.Lts.{Lts, lts, Valid}
 use Rattle.table.specs.Search.{Search, appended}
 use Rattle.table.proofs.Searching.{Visit, visit-start, visit-skip, visit-append, visit-room, visit-end, search-few}
 use Rattle.table.proofs.Stretches.{rising}
-use Rattle.signatures_branching.specs.Branching.{inertEdge, outerb}
-use Rattle.signatures_branching.specs.Visiting.{outerPairs, Visits}
+use Rattle.signatures_branching.specs.Branching.{inertEdge, outerb, outerPairs}
+use Rattle.signatures_branching.specs.Visiting.{Visits}
 use Rattle.signatures_branching.proofs.Visited.{length-outer, visits-room, visits-more}
 use Rattle.signatures_branching.proofs.core.visit.Statement.{statement}
 use Rattle.signatures_branching.proofs.core.visit.Tie as tie
@@ -100,8 +100,8 @@ unfolding inertEdge
 loop-holds c =
     let a = c .before .before .before .before .before .before .before .before .before .before .before .before in (
       visit-start (length (a .args .marks .now)) (a .args .table .m) (a .args .source .now) (a .args .target .now) (W a)
-          (rising (L a) (valid a)) (to a) (getD (a .args .queue .now) 0 0) (c .before .at .result) (a .args .queue .now)
-          (a .args .tail) (a .args .head) (a .args .marks .now) (c .rows-of .result .first) (c .rows-of .ensures .0)
+          (to a) (getD (a .args .queue .now) 0 0) (c .before .at .result) (a .args .queue .now)
+          (a .args .tail) (a .args .head) (a .args .marks .now) (c .rows-of .result .first) (c .rows-of .result .end) (from c .stretch)
           (subst (λ (n : ℕ). Found a n (a .args .marks .now) (a .args .queue .now) (a .args .head) (a .args .tail)) (sym (size a))
           (visits a .search)) (a .pre .0 .2)
           (sym (c .before .at .ensures .0)),
@@ -179,7 +179,7 @@ append-requires c κs =
           omega (
             arith,
             visit-room (length (a .args .marks .now)) (a .args .table .m) (a .args .source .now) (a .args .target .now) (W a)
-                (rising (L a) (valid a)) (to a) (getD (a .args .queue .now) 0 0)
+                (to a) (getD (a .args .queue .now) 0 0)
                 (c .before .before .before .before .before .before .before .before .at .result) (a .args .queue .now)
                 (a .args .tail) (a .args .head) (c .before .before .before .before .before .before .loop .marks)
                 (c .before .before .before .before .before .before .loop .queue)
@@ -212,14 +212,14 @@ loop-again c =
     let l = c .before .before .before .before .before .before .before .before .before .before .before .loop in
     let p = c .before .before .before .before .append in (
       visit-append (length (a .args .marks .now)) (a .args .table .m) (a .args .source .now) (a .args .target .now) (W a)
-          (rising (L a) (valid a)) (to a) (getD (a .args .queue .now) 0 0)
+          (to a) (getD (a .args .queue .now) 0 0)
           (c .before .before .before .before .before .before .before .before .before .before .before .before .before .at .result)
           (a .args .queue .now)
           (a .args .tail) (a .args .head) (l .marks) (l .queue) (l .high) (l .i) (l .inv .0)
           (below (c .before .before .before .before .before .before .before .before .before .before))
           (eqb-true _ _ (own (c .before .before .before .before .before .before .before .before .before .before)))
           (sym (tested (c .before .before .before .before .before .before .before .before)) ∙
-          c .before .before .before .before .before .before .before .if1 .taken) (p .result) (p .last .0) (p .last .1 .0)
+          c .before .before .before .before .before .before .before .if1 .taken) (p .result) (p .last .1 .0) (p .last .1 .1 .0)
           (p .ensures ∙ ap (λ (y : ℕ). appended y (l .marks) (l .queue) (l .high))
           (c .before .before .before .before .before .before .before .before .before .at2 .ensures .0)),
       push-pass _ _ _ _ _ _ _ _ _ _ _ (l .inv .1) (omega
@@ -375,7 +375,7 @@ loop-again-2 c =
     .before .before .before .before in
     let l = c .before .before .before .before .before .before .loop in (
       visit-skip (length (a .args .marks .now)) (a .args .table .m) (a .args .source .now) (a .args .target .now) (W a)
-          (rising (L a) (valid a)) (to a) (getD (a .args .queue .now) 0 0)
+          (to a) (getD (a .args .queue .now) 0 0)
           (c .before .before .before .before .before .before .before .before .at .result) (a .args .queue .now)
           (a .args .tail) (a .args .head) (l .marks) (l .queue) (l .high) (l .i) (l .inv .0)
           (λ e. absurd (contra e (sym (tested (c .before .before .before)) ∙ c .before .before .if1 .left))),
@@ -402,7 +402,7 @@ same-length-4 : tie.Need-same-length-4 Inv-loop μ-loop
 same-length-4 c = c .before .loop .inv .0 .long
 
 returns : tie.Need-returns Inv-loop μ-loop
-unfolding inertEdge outerPairs outerb pairAt
+unfolding inertEdge outerPairs outerb rowPair
 returns c =
     let a = c .before .before .before .before .before .before .before .before .before .before .before .before .before .before in
     let l = c .before .loop in
@@ -412,8 +412,8 @@ returns c =
       search =
           subst (λ (n : ℕ). Found a n (l .marks) (l .queue) (a .args .head + 1) (l .high)) (size a)
           (visit-end (length (a .args .marks .now)) (a .args .table .m) (a .args .source .now) (a .args .target .now) (W a)
-          (rising (L a) (valid a)) (to a) (getD (a .args .queue .now) 0 0) (c .before .before .before .at .result) (a .args .queue .now)
-          (a .args .tail) (a .args .head) (l .marks) (l .queue) (l .high) (l .i) (l .inv .0) (e ∙ c .before .before .rows-of .ensures .1));
+          (to a) (getD (a .args .queue .now) 0 0) (c .before .before .before .at .result) (a .args .queue .now)
+          (a .args .tail) (a .args .head) (l .marks) (l .queue) (l .high) (l .i) (l .inv .0) _ _ (f .stretch) e);
       rest = λ k w. l .inv .0 .behind k w ∙ visits a .rest k (omega (arith, w, l .inv .0 .more));
       pushed =
           visits-more _ _ _ _ _ _ _ _ _ _ _ (visits a) (l .queue) (l .pushed-labels) (l .pushed-blocks) (l .k) (l .inv .0 .kept)

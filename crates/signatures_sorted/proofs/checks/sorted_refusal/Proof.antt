@@ -1,9 +1,13 @@
 -- `checks.sorted_refusal` meets its contract.
 use borrow.Author.Needs.{needs}
-use mathlib.Core.Path.{refl, sym, _∙_}
+use mathlib.Core.List.{List, [], _∷_, _++_}
+use mathlib.Core.Path.{refl, _∙_}
 use Rattle.partition.specs.Partition.{Partition, parts}
-use Rattle.columns.specs.Answers.{none}
-use Rattle.signatures.proofs.Ready.{Ready, signature-ready, signature-out, signature-on}
+use Rattle.columns.specs.Due.{Test, indexTest}
+use Rattle.columns.proofs.Chains.{goes-on, ends}
+use Rattle.pairs.specs.Lists.{listsRefusal}
+use Rattle.table_partition.specs.Checks.{bothTests, bothArgumentRefusal}
+use Rattle.table_partition.proofs.Refusals.{both-ready}
 use Rattle.signatures_sorted.specs.Sorted.{Given, flat, sortedRefusal}
 use Rattle.signatures_sorted.proofs.Refused.{tested}
 use Rattle.signatures_sorted.proofs.checks.sorted_refusal.Statement.{statement}
@@ -22,41 +26,43 @@ P a =
 abbrev G : tie.Start → Given
 G a = flat (a .args .starts .now) (a .args .given-labels .now) (a .args .given-blocks .now)
 
-signature-refusal-requires : tie.Need-signature-refusal-requires
-signature-refusal-requires c κs = search needs
+-- the tests before those of the lists
+abbrev Front : tie.Start → List Test
+Front a = bothTests (L a) (P a) (a .args .room) ++ (indexTest (a .args .state) (a .args .table .n) ∷ [])
+
+cast-n : tie.Need-cast-n
+cast-n c = search needs
+
+argument-refusal-requires : tie.Need-argument-refusal-requires
+argument-refusal-requires c κs = search needs
 
 returns : tie.Need-returns
-unfolding sortedRefusal
-returns c = let a = c .before .before .before .before .before .before .before .before .before .before .before .before .before .before in
-    signature-out (L a) (P a) (a .args .state) (a .args .room) (tested (L a) (G a)) _ (c .before .signature-refusal .ensures)
-    (c .if1 .taken)
-
-cast-lists-refusal : tie.Need-cast-lists-refusal
-cast-lists-refusal c = search needs
+unfolding sortedRefusal bothArgumentRefusal
+returns c =
+    let a = c .before .before .before .before .before .before .before .before .before .before .before .before .before .before .before in
+    ends (Front a) (tested (L a) (G a)) refl _ (c .before .argument-refusal .ensures) (c .if1 .taken)
 
 lists-refusal-requires : tie.Need-lists-refusal-requires
 lists-refusal-requires c κs =
     let a = c .before .before .before .before .before .before .before .before .before .before .before .before .before .before .before in
-    let r : Ready (L a) (P a) (a .args .state) (a .args .room) none
-    = signature-ready (L a) (P a) refl (a .args .state) (a .args .room) none _ (c .before .before .signature-refusal .ensures)
-    (c .before .if1 .left) in
+    let r = both-ready (L a) (P a) refl (a .args .state) (a .args .table .n) (a .args .room) _ (c .before .argument-refusal .ensures)
+    (c .if1 .left) in
     (a .pre (r .enough), r .valid .few-states)
 
 returns-2 : tie.Need-returns-2
-unfolding sortedRefusal
+unfolding sortedRefusal bothArgumentRefusal listsRefusal
 returns-2 c =
     let a = c .before .before .before .before .before .before .before .before .before .before .before .before .before .before .before
     .before in
     c .lists-refusal .ensures
-    ∙ sym (signature-on (L a) (P a) (a .args .state) (a .args .room) (tested (L a) (G a)) _
-    (c .before .before .before .signature-refusal .ensures) refl (c .before .before .if1 .left))
+    ∙ goes-on (Front a) (tested (L a) (G a)) refl _ (c .before .before .argument-refusal .ensures) (c .before .if1 .left)
 
 pub sorted-refusal-spec : {M : Type 1} → statement M
 sorted-refusal-spec =
     tie.close
     (tie.spec
-    signature-refusal-requires
+    cast-n
+    argument-refusal-requires
     returns
-    cast-lists-refusal
     lists-refusal-requires
     returns-2)

@@ -8,7 +8,7 @@ use Rattle.columns.specs.Sets.{Pair}
 use Rattle.pairs_merge.specs.Merged.{heads}
 use Rattle.signatures.specs.Pairs.{Columns}
 use Rattle.signatures.proofs.Works.{zeroed}
-use Rattle.signatures_sorted.specs.Taking.{joined}
+use Rattle.signatures_sorted.specs.Joining.{jointSet}
 use Rattle.signatures_sorted.proofs.Emptied.{finished}
 use Rattle.signatures_sorted.proofs.core.finish.Statement.{statement}
 use Rattle.signatures_sorted.proofs.core.finish.Tie as tie
@@ -16,7 +16,7 @@ use Rattle.signatures_sorted.proofs.core.finish.Tie as tie
 -- the set that is to be written, the columns that it goes to, and the work slices
 abbrev Pairs : tie.Start → List Pair
 Pairs a =
-    joined (a .args .taken .own) (a .args .own-labels .now) (a .args .own-blocks .now)
+    jointSet (a .args .taken .own) (a .args .own-labels .now) (a .args .own-blocks .now)
     (heads (a .args .given-labels .now) (a .args .given-blocks .now) (a .args .high .now) (a .args .low .now) (a .args .end-high .now)
     (a .args .end-low .now))
     (a .args .taken .lists)

@@ -8,17 +8,17 @@ use lib.Seq.{length-take-le}
 use Rattle.columns.specs.Columns.{zeros}
 use Rattle.columns.specs.Sets.{Pair, pairLt, addAll}
 use Rattle.columns.proofs.Parts.{length-fronted}
-use Rattle.signatures_branching.specs.Visiting.{outerPairs}
+use Rattle.signatures_branching.specs.Branching.{outerPairs}
 use Rattle.pairs_merge.specs.Merged.{Heads, heads}
-use Rattle.pairs_merge.specs.Rest.{leftIn, mergeOf, Ready}
+use Rattle.pairs_merge.specs.Rest.{leftIn, mergeOf, Mergeable}
 use Rattle.pairs_merge.proofs.Joins.{left-alike}
-use Rattle.signatures.specs.Pairs.{Columns, signature}
+use Rattle.signatures.specs.Pairs.{Columns}
 use Rattle.signatures.specs.Signing.{finishing}
 use Rattle.signatures.specs.Strong.{ownRows}
 use Rattle.pairs.specs.Lists.{listAt}
 use Rattle.table.specs.Lts.{Lts, lts, Valid}
 use Rattle.signatures_sorted.specs.Sorted.{sortedPushed, sortedSignature}
-use Rattle.signatures_sorted.specs.Taking.{joined}
+use Rattle.signatures_sorted.specs.Joining.{jointSet}
 use Rattle.signatures_sorted.proofs.Counted.{sorted-count, sorted-set}
 use Rattle.signatures_sorted.proofs.Emptied.{lent-zero, refinished}
 use Rattle.signatures_sorted.proofs.Openings.{few-inner, few-lists, lists-ready}
@@ -26,12 +26,16 @@ use Rattle.signatures_sorted.proofs.Pushed.{few-outer, set-few, set-asc
 use Rattle.signatures_sorted.proofs.core.sign_rows.Statement.{statement}
 use Rattle.signatures_sorted.proofs.core.sign_rows.Tie as tie
 
--- the table that is lent, what is pushed, the columns of the result, and the work slices
+-- the table that is lent, what is pushed, the signature, the columns of the result, and the work slices
 abbrev L : tie.Start → Lts
 L a = lts (a .args .table) (a .args .source .now) (a .args .label .now) (a .args .target .now)
 
 abbrev Pushed : tie.Start → List Pair
 Pushed a = sortedPushed (L a) (a .args .element-to-block .now) (listAt (a .args .starts .now) (a .args .given-labels .now)
+    (a .args .given-blocks .now)) (a .args .state)
+
+abbrev Signature : tie.Start → List Pair
+Signature a = sortedSignature (L a) (a .args .element-to-block .now) (listAt (a .args .starts .now) (a .args .given-labels .now)
     (a .args .given-blocks .now)) (a .args .state)
 
 abbrev Out : tie.Start → Columns
@@ -88,7 +92,7 @@ module _ (q : tie.After-take) where
   nodes : 2 * K ≤ length (A .args .tree .now)
   nodes = omega (arith, few-n, few-m, A .pre .1 .1 .1 .1)
 
-  heads-ready : Ready D K
+  heads-ready : Mergeable D K
   heads-ready =
       lists-ready (L A) (A .args .element-to-block .now) (A .args .state) (A .args .starts .now) (A .args .given-labels .now)
       (A .args .given-blocks .now) (A .pre .1 .1 .0) K _ _ _ _ (q .take .ensures .1 .0)
@@ -110,9 +114,9 @@ module _ (q : tie.After-take) where
       ∙ sorted-count (L A) (A .args .element-to-block .now) (A .args .state) (A .args .starts .now) (A .args .given-labels .now)
       (A .args .given-blocks .now) _ _ _ _ _ (q .take .ensures .1 .0)
 
-  set-of : joined (q .take .result .own) (q .take .last .1 .1 .1 .1 .1 .1 .1 .0) (q .take .last .1 .1 .1 .1 .1 .1 .1 .1 .0) D K ≡ signature
-      (Pushed A)
-  unfolding joined sortedSignature
+  set-of : jointSet (q .take .result .own) (q .take .last .1 .1 .1 .1 .1 .1 .1 .0) (q .take .last .1 .1 .1 .1 .1 .1 .1 .1 .0) D K ≡
+      Signature A
+  unfolding jointSet
   set-of =
       ap (λ (l : List Pair). addAll pairLt l (mergeOf D K)) (q .take .ensures .0)
       ∙ sorted-set (L A) (A .args .element-to-block .now) (A .args .state) (A .args .starts .now) (A .args .given-labels .now)

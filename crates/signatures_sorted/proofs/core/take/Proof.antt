@@ -5,7 +5,7 @@ use Prim.Native.Nat.{ℕ, _+_, _≤_}
 use mathlib.Core.Path.{_≡_, ap, ap₂, _∙_}
 use lib.ListN.{length, getD}
 use Rattle.columns.specs.Rows.{pairsOf}
-use Rattle.signatures_branching.specs.Visiting.{outerPairs}
+use Rattle.signatures_branching.specs.Branching.{outerPairs}
 use Rattle.columns.proofs.TwoColumns.{length-pairs}
 use Rattle.signatures.specs.Pairs.{signature}
 use Rattle.signatures.specs.Strong.{ownRows}

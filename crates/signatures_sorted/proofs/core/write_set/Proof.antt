@@ -13,7 +13,7 @@ use Rattle.columns.specs.Sets.{Pair}
 use Rattle.columns.proofs.Bools.{and-left, and-right}
 use Rattle.pairs_merge.specs.Merged.{heads}
 use Rattle.signatures.specs.Pairs.{Columns, fits, roomFor}
-use Rattle.signatures_sorted.specs.Taking.{joined}
+use Rattle.signatures_sorted.specs.Joining.{jointSet}
 use Rattle.signatures_sorted.proofs.Emptied.{wrote-none, wrote-all}
 use Rattle.signatures_sorted.proofs.core.write_set.Statement.{statement}
 use Rattle.signatures_sorted.proofs.core.write_set.Tie as tie
@@ -21,7 +21,7 @@ use Rattle.signatures_sorted.proofs.core.write_set.Tie as tie
 -- the set that is to be written, and the columns that it goes to
 abbrev Pairs : tie.Start → List Pair
 Pairs a =
-    joined (a .args .taken .own) (a .args .own-labels .now) (a .args .own-blocks .now)
+    jointSet (a .args .taken .own) (a .args .own-labels .now) (a .args .own-blocks .now)
     (heads (a .args .given-labels .now) (a .args .given-blocks .now) (a .args .high .now) (a .args .low .now) (a .args .end-high .now)
     (a .args .end-low .now))
     (a .args .taken .lists)

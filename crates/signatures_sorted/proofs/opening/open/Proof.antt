@@ -15,7 +15,7 @@ set-place-requires c κs = (
   search needs,
   omega (
     arith,
-    c .start .ensures,
+    c .before .before .start .ensures,
     c .before .before .before .before .before .before .before .shared-slice-known .given
         (c .before .before .before .before .before .before .before .before .args .u),
   ),
@@ -33,7 +33,7 @@ set-place-requires-2 c κs = (
   search needs,
   omega (
     arith,
-    c .start2 .ensures,
+    c .before .before .start2 .ensures,
     c .before .before .before .before .before .before .before .before .before .before .before .before .before .before .before
         .shared-slice-known .given
         (c .before .before .before .before .before .before .before .before .before .before .before .before .before .before .before .before
@@ -58,8 +58,10 @@ returns c =
     let x = c .before .before .before .before .before .before .before .before .before .before .before .before .set-place .ensures in
     let y = c .before .before .before .before .set-place2 .ensures in (
       (
-        x .0 ∙ c .before .before .before .before .before .before .before .before .before .before .before .before .before .start .ensures,
-        y .0 ∙ c .before .before .before .before .before .start2 .ensures,
+        x .0
+            ∙ c .before .before .before .before .before .before .before .before .before .before .before .before .before .before .before
+            .start .ensures,
+        y .0 ∙ c .before .before .before .before .before .before .before .start2 .ensures,
       ),
       λ i n. (x .1 i n, y .1 i n),
     )

@@ -2,7 +2,7 @@
 use native.Mathlib.Omega.{arith}
 use Prim.Native.Nat.{ℕ, _≤_, _<_, _-_, _+_, _/_}
 use lib.ListN.{getD}
-use Rattle.table.proofs.Stretches.{first-row-is}
+use Rattle.table.proofs.RowsOf.{first-row-is}
 use Rattle.table.proofs.core.first_row.Statement.{statement}
 use Rattle.table.proofs.core.first_row.Tie as tie
 

@@ -3,7 +3,7 @@ use native.Mathlib.Omega.{arith}
 use native.Mathlib.Nat.{le-antisymm}
 use Prim.Native.Nat.{_≤_, _-_, _+_}
 use Rattle.table.specs.Stretch.{firstRow}
-use Rattle.table.proofs.Stretches.{before-row, from-row, first-row-most}
+use Rattle.table.proofs.RowsOf.{before-row, from-row, first-row-most}
 use Rattle.table.proofs.core.run_end.Statement.{statement}
 use Rattle.table.proofs.core.run_end.Tie as tie
 

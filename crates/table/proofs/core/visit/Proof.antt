@@ -10,8 +10,10 @@ use Rattle.columns.proofs.Bools.{contra}
 use Rattle.table.specs.Lts.{Lts, lts, Valid}
 use Rattle.table.specs.Reach.{takes, edge}
 use Rattle.table.specs.Search.{Search, appended}
+use Rattle.table.specs.Stretch.{StretchOf}
 use Rattle.table.proofs.Searching.{Visit, visit-start, visit-skip, visit-append, visit-room, visit-end, search-few}
-use Rattle.table.proofs.Stretches.{rising, stretch, first-row-up, first-row-most}
+use Rattle.table.proofs.RowsOf.{rows-stretch}
+use Rattle.table.proofs.Stretches.{rising}
 use Rattle.table.proofs.core.visit.Statement.{statement}
 use Rattle.table.proofs.core.visit.Tie as tie
 
@@ -64,24 +66,25 @@ rows-of-requires c κs = (
   c .at .ensures .1,
 )
 
+-- the rows of the state at head
+module _ (q : tie.After-rows-of Inv-loop μ-loop) where
+  abbrev A : Start
+  A = q .before .before .before .before .before .before .before .before .before
+
+  run : StretchOf (λ i. getD (A .args .source .now) i 0) (A .args .table .m) (q .before .at .result) (q .rows-of .result .first)
+      (q .rows-of .result .end)
+  run =
+      rows-stretch (A .args .source .now) (A .args .table .m) (rising (L A) (valid A)) (q .before .at .result) _ _ (q .rows-of .ensures .0)
+      (q .rows-of .ensures .1)
+
 loop-holds : tie.Need-loop-holds Inv-loop μ-loop
 unfolding edge
 loop-holds c =
     let a = c .before .before .before .before .before .before .before .before .before in (
-      (
-        omega arith,
-        omega (
-          arith,
-          c .rows-of .ensures .0,
-          c .rows-of .ensures .1,
-          first-row-up (a .args .source .now) (a .args .table .m) (rising (L a) (valid a)) (c .before .at .result),
-        ),
-      ),
-      visit-start (length (a .args .marks .now)) (a .args .table .m) (a .args .source .now) (a .args .target .now) (W a)
-          (rising (L a) (valid a)) (to a)
+      (omega arith, run c .low),
+      visit-start (length (a .args .marks .now)) (a .args .table .m) (a .args .source .now) (a .args .target .now) (W a) (to a)
           (getD (a .args .queue .now) 0 0) (c .before .at .result) (a .args .queue .now) (a .args .tail) (a .args .head)
-          (a .args .marks .now)
-          (c .rows-of .result .first) (c .rows-of .ensures .0)
+          (a .args .marks .now) (c .rows-of .result .first) (c .rows-of .result .end) (run c)
           (subst (λ (n : ℕ). Found a n (a .args .marks .now) (a .args .queue .now) (a .args .head) (a .args .tail)) (sym (search₀ a .size))
           (search₀ a))
           (a .pre .0 .1) (sym (c .before .at .ensures .0)),
@@ -90,28 +93,11 @@ loop-holds c =
 -- a row of the state
 module _ (q : tie.In-loop Inv-loop μ-loop) where
   below : q .before .loop .i < q .before .before .before .before .before .before .before .before .before .before .before .args .table .m
-  below =
-      omega (
-        arith,
-        q .before .loop .inv .0,
-        q .loop-test,
-        first-row-most (q .before .before .before .before .before .before .before .before .before .before .before .args .source .now)
-            (q .before .before .before .before .before .before .before .before .before .before .before .args .table .m)
-            (q .before .before .before .at .result + 1),
-        q .before .before .rows-of .ensures .1,
-      )
+  below = omega (arith, q .loop-test, run (q .before .before) .most)
 
   own : getD (q .before .before .before .before .before .before .before .before .before .before .before .args .source .now)
       (q .before .loop .i) 0 ≡ q .before .before .before .at .result
-  own =
-      stretch (q .before .before .before .before .before .before .before .before .before .before .before .args .source .now)
-      (q .before .before .before .before .before .before .before .before .before .before .before .args .table .m)
-      (rising (L (q .before .before .before .before .before .before .before .before .before .before .before))
-      (valid (q .before .before .before .before .before .before .before .before .before .before .before)))
-      (q .before .before .before .at .result) (q .before .loop .i) below .1 (
-        omega (arith, q .before .loop .inv .0, q .before .before .rows-of .ensures .0),
-        omega (arith, q .loop-test, q .before .before .rows-of .ensures .1),
-      )
+  own = run (q .before .before) .exactly (q .before .loop .i) below .1 (q .before .loop .inv .0 .0, omega (arith, q .loop-test))
 
 taken-requires : tie.Need-taken-requires Inv-loop μ-loop
 taken-requires c κs = omega (
@@ -141,7 +127,7 @@ append-requires c κs =
           omega (
             arith,
             visit-room (length (a .args .marks .now)) (a .args .table .m) (a .args .source .now) (a .args .target .now) (W a)
-                (rising (L a) (valid a)) (to a)
+                (to a)
                 (getD (a .args .queue .now) 0 0) (c .before .before .before .before .before .before .before .before .at .result)
                 (a .args .queue .now) (a .args .tail) (a .args .head) (l .marks) (l .queue) (l .high) (l .i)
                 (l .inv .1) (below (c .before .before .before .before .before)) (own (c .before .before .before .before .before))
@@ -173,14 +159,14 @@ loop-again c =
         omega (arith, c .before .before .before .before .before .before .before .before .before .before .loop-test),
       ),
       visit-append (length (a .args .marks .now)) (a .args .table .m) (a .args .source .now) (a .args .target .now) (W a)
-          (rising (L a) (valid a)) (to a)
+          (to a)
           (getD (a .args .queue .now) 0 0)
           (c .before .before .before .before .before .before .before .before .before .before .before .before .before .at .result)
           (a .args .queue .now) (a .args .tail) (a .args .head) (l .marks) (l .queue) (l .high) (l .i)
           (l .inv .1) (below (c .before .before .before .before .before .before .before .before .before .before))
           (own (c .before .before .before .before .before .before .before .before .before .before))
           (sym (c .before .before .before .before .before .before .before .before .before .taken .ensures) ∙
-          c .before .before .before .before .before .before .before .before .if1 .taken) (p .result) (p .last .0) (p .last .1 .0)
+          c .before .before .before .before .before .before .before .before .if1 .taken) (p .result) (p .last .1 .0) (p .last .1 .1 .0)
           (p .ensures ∙ ap (λ (y : ℕ). appended y (l .marks) (l .queue) (l .high))
           (c .before .before .before .before .before .before .before .at2 .ensures .0)),
     )
@@ -201,7 +187,7 @@ loop-again-2 c =
     let l = c .before .before .before .loop in (
       (omega (arith, l .inv .0), omega (arith, c .before .before .loop-test)),
       visit-skip (length (a .args .marks .now)) (a .args .table .m) (a .args .source .now) (a .args .target .now) (W a)
-          (rising (L a) (valid a)) (to a)
+          (to a)
           (getD (a .args .queue .now) 0 0) (c .before .before .before .before .before .at .result) (a .args .queue .now) (a .args .tail)
           (a .args .head) (l .marks) (l .queue) (l .high) (l .i)
           (l .inv .1) (λ e. absurd (contra e (sym (c .before .taken .ensures) ∙ c .if1 .left))),
@@ -221,10 +207,10 @@ returns c =
     let e : l .i ≡ c .before .before .rows-of .result .end = omega (arith, c .loop-test, l .inv .0) in
     subst (λ (n : ℕ). Found a n (l .marks) (l .queue) (a .args .head + 1) (l .high)) (search₀ a .size)
     (visit-end (length (a .args .marks .now)) (a .args .table .m) (a .args .source .now) (a .args .target .now) (W a)
-    (rising (L a) (valid a)) (to a)
+    (to a)
     (getD (a .args .queue .now) 0 0) (c .before .before .before .at .result) (a .args .queue .now) (a .args .tail) (a .args .head)
     (l .marks) (l .queue) (l .high) (l .i)
-    (l .inv .1) (e ∙ c .before .before .rows-of .ensures .1))
+    (l .inv .1) _ _ (run (c .before .before)) e)
 
 pub visit-spec : {M : Type 1} → statement M
 visit-spec =

@@ -2,17 +2,13 @@
 use borrow.Author.Needs.{needs}
 use mathlib.Core.Path.{sym, ap, _∙_}
 use native.Mathlib.Omega.{arith}
-use mathlib.Core.Bool.{Bool}
 use mathlib.Core.List.{[], _∷_}
 use lib.ListN.{length}
 use lib.Seq.{length-take-le}
-use Rattle.columns.specs.declared.answers.Refusal.{Refusal}
-use Rattle.columns.specs.Answers.{none}
 use Rattle.columns.specs.Columns.{over, zeros, wiped}
 use Rattle.columns.proofs.Lists.{wiped-zeros}
 use Rattle.columns.proofs.Saying.{left-refused, left-done}
 use Rattle.table.specs.Lts.{Lts, lts}
-use Rattle.table.specs.Checks.{checkedTable}
 use Rattle.table.specs.Incoming.{incomingOrder, incomingRefusal, incomingRows}
 use Rattle.table.proofs.Incomings.{incoming-ready, incoming-over}
 use Rattle.table.proofs.incoming.incoming.Statement.{statement}
@@ -25,20 +21,17 @@ L a = lts (a .args .table) (a .args .source .now) (a .args .label .now) (a .args
 cast-m : tie.Need-cast-m
 cast-m c = search needs
 
-room-requires : tie.Need-room-requires
-room-requires c κs = search needs
-
-check-requires : tie.Need-check-requires
-check-requires c κs = search needs
+incoming-refusal-requires : tie.Need-incoming-refusal-requires
+incoming-refusal-requires c κs = search needs
 
 refusing-number-requires : tie.Need-refusing-number-requires
 refusing-number-requires c κs = search needs
 
 returns : tie.Need-returns
-unfolding incomingRows incomingRefusal
-returns c = let a = c .before .before .before .before .before .before .before .before .before .before in
-    left-refused (incomingRefusal (L a) (a .args .incoming .now) (a .args .spare .now)) _
-    (c .before .before .check .ensures ∙ ap (λ (b : Bool). checkedTable (L a) b none) (c .before .before .before .room .ensures))
+unfolding incomingRows
+returns c = let a = c .before .before .before .before .before .before .before .before .before in
+    left-refused (incomingRefusal (L a) (length (a .args .incoming .now)) (length (a .args .spare .now))) _
+    (c .before .before .incoming-refusal .ensures)
     (a .args .incoming .now, a .args .spare .now) (
       over (incomingOrder (L a)) (a .args .incoming .now),
       zeros (length (a .args .spare .now)),
@@ -48,33 +41,27 @@ clear-requires : tie.Need-clear-requires
 clear-requires c κs = search needs
 
 slice-relend-prefix-sort-incoming : tie.Need-slice-relend-prefix-sort-incoming
-unfolding incomingRefusal
-slice-relend-prefix-sort-incoming c = let a =
-    c .before .before .before .before .before .before .before .before .before .before .before .before .before in
-    let e = c .before .before .before .before .before .check .ensures ∙
-    ap (λ (b : Bool). checkedTable (L a) b none) (c .before .before .before .before .before .before .room .ensures) in
-    let q = incoming-ready (L a) (a .args .incoming .now) (a .args .spare .now)
-    (sym (ap (λ (r : Refusal). r .number) e) ∙ c .before .before .before .before .if1 .left) in
+slice-relend-prefix-sort-incoming c = let a = c .before .before .before .before .before .before .before .before .before .before .before
+    .before in
+    let e = c .before .before .before .before .before .incoming-refusal .ensures in
+    let q = incoming-ready (L a) (length (a .args .incoming .now)) (length (a .args .spare .now)) _ e
+    (c .before .before .before .before .if1 .left) in
     q .long
 
 slice-aggregate-sort-incoming : tie.Need-slice-aggregate-sort-incoming
-unfolding incomingRefusal
-slice-aggregate-sort-incoming c = let a =
-    c .before .before .before .before .before .before .before .before .before .before .before .before .before .before in
-    let e = c .before .before .before .before .before .before .check .ensures ∙
-    ap (λ (b : Bool). checkedTable (L a) b none) (c .before .before .before .before .before .before .before .room .ensures) in
-    let q = incoming-ready (L a) (a .args .incoming .now) (a .args .spare .now)
-    (sym (ap (λ (r : Refusal). r .number) e) ∙ c .before .before .before .before .before .if1 .left) in
+slice-aggregate-sort-incoming c = let a = c .before .before .before .before .before .before .before .before .before .before .before
+    .before .before in
+    let e = c .before .before .before .before .before .before .incoming-refusal .ensures in
+    let q = incoming-ready (L a) (length (a .args .incoming .now)) (length (a .args .spare .now)) _ e
+    (c .before .before .before .before .before .if1 .left) in
     sym (length-take-le (a .args .table .m) (a .args .incoming .now) (q .long))
 
 sort-incoming-requires : tie.Need-sort-incoming-requires
-unfolding incomingRefusal
-sort-incoming-requires c κs = let a =
-    c .before .before .before .before .before .before .before .before .before .before .before .before .before .before .before in
-    let e = c .before .before .before .before .before .before .before .check .ensures ∙
-    ap (λ (b : Bool). checkedTable (L a) b none) (c .before .before .before .before .before .before .before .before .room .ensures) in
-    let q = incoming-ready (L a) (a .args .incoming .now) (a .args .spare .now)
-    (sym (ap (λ (r : Refusal). r .number) e) ∙ c .before .before .before .before .before .before .if1 .left) in
+sort-incoming-requires c κs = let a = c .before .before .before .before .before .before .before .before .before .before .before .before
+    .before .before in
+    let e = c .before .before .before .before .before .before .before .incoming-refusal .ensures in
+    let q = incoming-ready (L a) (length (a .args .incoming .now)) (length (a .args .spare .now)) _ e
+    (c .before .before .before .before .before .before .if1 .left) in
     let lt = length-take-le (a .args .table .m) (a .args .incoming .now) (q .long) in
     (omega (arith, lt, q .valid .few-rows), omega (arith, lt, q .wide, c .before .before .before .before .clear .kept .0))
 
@@ -88,25 +75,21 @@ same-length-2 : tie.Need-same-length-2
 same-length-2 c = search needs
 
 returns-2 : tie.Need-returns-2
-unfolding incomingRows incomingRefusal
-returns-2 c = let a =
-    c .before .before .before .before .before .before .before .before .before .before .before .before .before .before .before .before
-    .before .before .before .before .before in
-    let e = c .before .before .before .before .before .before .before .before .before .before .before .before .before .check .ensures ∙
-    ap (λ (b : Bool). checkedTable (L a) b none)
-    (c .before .before .before .before .before .before .before .before .before .before .before .before .before .before .room .ensures)
+unfolding incomingRows
+returns-2 c = let a = c .before .before .before .before .before .before .before .before .before .before .before .before .before .before
+    .before .before .before .before .before .before in
+    let e = c .before .before .before .before .before .before .before .before .before .before .before .before .before .incoming-refusal
+    .ensures
     in
-    let q = incoming-ready (L a) (a .args .incoming .now) (a .args .spare .now)
-    (sym (ap (λ (r : Refusal). r .number) e) ∙
+    let q = incoming-ready (L a) (length (a .args .incoming .now)) (length (a .args .spare .now)) _ e
+    (
     c .before .before .before .before .before .before .before .before .before .before .before .before .if1 .left) in
     let lt = length-take-le (a .args .table .m) (a .args .incoming .now) (q .long) in
     let z = c .before .before .before .before .before .sort-incoming .ensures .1 ∙
     (ap (wiped _) (c .before .before .before .before .before .before .before .before .before .before .clear .ensures) ∙
     wiped-zeros _ (length (a .args .spare .now)) (omega (arith, lt, q .wide))) in
-    left-done (incomingRefusal (L a) (a .args .incoming .now) (a .args .spare .now)) _
-    (c .before .before .before .before .before .before .before .before .before .before .before .before .before .check .ensures ∙
-    ap (λ (b : Bool). checkedTable (L a) b none)
-    (c .before .before .before .before .before .before .before .before .before .before .before .before .before .before .room .ensures))
+    left-done (incomingRefusal (L a) (length (a .args .incoming .now)) (length (a .args .spare .now))) _
+    (c .before .before .before .before .before .before .before .before .before .before .before .before .before .incoming-refusal .ensures)
     (a .args .incoming .now, a .args .spare .now) (
       over (incomingOrder (L a)) (a .args .incoming .now),
       zeros (length (a .args .spare .now)),
@@ -123,8 +106,7 @@ incoming-spec =
     tie.close
     (tie.spec
     cast-m
-    room-requires
-    check-requires
+    incoming-refusal-requires
     refusing-number-requires
     returns
     clear-requires

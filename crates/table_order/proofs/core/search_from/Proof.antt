@@ -13,13 +13,13 @@ use Rattle.table_order.proofs.core.search_from.Statement.{statement}
 use Rattle.table_order.proofs.core.search_from.Tie as tie
 
 abbrev Inv-loop : tie.InvT-loop
-Inv-loop table source label target hidden marks₀ stack₀ root count top₀ k₀ marks stack top k =
+Inv-loop table source label target hidden root marks₀ stack₀ count top₀ k₀ marks stack top k =
     ((length marks ≡ length marks₀) × (length stack ≡ length stack₀)) ×
     Machine (next (lts table source label target) hidden) (table .n) (table .m) (root + 1)
     (sweep (next (lts table source label target) hidden) (table .n) (root + 1)) marks (stackOf top stack) k
 
 abbrev μ-loop : tie.MeasureT-loop
-μ-loop table source label target hidden marks₀ stack₀ root count top₀ k₀ marks stack top k =
+μ-loop table source label target hidden root marks₀ stack₀ count top₀ k₀ marks stack top k =
     measure (next (lts table source label target) hidden) (table .n) marks (stackOf top stack)
 
 at-requires : tie.Need-at-requires Inv-loop μ-loop

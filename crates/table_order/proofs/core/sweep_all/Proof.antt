@@ -40,11 +40,11 @@ search-from-requires c κs = let a = c .before .before .before .before .before .
 )
 
 same-length : tie.Need-same-length Inv-loop μ-loop
-same-length c = c .before .before .before .before .before .search-from .kept .1 .1 .1 .1 .1 .0 ∙
+same-length c = c .before .before .before .before .before .search-from .kept .1 .1 .1 .1 .1 .1 .0 ∙
     c .before .before .before .before .before .before .before .before .before .loop .inv .0 .1
 
 same-length-2 : tie.Need-same-length-2 Inv-loop μ-loop
-same-length-2 c = c .before .before .before .before .before .search-from .kept .1 .1 .1 .1 .1 .1 .0 ∙
+same-length-2 c = c .before .before .before .before .before .search-from .kept .1 .1 .1 .1 .1 .1 .1 .0 ∙
     c .before .before .before .before .before .before .before .before .before .loop .inv .0 .2
 
 returns : tie.Need-returns Inv-loop μ-loop
@@ -62,9 +62,9 @@ loop-again : tie.Need-loop-again Inv-loop μ-loop
 loop-again c = (
   (
     omega (arith, c .before .before .before .before .before .before .before .before .loop-test .taken),
-    c .before .before .before .before .before .search-from .kept .1 .1 .1 .1 .1 .0 ∙
-        c .before .before .before .before .before .before .before .before .before .loop .inv .0 .1,
     c .before .before .before .before .before .search-from .kept .1 .1 .1 .1 .1 .1 .0 ∙
+        c .before .before .before .before .before .before .before .before .before .loop .inv .0 .1,
+    c .before .before .before .before .before .search-from .kept .1 .1 .1 .1 .1 .1 .1 .0 ∙
         c .before .before .before .before .before .before .before .before .before .loop .inv .0 .2,
   ),
   c .before .before .before .before .before .search-from .ensures .idle (c .if1 .left),

@@ -1,0 +1,2 @@
+pub mod Naive
+pub mod Call

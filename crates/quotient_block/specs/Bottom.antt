@@ -1,0 +1,46 @@
+-- The walk to a bottom state: it follows the first hidden row to another state of the block, as long as there is one. `home` has the
+-- block of each state.
+use mathlib.Core.Bool.{Bool, not, _&&_, cond}
+use mathlib.Core.List.{List}
+use Prim.Native.Nat.{ℕ, zero, suc}
+use lib.Dec.{eqb, leb}
+use lib.ListN.{getD}
+use Rattle.bisimulation.specs.Quotient.{blockOf}
+use Rattle.columns.specs.Counting.{first}
+use Rattle.table.specs.Lts.{Lts}
+
+-- row i, of state s in block b, is hidden and leads to another state of the block
+unfoldable pub inward : List ℕ → List ℕ → List ℕ → ℕ → ℕ → ℕ → Bool
+inward label target home s b i =
+    eqb (getD label i 0) 0 && (not (eqb (getD target i 0) s) && eqb (blockOf home (getD target i 0)) b)
+
+-- row i is such a row of s
+unfoldable pub leadsOn : List ℕ → List ℕ → List ℕ → List ℕ → ℕ → ℕ → Bool
+unfolding inward
+leadsOn source label target home s i = eqb (getD source i 0) s && inward label target home s (blockOf home s) i
+
+-- the first of these, m if there is none
+unfoldable pub wayOn : Lts → List ℕ → ℕ → ℕ
+unfolding first leadsOn
+wayOn t home s = first (t .m) (leadsOn (t .source) (t .label) (t .target) home s)
+
+-- there is none
+unfoldable pub bottom : Lts → List ℕ → ℕ → Bool
+unfolding wayOn
+bottom t home s = leb (t .m) (wayOn t home s)
+
+-- one step; a bottom state is not left
+unfoldable pub nextOn : Lts → List ℕ → ℕ → ℕ
+unfolding bottom wayOn
+nextOn t home s = cond (bottom t home s) s (getD (t .target) (wayOn t home s) 0)
+
+-- where the walk from s is after k steps
+unfoldable pub walked : Lts → List ℕ → ℕ → ℕ → ℕ
+unfolding nextOn
+walked t home zero s = s
+walked t home (suc k) s = nextOn t home (walked t home k s)
+
+-- the bottom state that the walk from s ends in, n if it ends in none: in n steps it comes back to a state
+unfoldable pub bottomFrom : Lts → List ℕ → ℕ → ℕ
+unfolding walked bottom
+bottomFrom t home s = let u = walked t home (t .n) s in cond (bottom t home u) u (t .n)

@@ -1,0 +1,3 @@
+pub mod Bottom
+pub mod Chosen
+pub mod Call

@@ -1,0 +1,4 @@
+pub mod Components
+pub mod Numbering
+pub mod Examples
+pub mod Determined

@@ -1,0 +1,3 @@
+pub mod Components
+pub mod Call
+pub mod Numbering

@@ -1,0 +1,7 @@
+pub mod Acyclic
+pub mod Renumbered
+pub mod Sorting
+pub mod Reordering
+pub mod Calls
+pub mod Examples
+pub mod Determined

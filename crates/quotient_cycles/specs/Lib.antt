@@ -1,0 +1,2 @@
+pub mod Reordered
+pub mod Call

@@ -1,0 +1,5 @@
+pub mod Redundancy
+pub mod Testing
+pub mod Remaining
+pub mod Examples
+pub mod Determined

@@ -1,0 +1,4 @@
+pub mod Ends
+pub mod Entries
+pub mod Theorems
+pub mod Determined

@@ -1,0 +1,59 @@
+-- What `strong_reduction` refuses, answers and leaves.
+use mathlib.Core.Bool.{_&&_}
+use mathlib.Core.List.{List, [], _∷_, map}
+use Prim.Native.Nat.{ℕ}
+use lib.Dec.{leb}
+use lib.ListN.{length, getD}
+use Rattle.bisimulation.specs.Quotient.{quotient}
+use Rattle.columns.specs.Answers.{Said, leaving}
+use Rattle.columns.specs.Columns.{over, zeros}
+use Rattle.columns.specs.Due.{due, allLong}
+use Rattle.columns.specs.Rows.{rowsOf}
+use Rattle.columns.specs.declared.answers.Refusal.{Refusal}
+use Rattle.refinement.specs.Blocks.{blockCount}
+use Rattle.refinement_strong.specs.Reduction.{strongBlocks, strongBlock, strongRounds, strongCount, strongRows}
+use Rattle.table.specs.Checks.{worksLong, rowsLong, badRow, tableTests}
+use Rattle.table.specs.Lts.{Lts}
+use Rattle.table.specs.Tables.{Three, rowsOver}
+
+-- 1, 2, 3, 4, 7, 5 and 6, and nothing else; the result columns, the block column and the work slices by their lengths
+unfoldable pub reductionRefusal : Lts → List ℕ → ℕ → List ℕ → Refusal
+unfolding due rowsLong badRow allLong
+reductionRefusal t results block works =
+    due (tableTests t (allLong (t .m) results && (leb (t .n) block && worksLong t works)))
+
+-- n, labels, m and initial state of the reduced table, and the rounds that split something
+abbrev pub reductionNumbers : Lts → List ℕ
+reductionNumbers t = strongCount t ∷ t .labels ∷ length (strongRows t) ∷ strongBlock t (t .initial) ∷ strongRounds t ∷ []
+
+-- what the call is lent: three result columns, the block column, and the work slices
+abbrev pub Slices : Type 0
+Slices = Three × (List ℕ × List (List ℕ))
+
+-- the rows of the reduced table go over the first cells of the result, the number of each state's block over those of the block column,
+-- and every cell of every work slice is zero
+unfoldable pub reductionLeft : Lts → Slices → Slices
+unfolding rowsOver over strongBlocks
+reductionLeft t lent =
+    (rowsOver (strongRows t) (lent .0), (over (strongBlocks t) (lent .1 .0), map (λ l. zeros (length l)) (lent .1 .1)))
+
+unfoldable pub strongReduction : Lts → Slices → Said × Slices
+unfolding leaving reductionRefusal reductionLeft strongRounds strongBlocks blockCount quotient rowsOf
+strongReduction t lent =
+    let out = lent .0 in
+    let results = length (out .0) ∷ length (out .1 .0) ∷ length (out .1 .1) ∷ [] in
+    let refused = reductionRefusal t results (length (lent .1 .0)) (map (λ l. length l) (lent .1 .1)) in
+    leaving refused lent (reductionNumbers t) (reductionLeft t lent)
+
+-- the table that an answer's numbers and the result columns make
+abbrev pub answeredTable : List ℕ → Slices → Lts
+answeredTable values left =
+    record {
+      n = getD values 0 0;
+      labels = getD values 1 0;
+      m = getD values 2 0;
+      initial = getD values 3 0;
+      source = left .0 .0;
+      label = left .0 .1 .0;
+      target = left .0 .1 .1;
+    }

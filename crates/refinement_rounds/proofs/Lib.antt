@@ -1,0 +1,4 @@
+pub mod OneBlock
+pub mod AllBlocks
+pub mod Rooms
+pub mod Steps

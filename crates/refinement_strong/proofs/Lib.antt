@@ -1,0 +1,6 @@
+pub mod Bisimulations
+pub mod Quotients
+pub mod Reductions
+pub mod Again
+pub mod Theorems
+pub mod Examples
