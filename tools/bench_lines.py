@@ -64,7 +64,7 @@ def functions(line):
 
 
 def copy(to, origin, columns=SIX):
-    return ''.join(f'copy(&mut {to}_{column}[..n], &{origin}_{column}[..n]);\n' for column in columns)
+    return ''.join(f'copy(&{origin}_{column}[..n], &mut {to}_{column}[..n]);\n' for column in columns)
 
 
 def present(*choices):
