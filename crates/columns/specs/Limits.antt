@@ -54,6 +54,10 @@ cyclic = 11
 abbrev pub noBottom : ℕ
 noBottom = 12
 
+-- a field of a file's contents or a body's length not as it must be
+abbrev pub wrongContents : ℕ
+wrongContents = 13
+
 -- the lent partition or block not consistent
 abbrev pub inconsistent : ℕ
 inconsistent = 14

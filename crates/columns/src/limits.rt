@@ -41,6 +41,9 @@ pub const CYCLIC: u64 = 11;
 // The search for a bottom state comes back to a state.
 pub const NO_BOTTOM: u64 = 12;
 
+// A field of a file's contents, or the length of a body, is not as it must be.
+pub const WRONG_CONTENTS: u64 = 13;
+
 // The lent partition or block is not consistent.
 pub const INCONSISTENT: u64 = 14;
 

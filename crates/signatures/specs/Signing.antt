@@ -8,6 +8,7 @@ use Rattle.columns.specs.declared.answers.Refusal.{Refusal}
 use Rattle.columns.specs.Answers.{Said, done, refused}
 use Rattle.columns.specs.Columns.{zeros}
 use Rattle.columns.specs.Due.{allLong}
+use Rattle.columns.specs.Limits.{noRoom}
 use Rattle.columns.specs.Sets.{Pair}
 use Rattle.partition.specs.Partition.{Partition}
 use Rattle.table_partition.specs.Checks.{bothArgumentRefusal}
@@ -32,7 +33,7 @@ Left = Columns × List (List ℕ)
 unfoldable pub finishing : ℕ → List Pair → Columns → List (List ℕ) → Said × Left
 unfolding fits pairsOver allZero
 finishing pushed pairs out works =
-    cond (fits pushed out) (done (length pairs ∷ []), (pairsOver pairs out, allZero works)) (refused 16 pushed, (out, allZero works))
+    cond (fits pushed out) (done (length pairs ∷ []), (pairsOver pairs out, allZero works)) (refused noRoom pushed, (out, allZero works))
 
 -- a call whose checks have answered r, with as many pairs pushed and with its signature: a refusal leaves everything as it was
 unfoldable pub signing : Refusal → ℕ → List Pair → Columns → List (List ℕ) → Said × Left

@@ -5,6 +5,7 @@ use mathlib.Core.Bool.{cond}
 use mathlib.Core.List.{List, [], _∷_}
 use lib.ListN.{length, getD}
 use Rattle.columns.specs.Answers.{Said, done, refused}
+use Rattle.columns.specs.Limits.{noRoom}
 use Rattle.columns.specs.Rows.{pairsOf}
 use Rattle.columns.specs.Sets.{Pair, pairLt, addAll}
 use Rattle.pairs.specs.Lists.{startAt}
@@ -26,4 +27,4 @@ jointSet own labels blocks d k = addAll pairLt (pairsOf own labels blocks) (merg
 -- a set is written over the columns of the result, or 16 where they have no room for as many pairs as were pushed
 unfoldable pub writing : ℕ → List Pair → Columns → Said × Columns
 unfolding fits pairsOver
-writing pushed pairs out = cond (fits pushed out) (done (length pairs ∷ []), pairsOver pairs out) (refused 16 pushed, out)
+writing pushed pairs out = cond (fits pushed out) (done (length pairs ∷ []), pairsOver pairs out) (refused noRoom pushed, out)

@@ -8,6 +8,7 @@ use Rattle.columns.specs.declared.answers.Refusal.{Refusal}
 use Rattle.columns.specs.Answers.{Said, done, refused}
 use Rattle.columns.specs.Columns.{written, zeros}
 use Rattle.columns.specs.Due.{due, allLong}
+use Rattle.columns.specs.Limits.{cyclic}
 use Rattle.table.specs.Lts.{Lts}
 use Rattle.table.specs.Checks.{rowsLong, worksLong, badRow, tableTests}
 use Rattle.table_order.specs.Order.{sortPlace, hasCycle}
@@ -28,5 +29,5 @@ unfolding sortRefusal hasCycle sorted
 sortTopological t hidden reversed places marks stack =
     let r = sortRefusal t (length places) (length marks) (length stack) in
     cond (eqb (r .number) 0)
-    (cond (hasCycle t hidden) (refused 11 0) (done []), (sorted t hidden reversed places, (zeros (length marks), zeros (length stack))))
+    (cond (hasCycle t hidden) (refused cyclic 0) (done []), (sorted t hidden reversed places, (zeros (length marks), zeros (length stack))))
     (refused (r .number) (r .place), (places, (marks, stack)))
