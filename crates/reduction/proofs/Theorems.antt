@@ -8,7 +8,7 @@ use Prim.Native.Nat.{ℕ, _-_, _≤_, _<_}
 use native.Mathlib.Omega.{arith}
 use lib.ListN.{length, getD}
 use Rattle.bisimulation.specs.Bisimulation as B
-use Rattle.bisimulation.specs.Bisimulation.{Match, Bisimilar}
+use Rattle.bisimulation.specs.Bisimulation.{Match, Bisimulation, Bisimilar}
 use Rattle.bisimulation.specs.Quotient.{blockOf, Belongs}
 use Rattle.bisimulation.proofs.Quotients.{quotient-in, quotient-ascending}
 use Rattle.columns.specs.Answers.{done}
@@ -136,6 +136,22 @@ module _ (t : Lts) (given left : Slices) (values : List ℕ) (e : strongReductio
     λ q. D.share-exactly t valid s u hs hu .0 (sym (block-defined s hs) ∙ q ∙ block-defined u hu),
     λ b. block-defined s hs ∙ D.share-exactly t valid s u hs hu .1 b ∙ sym (block-defined u hu),
   )
+
+  -- So a bisimulation between the source and what is answered relates each state to its block.
+  pub states-and-blocks : Bisimulation (rows t) (rows result) In
+  states-and-blocks = record {
+    forth = λ s b a u h k.
+        record {
+          target = block u;
+          step = subst (λ (x : ℕ). Step result x a (block u)) (h .home) (step-of-block s a u k);
+          related = record { state = valid-range t valid .target s a u k; home = refl };
+        };
+    back = λ b s a c h k. block-answered b a c k s h;
+  }
+
+  pub state-and-block : (s : ℕ) → s < t .n → Bisimilar (rows t) (rows result) s (block s)
+  state-and-block s h =
+      record { relation = In; bisimulation = states-and-blocks; related = record { state = h; home = refl } }
 
   -- The number of rounds is that of the defined rounds that split something, at most n - 1.
   pub rounds-defined : getD values 4 0 ≡ strongRounds t

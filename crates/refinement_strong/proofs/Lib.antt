@@ -4,3 +4,4 @@ pub mod Reductions
 pub mod Again
 pub mod Theorems
 pub mod Examples
+pub mod Hasty
