@@ -4,22 +4,26 @@ An input is numbers, the columns of partitions, and the other columns, all of th
 """
 import random
 import struct
+from typing import NamedTuple
 
 SIZES = (512, 1024, 2048, 4096)
 SHAPES = {
-    'random': 'two rows a state, hidden ones to later states; signatures over about √n blocks, division into as many',
-    'chain': 'a hidden and a visible row from each state to the next; signatures over one block, division into pairs',
+    'random': 'two rows a state, hidden ones to later states; '
+              'signatures and quotients over about √n blocks, division into as many',
+    'chain': 'a hidden and a visible row from each state to the next; '
+             'signatures and quotients over one block, division into pairs',
     'dense': 'about 2 √n states with a hidden row to each later one, the others without rows; '
-             'signatures over one block, nothing to divide',
+             'signatures and quotients over one block, nothing to divide',
     'star': 'a hidden row from one state to each, and a visible one back; '
-            'signatures over blocks of one state, division into that one and the rest',
-    'differing': 'the rows of random; signatures over blocks of one state, division into n',
+            'signatures and quotients over blocks of one state, division into that one and the rest',
+    'differing': 'the rows of random; signatures and quotients over blocks of one state, division into n',
 }
 LABELS = 8
 NUMBERS = ('n', 'm', 'label_count', 'many_count', 'signed_count', 'listed_count', 'state', 'self_pairs', 'other_pairs',
-           'given', 'least', 'batches')
-# One block with all marked, many blocks, one block with its last state marked, that of the signatures, and that of the
-# sorted signature; each in six columns.
+           'given', 'least', 'batches', 'redundant', 'first', 'after')
+SECOND = 1_000_000_000
+# One block with all marked, many blocks, one block with its last state marked, that of signatures and quotients, and
+# that of the sorted signature; each in six columns.
 PARTITIONS = ('one', 'many', 'last', 'signed', 'listed')
 SIX = ('elements', 'element_offset', 'element_to_block', 'begin', 'marked_split', 'end')
 # The other columns, with their numbers of cells.
@@ -129,7 +133,21 @@ def fields(records, number):
     return [[record[field] for record in records] for field in range(number)]
 
 
-def made(shape, n, least, batches):
+class Settings(NamedTuple):
+    """How the calls are timed: a batch takes so many microseconds or more, and of so many batches the best is taken."""
+    least: int
+    batches: int
+    redundant: bool  # whether the Rust's redundancy pass is timed
+    first: int  # the lines of the port that are timed
+    after: int
+
+
+def packed(columns):
+    """Numbers as bytes, one column after the other."""
+    return b''.join(struct.pack(f'<{len(cells)}H', *cells) for cells in columns)
+
+
+def made(shape, n, settings):
     """The bytes of an input."""
     rng = random.Random(f'{shape} {n}')
     rows, numbers, choice, home = rows_and_blocks(shape, rng, n)
@@ -144,8 +162,15 @@ def made(shape, n, least, batches):
     others, given = other_pairs(shape, rng, pairs), given_pairs(rng, n, count if split else n)
     keys = [rng.randrange(n) for _ in range(n)]
     state = rows[0][0]
-    head = (n, len(rows), LABELS, count, signed_count, listed_count, state, len(pairs), len(others), len(given), least,
-            batches)
+    head = (n, len(rows), LABELS, count, signed_count, listed_count, state, len(pairs), len(others), len(given),
+            *settings)
     columns = [*one, *many, *last, *signed, *listed, *fields(rows, 3), numbers, choice, keys, *fields(pairs, 2),
                *fields(others, 2), *fields(given, 2)]
-    return b''.join(struct.pack(f'<{len(cells)}H', *cells) for cells in (head, *columns))
+    return packed((head, *columns))
+
+
+def table_alone(n, labels, rows, settings):
+    """The bytes of an input for calls on a table alone: the partitions are zero, and nothing follows the rows."""
+    head = (n, len(rows), labels, 1, 1, 1, 0, 0, 0, 0, *settings)
+    unused = [[0] * n] * (len(PARTITIONS) * len(SIX))
+    return packed((head, *unused, *fields(sorted(rows), 3)))

@@ -4,9 +4,12 @@ Nothing of it is proved, and it is no part of the port.
 """
 import bench_signatures
 import needs
-from bench_inputs import GIVEN, NUMBERS, PARTITIONS, SIX
-from bench_lines import COPIES, LINES, RESULTS, WORK, copy, functions, values_of
+from bench_inputs import GIVEN, NUMBERS, PARTITIONS, SECOND, SIX
+from bench_line import COPIES, LENT, RESULTS, WORK, copy, functions, values_of
+from bench_lines import LINES
 
+# What a block of a reduction counts for; a round counts for 1.
+BLOCK = 10_000
 # For each kind of answer: where it stands, its outcome, the pattern of what is done, and the number that it counts for.
 ANSWERS = {
     'Answer': ('columns::answers', 'Outcome', 'Done', '0'),
@@ -17,6 +20,12 @@ ANSWERS = {
     'StretchAnswer': ('table::transitions', 'StretchOutcome', 'Done { first, end }', 'end - first'),
     'DivisionAnswer': ('partition_division', 'DivisionOutcome', 'Done { index, first, count }',
                        'count + 0 * index + 0 * first'),
+    'TableAnswer': ('table::answers', 'TableOutcome', 'Done { n, labels, m, initial }',
+                    'm + 0 * n + 0 * labels + 0 * initial'),
+    'ReorderedAnswer': ('quotient_cycles', 'ReorderedOutcome', 'Done { n, labels, m, initial, state }',
+                        'm + 0 * n + 0 * labels + 0 * initial + 0 * state'),
+    'ReductionAnswer': ('reduction::answers', 'ReductionOutcome', 'Done { n, labels, m, initial, rounds }',
+                        f'{BLOCK} * n + rounds + 0 * labels + 0 * m + 0 * initial'),
 }
 REFUSED = 1_000_000_000
 # Room for columns of n, m and n + m + 1 cells, for results and for given lists, at the greatest n and m.
@@ -47,7 +56,9 @@ def counted(function, text, besides):
     forms = {'': '{};\n', 'usize': 'sum += {} as u64;\n', 'bool': 'if {} {{ sum += 1; }}\n',
              'Refusal': 'sum += {}.number;\n', 'Stretch': 'let rows = {};\nsum += (rows.end - rows.first) as u64;\n',
              "&'a [u16]": 'let part = {};\nsum += part.len() as u64;\n',
-             'Block': 'let block = {};\nsum += block.end as u64;\n'}
+             'Block': 'let block = {};\nsum += block.end as u64;\n',
+             'Reordered': 'let made = {};\nsum += made.m as u64;\n',
+             'Reduction': f'let made = {{}};\nsum += {BLOCK} * made.count as u64 + made.rounds as u64;\n'}
     if function.answer not in forms:
         needs.stop(f'tools/bench_program.py has no count for {function.answer}, the answer of {function.path}')
     return forms[function.answer].format(text)
@@ -80,7 +91,7 @@ def uses():
 def arrays():
     """Every array: the columns of the partitions, what is given, work, results."""
     columns = {f'{partition}_{column}': 'n' for partition in (*PARTITIONS, *COPIES) for column in SIX}
-    made = {**columns, **GIVEN, **WORK, **RESULTS}
+    made = {**columns, **GIVEN, **WORK, **RESULTS, **LENT}
     kinds = {'text': '0u8; 70000', 'choice': '0u8; 4200', 'starts': '0u32; 4200', 'chosen': '0u16; 4200'}
     cells = {**{name: f'0u16; {ROOMS.get(length)}' for name, length in made.items()}, **kinds}
     return ''.join(f'let mut {name} = [{kind}];\n' for name, kind in cells.items())
@@ -100,7 +111,7 @@ def program():
     """The whole text."""
     arms = ''.join(arm(number, line) for number, line in enumerate(LINES))
     return f'{uses()}{"".join(map(saying, ANSWERS))}{READERS}{MAIN}'.replace('READING', reading()).replace(
-        'ARMS', arms).replace('LINES', str(len(LINES)))
+        'ARMS', arms).replace('HEAD', str(len(NUMBERS))).replace('SECOND', str(SECOND))
 
 
 READERS = '''
@@ -135,7 +146,7 @@ fn show(n: u64) {
 MAIN = '''
 fn main() {
     let mut buffer = [0u8; 70000];
-    let mut head = [0u16; 12];
+    let mut head = [0u16; HEAD];
     read_column(&mut buffer, &mut head);
     READING
     let table = Table { n: n as u16, labels: label_count as u16, m: m as u16, initial: 0 };
@@ -150,8 +161,8 @@ fn main() {
         records[i] = Block { begin: many_begin[i], marked_split: many_marked_split[i], end: many_end[i] };
         i += 1;
     }
-    let mut line = 0;
-    while line < LINES {
+    let mut line = first;
+    while line < after {
         let mut rounds = 1;
         let mut best = 0;
         let mut batch = 0;
@@ -182,6 +193,9 @@ fn main() {
                     best = took;
                 }
                 batch += 1;
+                if took >= SECOND {
+                    batch = batches;
+                }
             }
         }
         show(line as u64);

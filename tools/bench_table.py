@@ -3,7 +3,8 @@ from typing import NamedTuple
 
 import document
 from bench_inputs import SHAPES, SIZES
-from bench_lines import LINES
+from bench_lines import CALLS
+from bench_quotients import QUOTIENTS
 
 SIDES = ('core', 'public', 'check')
 
@@ -25,9 +26,9 @@ def rust_key(line, shape, n):
 
 
 def nanoseconds(best, key, reset):
-    """The time of a call, without that of what is done before it."""
+    """The time of a call, without that of what is done before it; None where it was not measured."""
     before = Key(reset, 'Rust' if key.side == 'Rust' else 'reset', key.shape, key.n)
-    return best[key] - best[before] if reset else best[key]
+    return best[key] - best[before] if reset else best.get(key)
 
 
 def series(best, line, shape, key_of):
@@ -37,13 +38,16 @@ def series(best, line, shape, key_of):
 
 def micros(time):
     """Microseconds, with three digits that count."""
+    if time is None:
+        return ''
     value = time / 1000
     digits = 0 if value >= 100 else 1 if value >= 10 else 2 if value >= 1 else 3
     return f'{value:,.{digits}f}'
 
 
 def quotient(one, other):
-    return one / other if one > 0 and other > 0 else None
+    known = one is not None and other is not None
+    return one / other if known and one > 0 and other > 0 else None
 
 
 def short(number):
@@ -51,13 +55,21 @@ def short(number):
 
 
 def quotients(times, others):
-    """A time by the other, one after the other."""
-    return ' '.join(short(quotient(time, other)) or '-' for time, other in zip(times, others))
+    """A time by the other, one after the other, up to the last that is known."""
+    shown = ' '.join(short(quotient(time, other)) or '-' for time, other in zip(times, others))
+    return shown.rstrip(' -')
 
 
 def mean_growth(times):
-    whole = quotient(times[-1], times[0])
-    return None if whole is None else whole ** (1 / (len(times) - 1))
+    known = [time for time in times if time is not None]
+    whole = quotient(known[-1], known[0])
+    return None if whole is None or len(known) == 1 else whole ** (1 / (len(known) - 1))
+
+
+def last_quotient(times, others):
+    """A time by the other at the greatest n at which both are known."""
+    known = [quotient(time, other) for time, other in zip(times, others)]
+    return next((value for value in reversed(known) if value is not None), None)
 
 
 def row(name, side, times, rust):
@@ -76,13 +88,27 @@ def rows_of(best, name, lines, shape):
     return [(f'`{name}`' if place == 0 else '', *cells[1:]) for place, cells in enumerate(rows)]
 
 
+def by_name(lines):
+    """The lines of each operation."""
+    names = dict.fromkeys(line.name for line in lines if line.side in SIDES)
+    return {name: [line for line in lines if line.name == name] for name in names}
+
+
+HEADS = ('side', *(f'{n:,}' for n in SIZES), 'growth', 'times the Rust')
+
+
 def of_shape(best, shape):
-    """Every line on inputs of one shape."""
-    names = list(dict.fromkeys(line.name for line in LINES if line.side in SIDES))
-    rows = [cells for name in names
-            for cells in rows_of(best, name, [line for line in LINES if line.name == name], shape)]
-    heads = ('operation', 'side', *(f'{n:,}' for n in SIZES), 'growth', 'times the Rust')
-    return document.table(heads, rows, 2)
+    """Every line but those of the quotients on inputs of one shape."""
+    lines = by_name([line for line in CALLS if line not in QUOTIENTS])
+    rows = [cells for name in lines for cells in rows_of(best, name, lines[name], shape)]
+    return document.table(('operation', *HEADS), rows, 2)
+
+
+def of_quotients(best):
+    """The lines of the quotients on inputs of every shape."""
+    rows = [(cells[0], shape if cells[0] else '', *cells[1:]) for name, lines in by_name(QUOTIENTS).items()
+            for shape in SHAPES for cells in rows_of(best, name, lines, shape)]
+    return document.table(('operation', 'shape', *HEADS), rows, 3)
 
 
 def greatest(values):
@@ -92,10 +118,10 @@ def greatest(values):
 
 
 def worst_row(best, line):
-    """The shape on which the port is slowest beside the Rust at the greatest n, and that on which it grows most."""
+    """The shape on which the port is slowest beside the Rust at the greatest n that both have, and the steepest one."""
     port = {shape: series(best, line, shape, port_key) for shape in SHAPES}
     rust = {shape: series(best, line, shape, rust_key) for shape in SHAPES}
-    slow, ratio = greatest({shape: quotient(port[shape][-1], rust[shape][-1]) for shape in SHAPES})
+    slow, ratio = greatest({shape: last_quotient(port[shape], rust[shape]) for shape in SHAPES})
     steep, most = greatest({shape: mean_growth(port[shape]) for shape in SHAPES})
     return (f'`{line.name}`', line.side, slow, micros(port[slow][-1]), short(ratio), steep, short(most),
             short(mean_growth(rust[steep])))
@@ -105,5 +131,5 @@ def worst(best):
     """For each line the shapes that are worst for the port."""
     heads = ('operation', 'side', 'slowest on', f'µs at {SIZES[-1]:,}', 'times the Rust', 'steepest on', 'growth',
              "the Rust's growth")
-    lines = sorted((line for line in LINES if line.rust and line.side in SIDES), key=lambda line: line.side)
+    lines = sorted((line for line in CALLS if line.rust and line.side in SIDES), key=lambda line: line.side)
     return document.table(heads, [worst_row(best, line) for line in lines], 3)

@@ -4,6 +4,7 @@ unsafe extern "C" {
 }
 
 const PROCESSOR_TIME: i32 = 2;
+const SECOND: u64 = 1_000_000_000;
 
 fn now_ns() -> u64 {
     let mut time = [0i64; 2];
@@ -19,7 +20,7 @@ pub struct Clock {
 
 impl Clock {
     /// Doubles the rounds of a batch until it takes long enough, and writes the name, the rounds, the time of the best batch, and the
-    /// answers' sum by round.
+    /// answers' sum by round. Where a batch takes a second or more it is the only one.
     pub fn time(&self, name: &str, mut call: impl FnMut() -> usize) {
         let mut batch = |rounds: usize| {
             let from = now_ns();
@@ -33,6 +34,9 @@ impl Clock {
             (best, sum) = batch(rounds);
         }
         for _ in 1..self.batches {
+            if best >= SECOND {
+                break;
+            }
             let took;
             (took, sum) = batch(rounds);
             best = best.min(took);

@@ -1,6 +1,7 @@
-//! Times the Rust on an input of tools/bench, call by call, under the names of tools/bench_lines.py.
+//! Times the Rust on an input of tools/bench, call by call, under the names of tools/bench_lines.py and tools/bench_quotients.py.
 mod clock;
 mod input;
+mod quotients;
 
 use clock::Clock;
 use input::Input;
@@ -17,6 +18,7 @@ type Table = LabelledTransitionSystem<String>;
 struct Given {
     n: usize,
     state: StateIndex,
+    redundant: bool,
     one: BlockPartition,
     many: BlockPartition,
     last: BlockPartition,
@@ -38,9 +40,12 @@ fn read() -> (Clock, Given) {
     let state = StateIndex::new(input.number());
     let (this, other, lists) = (input.number(), input.number(), input.number());
     let clock = Clock { least: 1000 * input.number() as u64, batches: input.number() };
+    let redundant = input.number() != 0;
+    let _lines_of_the_port = input.column(2);
     let given = Given {
         n,
         state,
+        redundant,
         one: input.partition(n, 1),
         many: input.partition(n, many),
         last: input.partition(n, 1),
@@ -227,4 +232,5 @@ fn main() {
     time_partition(&clock, &mut given);
     time_table(&clock, &given);
     time_signatures(&clock, &given);
+    quotients::time(&clock, &given);
 }
