@@ -31,7 +31,7 @@ def lines(operation, example):
             yield written(operation, {**example, name: 2})
         if isinstance(value, list):
             cell = (0, 0, 0) if name in RECORDS else 0
-            yield written(operation, {**example, name: [cell] * (room(name) + 1)})
+            yield written(operation, {**example, name: [cell] * (room(operation, name) + 1)})
             yield written(operation, {**example, name: [*value[:-1], too_large(name)]})
 
 

@@ -8,7 +8,6 @@ from operations import BLOCK, BY_NAME, RECORDS, RECORDS_ROOM, STATES, Case
 from partitions import LARGEST, laid_out, random_partition
 from refusals import MOST_STATES
 
-OPERATIONS = ('swap_blocks_host',)
 COLUMN_FORM = BY_NAME['swap_blocks']
 
 

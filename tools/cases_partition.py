@@ -33,7 +33,7 @@ def good_arguments(rng, operation, v):
     """Arguments in range for a sound partition."""
     chosen = {}
     for name in argument_names(operation):
-        if operation.name in splits.OPERATIONS:
+        if operation.maker == 'cases_split':
             chosen[name] = splits.good_argument(rng, {**v, **chosen}, name)
         elif name == 'text':
             room = len(shown(v)) + rng.choice((0, 0, 1, 5))
@@ -99,7 +99,7 @@ def large(operation, rng):
         yield {**v, **good_arguments(rng, operation, v)}
     v = random_partition(rng, MOST_STATES + 1, 3)
     yield {**v, **good_arguments(rng, operation, v)}
-    if 'text' in operation.parameters:
+    if 'text' in operation.takes:
         yield {**random_partition(rng, 5), 'text': [9] * ROOM}
 
 
@@ -172,5 +172,5 @@ def example(operation):
 
 
 def cases(operation, rng, number):
-    made = values if 'count' in operation.parameters else values_of_new
+    made = values_of_new if operation.name == 'BlockPartition::new' else values
     return (Case(operation, v) for v in made(operation, rng, number))

@@ -42,7 +42,7 @@ def every_choice(rng, v):
 
 def every_small(operation, rng):
     """Every partition of up to four states with every block, and every numbering or choice of what is marked."""
-    every, made = (every_choice, with_choice) if 'choice' in operation.parameters else (every_numbering, with_numbers)
+    every, made = (every_choice, with_choice) if 'choice' in operation.takes else (every_numbering, with_numbers)
     for n in (1, 2, 3, 4):
         for v in partitions.every(n):
             for block in range(v['count']):
@@ -94,7 +94,7 @@ def at_limit(operation, rng):
         rng.shuffle(order)
         v, size = {**laid_out(order, [(0, split, MOST_STATES)]), 'block': 0}, MOST_STATES - split
         places = range(size)
-        if 'choice' in operation.parameters:
+        if 'choice' in operation.takes:
             choices = ([0] * size, [255] * size, [1, 0] * size, [1, *[0] * size], [*[0] * (size - 1), 1])
             yield from (with_choice(rng, v, cells) for cells in choices)
         else:
@@ -114,7 +114,7 @@ def at_room(operation, rng):
 
 def faults_of(operation):
     """What makes each refusal due, in an order in which all can be done."""
-    numbers = [splits.make_gap, splits.unmark] if 'numbers' in operation.parameters else []
+    numbers = [splits.make_gap, splits.unmark] if 'numbers' in operation.takes else []
     return [*numbers, outside('block', 'count'), damage, shorten(operation), partitions.n_outside]
 
 
@@ -128,7 +128,7 @@ def some_sound(operation, rng):
 def values(operation, rng, number):
     yield from every_small(operation, rng)
     yield from every_block_outside(operation, rng)
-    yield from chain.from_iterable(every_size(rng) for _ in range(5) if 'numbers' in operation.parameters)
+    yield from chain.from_iterable(every_size(rng) for _ in range(5) if 'numbers' in operation.takes)
     yield from every_changed_cell(operation, rng)
     yield from every_short_column(operation, rng)
     yield from every_short_slice(operation, rng)

@@ -19,7 +19,7 @@ MOST_AT_ONCE = 6
 
 
 def takes_partition(operation):
-    return 'count' in operation.parameters
+    return 'partition' in operation.takes
 
 
 def argument_names(operation):
@@ -29,11 +29,15 @@ def argument_names(operation):
 
 def rows_to_ask(operation, rows):
     """The rows to ask from, where the operation takes one."""
-    return [{'from': row} for row in rows] if 'from' in operation.parameters else [{}]
+    return [{'from': row} for row in rows] if 'from' in operation.takes else [{}]
 
 
 def takes_lists(operation):
-    return 'starts' in operation.parameters
+    return 'lists' in operation.takes
+
+
+def signs(operation):
+    return 'room' in operation.takes
 
 
 def slices_besides(operation):
@@ -44,7 +48,7 @@ def slices_besides(operation):
 def lent(operation, rng, v):
     """Result and work slices for these values: mostly exact, with junk."""
     needed = {name: operation.lengths()[name](v) for name in slices_besides(operation) if name not in GIVEN}
-    return {name: junk_cells(rng, v['n'], min(cells + more(rng), room(name)))
+    return {name: junk_cells(rng, v['n'], min(cells + more(rng), room(operation, name)))
             for name, cells in needed.items()}
 
 
@@ -61,9 +65,9 @@ def orderly_partitions(n):
 
 def every_argument(operation, n):
     """Every flag, start state, partition and block."""
-    if 'block' in operation.parameters:
+    if 'block' in operation.takes:
         return [{**v, 'block': block} for v in orderly_partitions(n) for block in range(v['count'])]
-    if operation.name in signatures.OPERATIONS:
+    if signs(operation):
         return signatures.every_argument(operation, n)
     choices = {name: range(n) if name == 'state' else (0, 1) for name in argument_names(operation)}
     return [dict(zip(choices, chosen)) for chosen in product(*choices.values())]
@@ -71,7 +75,7 @@ def every_argument(operation, n):
 
 def every_small(operation, rng):
     """Every table of a few states with every argument."""
-    for n, labels in signatures.SMALL if operation.name in signatures.OPERATIONS else SMALL:
+    for n, labels in signatures.SMALL if signs(operation) else SMALL:
         arguments = every_argument(operation, n)
         for v, chosen in product(tables.every(n, labels), arguments):
             for row in rows_to_ask(operation, range(v['m'] + 1)):
@@ -81,13 +85,13 @@ def every_small(operation, rng):
 def arguments(operation, rng, v):
     """Flags, a start state, a row to ask from, a partition and a block, all in range."""
     chosen = {name: rng.randrange(2) for name in operation.parameters if name in FLAGS}
-    if 'state' in operation.parameters:
+    if 'state' in operation.takes:
         chosen['state'] = rng.choice((0, v['initial'], rng.randrange(v['n'])))
-    if 'from' in operation.parameters:
+    if 'from' in operation.takes:
         chosen['from'] = rng.choice((0, v['m'], rng.randint(0, v['m'])))
     if takes_partition(operation):
         chosen |= random_partition(rng, v['n'], rng.choice((None, min(2, v['n']), 1)))
-    if 'block' in operation.parameters:
+    if 'block' in operation.takes:
         chosen |= {'block': splits.a_block(rng, chosen)}
     return chosen
 
@@ -100,15 +104,14 @@ def completed(operation, rng, v):
 def sound(operation, rng):
     """A random sound case; columns exact or longer."""
     n = small_size(rng)
-    number = signatures.number_of_rows(rng, n) if operation.name in signatures.OPERATIONS else None
+    number = signatures.number_of_rows(rng, n) if signs(operation) else None
     v = completed(operation, rng, tables.random_table(rng, n, number))
     tables.lengthen(rng, v)
     return partitions.lengthen(rng, v) if takes_partition(operation) else v
 
 
-def headers(operation, rng):
+def every_header(v):
     """Each number of the header around its limits, alone and together."""
-    v = completed(operation, rng, tables.given(3, 2, [(0, 0, 1), (1, 1, 2)]))
     numbers = {
         'n': (0, 1, 3, MOST_STATES, MOST_STATES + 1, LARGEST),
         'labels': (0, 1, 2, MOST_LABELS, MOST_LABELS + 1, LARGEST),
@@ -117,6 +120,10 @@ def headers(operation, rng):
     }
     for chosen in product(*numbers.values()):
         yield {**v, **dict(zip(numbers, chosen))}
+
+
+def headers(operation, rng):
+    return every_header(completed(operation, rng, tables.given(3, 2, [(0, 0, 1), (1, 1, 2)])))
 
 
 def limits(rng):
@@ -143,7 +150,7 @@ def large(rng):
 
 def many_arguments(operation, rng, v):
     """Arguments for a large table: flags, states and rows at both ends; one block with little marked, and any."""
-    if operation.name in signatures.OPERATIONS:
+    if signs(operation):
         return [{**arguments(operation, rng, v), 'state': state} for state in {0, v['n'] - 1, v['initial']}]
     if not takes_partition(operation):
         choices = {name: (0, v['n'] - 1) if name == 'state' else (0, 1) for name in argument_names(operation)}
@@ -165,7 +172,7 @@ def of_size(operation, rng):
 def at_room(operation, rng):
     """The largest table with every slice as long as `replay` takes it, and with each slice one short."""
     v = completed(operation, rng, tables.full(rng, MOST_STATES))
-    yield {**v, **{name: v[name] + [1] * (room(name) - len(v[name])) for name in operation.lengths()}}
+    yield {**v, **{name: v[name] + [1] * (room(operation, name) - len(v[name])) for name in operation.lengths()}}
     yield from ({**v, name: v[name][:needed(v) - 1]} for name, needed in operation.lengths().items())
 
 
@@ -177,28 +184,32 @@ def every_short_slice(operation, rng):
         yield from every_length(operation, v, names[first:first + MOST_AT_ONCE])
 
 
-def every_changed_field(operation, rng):
-    """A table of three rows with each field changed to each small number and the largest."""
-    v = completed(operation, rng, tables.given(3, 2, [(0, 0, 1), (0, 1, 0), (1, 0, 2)]))
+def every_field(v):
+    """Each field of the first three rows changed to each small number and the largest."""
     for column, place, number in product(ROWS, range(3), (0, 1, 2, 3, LARGEST)):
         yield {**v, column: [*v[column][:place], number, *v[column][place + 1:]]}
 
 
-def faults_of(operation):
-    """What makes each refusal due, in an order in which all can be done."""
-    of_lists = [given_lists.disorder] if takes_lists(operation) else []
-    own = {
-        'incoming': [],
-        'reachable': [outside('state', 'n')],
-        'outgoing_transitions': [outside('state', 'n')],
-        'next_incoming': [above('from', 'm'), outside('state', 'n')],
-        'mark_backward_closure': [outside('block', 'count'), damage],
-        'sort_topological': [tables.make_cycle],
-        **dict.fromkeys(signatures.OPERATIONS, [signatures.little_room, *of_lists, outside('state', 'n'), damage]),
-    }
+def every_changed_field(operation, rng):
+    return every_field(completed(operation, rng, tables.given(3, 2, [(0, 0, 1), (0, 1, 0), (1, 0, 2)])))
+
+
+def faults_of_table(operation):
+    """What makes a refusal of the table or of a length due, in an order in which all can be done."""
     of_rows = [tables.order_broken, tables.field_outside, shorten(operation)]
     of_header = [outside('initial', 'n'), tables.rows_outside, tables.labels_outside, partitions.n_outside]
-    return [*own[operation.name], *of_rows, *of_header]
+    return of_rows + of_header
+
+
+# What makes faulty what an operation takes.
+FAULTS = {'order': tables.make_cycle, 'room': signatures.little_room, 'lists': given_lists.disorder,
+          'from': above('from', 'm'), 'state': outside('state', 'n'), 'block': outside('block', 'count'),
+          'partition': damage}
+
+
+def faults_of(operation):
+    """What makes each refusal due, in such an order."""
+    return [*(FAULTS[thing] for thing in operation.takes), *faults_of_table(operation)]
 
 
 def values(operation, rng, number):
@@ -209,7 +220,7 @@ def values(operation, rng, number):
     yield from every_short_slice(operation, rng)
     yield from every_changed_field(operation, rng)
     yield from (sound(operation, rng) for _ in range(number))
-    if operation.name in signatures.OPERATIONS:
+    if signs(operation):
         yield from signatures.every_room(lambda: sound(operation, rng), 400)
     if takes_lists(operation):
         yield from ({**v, **lent(operation, rng, v)} for v in given_lists.tried(rng))
@@ -229,5 +240,5 @@ def example(operation):
 
 def cases(operation, rng, number):
     """A table's order is tried with more random cases than the rest."""
-    number = number * 3 if operation.name == 'sort_topological' else number
+    number = number * 3 if 'order' in operation.takes else number
     return (Case(operation, v) for v in values(operation, rng, number))

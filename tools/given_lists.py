@@ -8,7 +8,6 @@ from operations import ROOM
 from partitions import LARGEST
 from refusals import GIVEN, MOST_ROWS, MOST_STATES
 
-OPERATIONS = ('branching_bisim_signature_sorted',)
 LARGEST_START = 4294967295
 FEW = tuple(product((0, 1), repeat=2))
 # So many states have lists that are computed from the table.

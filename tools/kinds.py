@@ -10,6 +10,10 @@ from programs import ROOT
 SOURCE = ROOT / 'crates' / 'replay_calls' / 'src' / 'operations.rt'
 # How many slices of u16 the operations of a family may change; none in the families that are not named.
 SLOTS = {'FEW': 3, 'RECORDS': 2, 'SIX': 6, 'DIVIDING': 9, 'SIGNING': 6, 'WALKING': 9}
+# The families whose operations hold what they change for themselves, and how many places there are for that.
+HOLDING, PLACES = ('REDUCING', 'FILING'), 16
+# The families whose operations may change bytes, one slice of them.
+CHANGING_BYTES = ('TEXTS', 'FILING')
 
 
 def kind(operation, parameter):
@@ -23,7 +27,9 @@ def kind(operation, parameter):
         return 'w'
     if parameter in BYTES:
         return 't' if changed else 'b'
-    return 'm' if changed else 'c'
+    if not changed:
+        return 'c'
+    return 's' if operation.holds else 'm'
 
 
 def kinds(operation):
@@ -65,8 +71,11 @@ def faults():
             yield f'{name} has the kinds {letters}, and not {kinds(BY_NAME[name])}'
         if numbers.get(constant(name)) != number:
             yield f'{constant(name)} is not {number}'
-        slots = SLOTS.get(family(text, number, numbers), 0)
+        group = family(text, number, numbers)
+        slots = SLOTS.get(group, 0)
         if sum(letters.count(letter) for letter in 'mrk') > slots:
             yield f'{name} changes more than the {slots} slices of its family'
-        if 't' in letters and family(text, number, numbers) != 'TEXTS':
-            yield f'{name} changes bytes, and is not among the TEXTS'
+        if letters.count('t') > (1 if group in CHANGING_BYTES else 0):
+            yield f'{name} changes more slices of bytes than its family {group} may'
+        if letters.count('s') > (PLACES if group in HOLDING else 0):
+            yield f'{name} holds more slices than the family {group} has places for'

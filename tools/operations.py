@@ -1,9 +1,18 @@
 """The operations of docs/REPLAY.md, and a case of one."""
 from typing import Callable, NamedTuple
 
+import alike
+import bisimulation
 import plain
+import plain_file
+import quotients
 import refusals
 from refusals import COLUMNS, GIVEN, RESULT, ROWS, WORK, WORKED, a_row, a_start, a_state, below, pushed, up_to, worked
+
+
+def always(values):
+    """Every case."""
+    return True
 
 
 class Operation(NamedTuple):
@@ -13,9 +22,15 @@ class Operation(NamedTuple):
     changed: tuple = ()  # the parameters that are `&mut` slices; a block's three numbers are one of them
     needs: dict = {}  # for a slice that has a length in 01, the cells needed
     rooms: dict = {}  # the same for a slice whose shortness is 16
+    maker: str = 'cases_partition'  # the module that makes its cases
+    takes: tuple = ()  # what that has to make beside the table or the partition, and can make faulty, in such an order
+    sampled: str = 'sample_partition'  # the module that makes its part of the sample
     has_rust: bool = True
+    asked: Callable = always  # whether the Rust is asked about these values, where it has the operation
     computed: Callable = None  # a plain computation of the answer
+    alike: Callable = alike.same  # whether the Rust's answer is the one that was computed
     answers_part: bool = False
+    holds: bool = False  # its call holds its `&mut` slices itself, in shorter arrays
 
     def refusal(self, values):
         """None, or the number and the place that 01 gives."""
@@ -35,16 +50,18 @@ class Operation(NamedTuple):
 
     def is_slice(self, parameter):
         """Whether the parameter is a slice, or else a number."""
-        return parameter in self.lengths() or parameter in ('text',) + GIVEN + PAIRS
+        return parameter in self.lengths() or parameter in BYTES + GIVEN + PAIRS
 
 
-# The longest slice that `replay` takes, and the longest list of block records.
+# The longest slice that `replay` takes, the longest of u16 of those that lie in shorter arrays, and the longest list
+# of block records.
 ROOM = 70000
+HELD_ROOM = 16384
 RECORDS_ROOM = 4096
 # The slices of bytes, and of u32; every other one is of u16.
-BYTES = ('text', 'choice')
+BYTES = ('text', 'choice', 'bytes', 'input', 'output')
 WIDE = ('starts',)
-FLAGS = ('hidden', 'reversed')
+FLAGS = ('hidden', 'reversed', 'eliminate_inert_taus', 'eliminate_tau_loops', 'branching', 'eliminate')
 # The slices of block records, each (begin, marked_split, end).
 RECORDS = ('blocks',)
 
@@ -57,6 +74,11 @@ PAIRS = SELF + OTHER
 # The work slices of a signature, and those of the sorted one.
 PUSHING = ('pushed_labels', 'pushed_blocks', 'order', 'spare')
 MERGING = ('own_labels', 'own_blocks', 'high', 'low', 'end_high', 'end_low', 'tree')
+# The work slices of the quotients, of what searches along rows turned round, of hidden cycles, and of the reduction.
+ROWS_WORK = ('a', 'b', 'c', 'order', 'spare')
+TURNED = ('order', 'back_source', 'back_label', 'back_target', 'forward', 'backward', 'queue')
+CYCLES = ('numbers', 'mid_source', 'mid_label', 'mid_target') + ROWS_WORK
+REDUCING = tuple(f'work_{column}' for column in COLUMNS) + ('numbers', 'pair_labels', 'pair_blocks', 'spare')
 BLOCK = ('begin', 'marked_split', 'end')
 # The columns that have a cell for each state, without those of the blocks.
 STATES = COLUMNS[:3]
@@ -89,32 +111,72 @@ def on_records(name, arguments, changed):
     slices = STATES + RECORDS
     needs = dict.fromkeys(slices, a_state)
     chain = (refusals.states, refusals.short(needs), refusals.of_records(refusals.partition), *ranges(arguments))
-    return Operation(name, ('n', 'count') + slices + arguments, chain, changed, needs)
+    return Operation(name, ('n', 'count') + slices + arguments, chain, changed, needs,
+                     maker='cases_host', sampled='sample_host')
 
 
-def on_table(name, arguments, needs, changed, tests=(), last=(), **more):
+def on_block(name, parameters=BLOCK, test=refusals.block, changed=()):
+    """An operation on one block."""
+    return Operation(name, parameters, (test,), changed, maker='cases_block', sampled='sample_block')
+
+
+def on_table(name, arguments, needs, changed, tests=(), last=(), maker='cases_table', sampled='sample_table', **more):
     """An operation on a lent table: its header, lengths, the rows, tests, the arguments in order, the last tests."""
     needs = {**dict.fromkeys(ROWS, a_row), **needs}
     header = (refusals.states, refusals.labels, refusals.rows, refusals.initial)
     chain = (*header, refusals.short(needs), refusals.each_row, *tests, *ranges(arguments), *last)
-    return Operation(name, TABLE + arguments, chain, changed, needs, **more)
+    return Operation(name, TABLE + arguments, chain, changed, needs, maker=maker, sampled=sampled, **more)
+
+
+def reducing(name, arguments, results, work, tests=(), last=(), **more):
+    """An operation that makes a smaller table or numbers its states: result slices, with the cells needed, and work."""
+    needs = {**(EACH_STATE if 'count' in arguments else {}), **results, **dict.fromkeys(work, worked)}
+    changed = (*results, *work)
+    return on_table(name, arguments + changed, needs, changed, tests, last, maker='cases_quotient',
+                    sampled='sample_quotient', holds=True, **more)
 
 
 def signature(name, given=(), needs={}, work=PUSHING, tests=(), **more):
     """A signature of a state: what it is given besides, the cells needed of that, the work slices, tests of its own."""
     needs = {**EACH_STATE, **needs, **dict.fromkeys(work, worked)}
     arguments = COLUMNS + ('count', 'state') + given + RESULT + work
+    takes = ('room', *(('lists',) if given == GIVEN else ()), 'state', 'partition')
     return on_table(name, arguments, needs, RESULT + work, (refusals.partition,), (*tests, refusals.pairs_room),
-                    rooms=dict.fromkeys(RESULT, pushed), **more)
+                    takes=takes, rooms=dict.fromkeys(RESULT, pushed), sampled='sample_signature', **more)
 
+
+def on_labels(name, parameters, tests):
+    """An operation on lists of pairs, or on the number of labels."""
+    return Operation(name, parameters, tests, maker='cases_signature', sampled='sample_signature')
+
+
+def on_file(name, parameters, tests, changed, computed, needs={}, rooms={}):
+    """An operation on a file."""
+    return Operation(name, parameters, tests, changed, needs, rooms, maker='cases_file', sampled='sample_file',
+                     has_rust=False, computed=computed, holds=True)
+
+
+def few_rows(v):
+    """The Rust's redundancy pass is cubic."""
+    return v['m'] <= 400
+
+
+def few_states(v):
+    """The Rust answers one state's number a call, and every state's is asked."""
+    return v['n'] <= 300
+
+
+RESULT_ROWS = dict.fromkeys(quotients.RESULT_ROWS, a_row)
+FILE_ROWS = dict.fromkeys(ROWS, plain_file.a_row)
+WRITTEN = {**dict.fromkeys(ROWS, a_row), 'state_blocks': plain_file.a_source_state}
 
 ALL = (
-    Operation('Block::new', ('begin', 'end'), (refusals.constructor,)),
-    Operation('Block::new_unmarked', ('begin', 'end'), (refusals.constructor,)),
-    Operation('Block::len', BLOCK, (refusals.block,)),
-    Operation('Block::len_marked', BLOCK, (refusals.block,)),
-    Operation('Block::has_marked', BLOCK, (refusals.block,)),
-    Operation('Block::has_unmarked', BLOCK, (refusals.block,)),
+    on_block('Block::new', ('begin', 'end'), refusals.constructor),
+    on_block('Block::new_unmarked', ('begin', 'end'), refusals.constructor),
+    on_block('Block::len'),
+    on_block('Block::len_marked'),
+    on_block('Block::has_marked'),
+    on_block('Block::has_unmarked'),
     Operation('BlockPartition::new', ('n',) + COLUMNS, (refusals.states, refusals.short(EACH_STATE)), COLUMNS,
               EACH_STATE),
     on_partition('block_number', ('element',)),
@@ -124,42 +186,74 @@ ALL = (
     on_partition('len'),
     on_partition('iter_block', ('block',), answers_part=True),
     on_partition('iter_block_refusal', ('block',), has_rust=False, computed=plain.iter_block_refusal),
-    on_partition('display', ('text',), ('text',), (refusals.room,)),
+    on_partition('display', ('text',), ('text',), (refusals.room,), takes=('text',)),
     on_partition('mark_element', ('element',), ('elements', 'element_offset', 'marked_split')),
     on_partition('swap_blocks', ('left', 'right'), ('element_to_block', 'begin', 'marked_split', 'end')),
     on_partition('partition_marked_with', ('block', 'numbers') + WORK, COLUMNS + WORK,
-                 (refusals.nothing_marked, refusals.not_dense)),
-    on_partition('split_marked', ('block', 'choice'), COLUMNS),
-    Operation('Block::unmark_all', BLOCK, (refusals.block,), (BLOCK,)),
+                 (refusals.nothing_marked, refusals.not_dense), maker='cases_split', takes=('numbers',),
+                 sampled='sample_split'),
+    on_partition('split_marked', ('block', 'choice'), COLUMNS, maker='cases_split', takes=('choice',),
+                 sampled='sample_split'),
+    on_block('Block::unmark_all', changed=(BLOCK,)),
     on_records('swap_blocks_host', ('left', 'right'), ('element_to_block', 'blocks')),
     on_table('incoming', ('incoming', 'spare'), {'incoming': a_row, 'spare': worked}, ('incoming', 'spare'),
              has_rust=False, computed=plain.incoming),
     on_table('reachable', ('hidden', 'state', 'reached', 'queue'), {'reached': a_state, 'queue': worked},
-             ('reached', 'queue'), has_rust=False, computed=plain.reachable),
-    on_table('outgoing_transitions', ('state',), {}, (), computed=plain.outgoing_transitions),
-    on_table('next_incoming', ('state', 'from'), {}, (), has_rust=False, computed=plain.next_incoming),
+             ('reached', 'queue'), takes=('state',), has_rust=False, computed=plain.reachable),
+    on_table('outgoing_transitions', ('state',), {}, (), takes=('state',), computed=plain.outgoing_transitions,
+             alike=alike.by_rows),
+    on_table('next_incoming', ('state', 'from'), {}, (), takes=('from', 'state'), has_rust=False,
+             computed=plain.next_incoming),
     on_table('mark_backward_closure', COLUMNS + ('count', 'block', 'order', 'spare'),
              {**EACH_STATE, 'order': worked, 'spare': worked},
              ('elements', 'element_offset', 'marked_split', 'order', 'spare'), (refusals.partition,),
-             computed=plain.mark_backward_closure),
+             takes=('block', 'partition'), computed=plain.mark_backward_closure, alike=alike.by_marked_sets),
     on_table('sort_topological', ('hidden', 'reversed', 'places', 'marks', 'stack'),
-             {'places': a_state, 'marks': worked, 'stack': worked}, ('places', 'marks', 'stack'), (refusals.cycle,)),
+             {'places': a_state, 'marks': worked, 'stack': worked}, ('places', 'marks', 'stack'), (refusals.cycle,),
+             takes=('order',)),
     signature('strong_bisim_signature'),
     signature('branching_bisim_signature_inductive', ('state_to_key',), {'state_to_key': a_state}),
     signature('branching_bisim_signature', work=PUSHING + ('marks', 'queue')),
     signature('branching_bisim_signature_sorted', GIVEN, {'starts': a_start}, MERGING, (refusals.given_lists,),
               computed=plain.branching_bisim_signature_sorted),
-    Operation('is_subset_of', PAIRS + ('label', 'block'),
+    on_labels('is_subset_of', PAIRS + ('label', 'block'),
               (refusals.not_ascending(*SELF), refusals.not_ascending(*OTHER))),
-    Operation('tau_hat', ('labels',), (refusals.labels,)),
-    Operation('is_tau_hat', ('label', 'labels'), (refusals.labels,)),
+    on_labels('tau_hat', ('labels',), (refusals.labels,)),
+    on_labels('is_tau_hat', ('label', 'labels'), (refusals.labels,)),
+    reducing('quotient_lts_naive', COLUMNS + ('count', 'eliminate_inert_taus', 'eliminate_tau_loops'), RESULT_ROWS,
+             ROWS_WORK, (refusals.partition,), takes=('partition',), computed=quotients.quotient_lts_naive),
+    reducing('quotient_lts_block', COLUMNS + ('count', 'branching', 'eliminate_tau_loops'), RESULT_ROWS,
+             ROWS_WORK + ('chosen',), (refusals.partition,), (quotients.no_bottom,), takes=('bottom', 'partition'),
+             computed=quotients.quotient_lts_block),
+    reducing('remove_redundant_transitions', (), RESULT_ROWS, TURNED, asked=few_rows,
+             computed=quotients.remove_redundant_transitions),
+    reducing('tau_scc_decomposition', (), {'numbers': a_state}, TURNED, computed=quotients.tau_scc_decomposition,
+             alike=alike.by_classes),
+    reducing('tau_cycle_elimination_and_reorder', ('state', 'eliminate'), RESULT_ROWS, CYCLES, takes=('state',),
+             asked=few_states, computed=quotients.tau_cycle_elimination_and_reorder, alike=alike.by_renumbering),
+    reducing('strong_reduction', (), {**dict.fromkeys(bisimulation.RESULT_ROWS, a_row), 'state_blocks': a_state},
+             REDUCING, has_rust=False, computed=bisimulation.strong_reduction),
+    on_file('read_file', ('bytes',) + ROWS,
+            (plain_file.contents('bytes'), plain_file.in_file('bytes', *plain_file.HEADER), refusals.short(FILE_ROWS),
+             plain_file.in_file('bytes', refusals.each_row)),
+            ROWS, plain_file.read_file, FILE_ROWS),
+    on_file('write_file', TABLE + ('states', 'state_blocks', 'bytes'),
+            (plain_file.source_states, *plain_file.HEADER, refusals.short(WRITTEN), refusals.each_row,
+             plain_file.room('bytes', plain_file.size_written)),
+            ('bytes',), plain_file.write_file, WRITTEN, {'bytes': plain_file.size_written}),
+    on_file('reduce_file', ('input', 'output'),
+            (plain_file.contents('input'), plain_file.in_file('input', *plain_file.HEADER, refusals.each_row),
+             plain_file.room('output', plain_file.size_reduced)),
+            ('output',), plain_file.reduce_file, rooms={'output': plain_file.size_reduced}),
 )
 BY_NAME = {operation.name: operation for operation in ALL}
 
 
-def room(slice):
-    """The longest slice of this name that `replay` takes."""
-    return RECORDS_ROOM if slice in RECORDS else ROOM
+def room(operation, slice):
+    """The longest such slice that `replay` takes."""
+    if slice in RECORDS:
+        return RECORDS_ROOM
+    return HELD_ROOM if operation.holds and slice in operation.changed and slice not in BYTES else ROOM
 
 
 def largest(parameter):
@@ -188,7 +282,7 @@ def bad_place(line):
     for parameter in operation.parameters:
         end = place + 1
         if operation.is_slice(parameter):
-            if not is_number(words, place, room(parameter)):
+            if not is_number(words, place, room(operation, parameter)):
                 return place
             place, end = end, end + int(words[place]) * (3 if parameter in RECORDS else 1)
         for place in range(place, end):
@@ -214,7 +308,12 @@ class Case:
             return 'no case'
         if self.refused:
             return f'refused {self.refused[0]}'
-        return 'Rust' if self.operation.has_rust else 'plain'
+        return 'Rust' if self.asked() else 'plain'
+
+    def asked(self):
+        """Whether the Rust is asked."""
+        operation = self.operation
+        return operation.has_rust and (self.values is None or bool(self.refused) or operation.asked(self.values))
 
 
 def cells(slice):
@@ -261,35 +360,3 @@ def computed_line(operation, values):
     """The answer to an accepted case that is computed plainly."""
     numbers, slices = operation.computed(values)
     return answer_line(operation, values, 'done' + cells(numbers), {**cleared(operation, values), **slices})
-
-
-def slices_of(line):
-    """The slices at return that an answer shows."""
-    return [[int(cell) for cell in slice.split()] for slice in line.split('|')[1:]]
-
-
-def alike(case, line, other):
-    """Whether two answers are the same; by marked states or by rows where the Rust's answer has another form."""
-    if case.operation.name == 'outgoing_transitions':
-        return line == rows_line(case.values, other)
-    return marks_alike(case.values, line, other) if 'block' in case.operation.parameters else line == other
-
-
-def rows_line(values, line):
-    """`rows`, and the label and target of each row of the run that an answer to `outgoing_transitions` names."""
-    first, end = (int(word) for word in line.split()[1:])
-    return 'rows' + ''.join(cells(row[1:]) for row in plain.rows(values)[first:end])
-
-
-def marks_alike(values, line, other):
-    """Whether two answers to `mark_backward_closure` mark the same states and are the same outside the block."""
-    return line.startswith('done') and marked_set(values, line) == marked_set(values, other)
-
-
-def marked_set(values, line):
-    """The block's states as a set, its marked ones, what is outside the block, and whether offsets are the inverse."""
-    elements, offsets, splits, *work = slices_of(line)
-    begin, end = values['begin'][values['block']], values['end'][values['block']]
-    inverse = all(offsets[elements[place]] == place for place in range(values['n']))
-    states, marked = set(elements[begin:end]), set(elements[splits[values['block']]:end])
-    return states, marked, elements[:begin], elements[end:], offsets[values['n']:], splits, work, inverse

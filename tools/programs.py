@@ -24,19 +24,20 @@ def command(program):
     return [program] if program == ORACLE else [ROOT / 'tools' / 'run', program]
 
 
-def answers(programs, lines):
-    """What each program answers to the lines, the programs running side by side: a list of lines for each."""
+def answers(asked):
+    """What each program answers to its lines, the programs running side by side: a list of lines for each."""
     with tempfile.TemporaryDirectory() as folder:
-        given = pathlib.Path(folder, 'given')
-        given.write_text(''.join(line + '\n' for line in lines))
-        outputs = [pathlib.Path(folder, f'answers{index}') for index in range(len(programs))]
-        runs = [start(program, given, output) for program, output in zip(programs, outputs)]
-        for program, run in zip(programs, runs):
+        runs = [start(program, lines, pathlib.Path(folder, str(index)))
+                for index, (program, lines) in enumerate(asked.items())]
+        for program, (run, _) in zip(asked, runs):
             if run.wait() != 0:
                 print(f'compare: {program} ended with status {run.returncode}', file=sys.stderr)
-        return [output.read_text(errors='replace').split('\n')[:-1] for output in outputs]
+        return [output.read_text(errors='replace').split('\n')[:-1] for _, output in runs]
 
 
-def start(program, given, output):
-    with open(given, 'rb') as lines, open(output, 'wb') as answered:
-        return subprocess.Popen(command(program), stdin=lines, stdout=answered)
+def start(program, lines, place):
+    """Starts a program on these lines: the run, and the file that it writes to."""
+    given, output = place.with_suffix('.given'), place.with_suffix('.answers')
+    given.write_text(''.join(line + '\n' for line in lines))
+    with open(given, 'rb') as asked, open(output, 'wb') as answered:
+        return subprocess.Popen(command(program), stdin=asked, stdout=answered), output

@@ -1,6 +1,7 @@
 """The sample's part for a partition whose blocks are a list of records: the column form's, and the longest lists."""
 import cases_bad
 import cases_host
+import sample_partition
 from cases_host import as_records
 from operations import BY_NAME, RECORDS_ROOM, Case
 from partitions import laid_out
@@ -27,6 +28,11 @@ def of_list():
     yield f'# {SWAP.name}: no record, and as many as there is room for'
     for blocks in ([], v['blocks'] + [(9, 0, 9)] * (RECORDS_ROOM - 2)):
         yield Case(SWAP, {**v, 'blocks': blocks, 'left': 0, 'right': 1})
+
+
+def of(operation):
+    yield from of_columns(sample_partition.of_partition(cases_host.COLUMN_FORM, sample_partition.DAMAGED))
+    yield from of_list()
 
 
 def of_no_case():

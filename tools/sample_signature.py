@@ -9,11 +9,10 @@ import sample_table
 import signatures
 import tables
 from cases_signature import given
-from operations import BY_NAME, OTHER, SELF, Case
+from operations import ALL, OTHER, SELF, Case
 from partitions import LARGEST, laid_out
 from refusals import GIVEN, MOST_LABELS, RESULT, pushed
 
-OPERATIONS = ('is_subset_of', 'tau_hat', 'is_tau_hat')
 # Stands where nothing is read.
 X = LARGEST
 
@@ -156,14 +155,15 @@ def of_label(operation):
         yield from (Case(operation, {'label': label, 'labels': labels}) for label in near)
 
 
-def of(name):
-    if name in signatures.OPERATIONS:
-        return of_signature(BY_NAME[name])
-    return of_subset(BY_NAME[name]) if name == 'is_subset_of' else of_label(BY_NAME[name])
+def of(operation):
+    if cases_table.signs(operation):
+        return of_signature(operation)
+    return of_subset(operation) if operation.name == 'is_subset_of' else of_label(operation)
 
 
 def of_no_case():
     """A word too few, a word too many, and a cell or number that is too large at the end."""
-    for name in OPERATIONS:
-        lines = list(cases_bad.cases(BY_NAME[name], cases_signature.example(BY_NAME[name])))
-        yield from (lines[0], lines[2], lines[7])
+    for operation in ALL:
+        if operation.maker == cases_signature.__name__:
+            lines = list(cases_bad.cases(operation, cases_signature.example(operation)))
+            yield from (lines[0], lines[2], lines[7])

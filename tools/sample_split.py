@@ -148,6 +148,10 @@ def of_split():
     yield from of_order(SPLIT, values)
 
 
+def of(operation):
+    return of_divide() if operation is DIVIDE else of_split()
+
+
 def of_no_case():
     """A word too few, a word too many, and a cell that is too large in the last slice."""
     for operation in (DIVIDE, SPLIT):

@@ -4,14 +4,11 @@ from itertools import cycle, product
 import cases_bad
 import cases_table
 import given_lists
-import signatures
 import tables
-from operations import BY_NAME, FLAGS, Case, written
+from operations import ALL, BY_NAME, FLAGS, Case, written
 from partitions import LARGEST, laid_out
 from refusals import GIVEN, MOST_LABELS, MOST_ROWS, MOST_STATES
 
-OPERATIONS = ('incoming', 'reachable', 'outgoing_transitions', 'next_incoming', 'mark_backward_closure',
-              'sort_topological')
 # Stands where nothing is read.
 X = LARGEST
 
@@ -118,6 +115,8 @@ def of_order(operation, v):
     faults += [dict.fromkeys(operation.rooms, [])] if operation.rooms else []
     if 'places' in v:
         faults.append({'source': [0, 1], 'label': [0, 0], 'target': [1, 0]})
+    if 'branching' in v:
+        faults.append({'branching': 1, 'source': [0, 2], 'label': [0, 0], 'target': [2, 0]})
     yield f'# {operation.name}: several faults at once'
     for first in range(len(faults)):
         wrong = {}
@@ -155,9 +154,8 @@ def of_faults(operation):
     yield from of_order(operation, v)
 
 
-def of(name):
-    operation = BY_NAME[name]
-    yield from of_closed(operation) if 'count' in operation.parameters else of_sound(operation)
+def of(operation):
+    yield from of_closed(operation) if 'block' in operation.takes else of_sound(operation)
     yield from of_faults(operation)
 
 
@@ -170,10 +168,15 @@ def of_size():
         yield Case(operation, {**v, 'hidden': 1, 'reversed': 0, 'state': 299, 'from': 1, **lent(operation, v)})
 
 
-def of_no_case():
+def no_cases(operation):
     """A word too few, a word too many, a flag of 2, and a cell that is too large in the last slice."""
-    for name in OPERATIONS + signatures.OPERATIONS:
-        operation, example = BY_NAME[name], cases_table.example(BY_NAME[name])
-        lines = list(cases_bad.cases(operation, example))
-        flags = [Case(operation, None, written(operation, {**example, flag: 2})) for flag in FLAGS if flag in example]
-        yield from (lines[0], lines[2], *flags, lines[-1])
+    example = cases_table.example(operation)
+    lines = list(cases_bad.cases(operation, example))
+    flags = [Case(operation, None, written(operation, {**example, flag: 2})) for flag in FLAGS if flag in example]
+    return (lines[0], lines[2], *flags, lines[-1])
+
+
+def of_no_case():
+    for operation in ALL:
+        if operation.maker == cases_table.__name__:
+            yield from no_cases(operation)

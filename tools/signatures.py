@@ -1,13 +1,10 @@
 """What the signatures of a state take beside the table: a partition, a state, keys, and room for the pairs."""
 from itertools import product
 
-import given_lists
 import partitions
 import plain
 from refusals import RESULT, pushed, pushed_rows
 
-OPERATIONS = ('strong_bisim_signature', 'branching_bisim_signature_inductive', 'branching_bisim_signature',
-              *given_lists.OPERATIONS)
 # States and labels of the tables that are tried with every argument.
 SMALL = ((1, 1), (1, 2), (2, 1), (2, 2))
 

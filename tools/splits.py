@@ -5,7 +5,6 @@ from itertools import product
 from partitions import LARGEST
 from refusals import WORK, marked
 
-OPERATIONS = ('partition_marked_with', 'split_marked')
 # The slices that only these operations take.
 SLICES = ('numbers', 'choice') + WORK
 

@@ -31,6 +31,29 @@ def star(n, labels, centre):
     return given(n, labels, [(centre, label, target) for label in range(labels) for target in targets], centre)
 
 
+def ring(n, label=0):
+    """A step from each state to the next, and from the last to the first."""
+    return given(n, label + 1, [(state, label, (state + 1) % n) for state in range(n)], 0)
+
+
+def dense(n, states, label=0):
+    """Every step between so many of the states, the self-loops among them."""
+    return given(n, label + 1, [(source, label, target) for source in range(states) for target in range(states)], 0)
+
+
+def unfolded(rng, v, n):
+    """A table of n states, each like a state of the given one: its steps lead to some of those like the targets."""
+    like = [*range(v['n']), *(rng.randrange(v['n']) for _ in range(n - v['n']))]
+    rng.shuffle(like)
+    copies = {state: [copy for copy in range(n) if like[copy] == state] for state in range(v['n'])}
+    rows = set()
+    for copy, (source, label, target) in product(range(n), plain.rows(v)):
+        if like[copy] == source:
+            some = rng.sample(copies[target], rng.randint(1, len(copies[target])))
+            rows |= {(copy, label, one) for one in some}
+    return given(n, v['labels'], sorted(rows)[:MOST_ROWS], rng.randrange(n))
+
+
 def full(rng, n):
     """As many rows as there may be."""
     rows = set()

@@ -7,7 +7,7 @@ use mathlib.Core.List.{List, [], _∷_}
 use mathlib.Core.Path.{_≡_, refl, sym}
 use lib.Dec.{leb}
 use lib.ListN.{length, getD}
-use Rattle.columns.specs.Due.{inRange, allLong}
+use Rattle.columns.specs.Due.{inRange, allLong, Roomy}
 use Rattle.columns.proofs.Bools.{and-left, and-right, and-both, and-no-left, and-no-right}
 
 module _ (low x high : ℕ) where
@@ -21,12 +21,7 @@ module _ (low x high : ℕ) where
   range-high h = and-no-right (leb low x) (leb x high) (lt-leb x high h)
 
 module _ (cells : ℕ) where
-  -- each of these lengths is enough
-  abbrev pub Roomy : List ℕ → Type 0
-  Roomy [] = Unit {0}
-  Roomy (l ∷ lengths) = (cells ≤ l) × Roomy lengths
-
-  pub roomy-of : (lengths : List ℕ) → allLong cells lengths ≡ true → Roomy lengths
+  pub roomy-of : (lengths : List ℕ) → allLong cells lengths ≡ true → Roomy cells lengths
   unfolding allLong
   roomy-of [] t = tt
   roomy-of (l ∷ lengths) t = (
@@ -34,7 +29,7 @@ module _ (cells : ℕ) where
     roomy-of lengths (and-right (leb cells l) (allLong cells lengths) t),
   )
 
-  pub of-roomy : (lengths : List ℕ) → Roomy lengths → allLong cells lengths ≡ true
+  pub of-roomy : (lengths : List ℕ) → Roomy cells lengths → allLong cells lengths ≡ true
   unfolding allLong
   of-roomy [] h = refl
   of-roomy (l ∷ lengths) h = and-both (le-leb cells l (h .0)) (of-roomy lengths (h .1))

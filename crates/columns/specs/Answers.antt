@@ -1,6 +1,6 @@
 -- What an answer says, in document 01's numbers.
 use Prim.Native.Nat.{ℕ}
-use mathlib.Core.Bool.{Bool, true, false, cond}
+use mathlib.Core.Bool.{Bool, cond}
 use mathlib.Core.List.{List, [], _∷_}
 use lib.Dec.{eqb}
 use Rattle.columns.specs.declared.answers.Refusal.{Refusal}

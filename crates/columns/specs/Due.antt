@@ -1,5 +1,5 @@
 -- A chain of tests, each with its refusal, in the order in which they are made: the first that fails decides.
-use Prim.Native.Nat.{ℕ}
+use Prim.Native.Nat.{ℕ, _≤_}
 use mathlib.Core.Bool.{Bool, true, cond, _&&_}
 use mathlib.Core.List.{List, [], _∷_}
 use lib.Dec.{ltb, leb, eqb}
@@ -39,6 +39,11 @@ labelsTest labels = test (inRange 1 labels maxLabels) wrongLabels 0
 unfoldable pub allLong : ℕ → List ℕ → Bool
 allLong cells [] = true
 allLong cells (l ∷ lengths) = leb cells l && allLong cells lengths
+
+-- the same as a fact
+abbrev pub Roomy : ℕ → List ℕ → Type 0
+Roomy cells [] = Unit {0}
+Roomy cells (l ∷ lengths) = (cells ≤ l) × Roomy cells lengths
 
 -- 8 for an index that is not below its bound
 abbrev pub indexTest : ℕ → ℕ → Test

@@ -10,6 +10,7 @@ module _ (eq : ℕ → ℕ → Bool) where
   unfolding first
   least s = first s (λ t. eq t s)
 
+  -- s is the least member of its block
   unfoldable pub leads : ℕ → Bool
   unfolding least
   leads s = eqb (least s) s

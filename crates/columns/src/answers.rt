@@ -1,6 +1,5 @@
 // Answers: what was asked for, or a refusal with its number and place.
 ghost use mathlib.Core.Path.{_≡_};
-ghost use mathlib.Core.Bool.{Bool};
 ghost use mathlib.Core.List.{[], _∷_};
 ghost use Rattle.columns.specs.Answers.{said, saidNumber, saidFlag, done, refused, bit, refusal};
 
@@ -58,6 +57,7 @@ pub fn finished() -> Answer
     }
 }
 
+// A call for a number that was refused.
 pub fn refusing_number(r: Refusal) -> NumberAnswer
     ensures { λ a. ⌜ saidNumber a ≡ refused (r .number) (r .place) ⌝ }
 {
@@ -66,6 +66,7 @@ pub fn refusing_number(r: Refusal) -> NumberAnswer
     }
 }
 
+// A call for a number that was done.
 pub fn number(n: u64) -> NumberAnswer
     ensures { λ a. ⌜ saidNumber a ≡ done (n ∷ []) ⌝ }
 {
@@ -74,6 +75,7 @@ pub fn number(n: u64) -> NumberAnswer
     }
 }
 
+// A question that was refused.
 pub fn refusing_flag(r: Refusal) -> FlagAnswer
     ensures { λ a. ⌜ saidFlag a ≡ refused (r .number) (r .place) ⌝ }
 {
@@ -82,6 +84,7 @@ pub fn refusing_flag(r: Refusal) -> FlagAnswer
     }
 }
 
+// A question that was answered.
 pub fn flag(b: bool) -> FlagAnswer
     ensures { λ a. ⌜ saidFlag a ≡ done (bit b ∷ []) ⌝ }
 {

@@ -2,30 +2,21 @@
 use Prim.Native.Nat.{ℕ}
 use Prim.Native.String.{String}
 use mathlib.Core.Bool.{true}
-use mathlib.Core.List.{List, [], _∷_}
+use mathlib.Core.List.{List}
 use mathlib.Core.Path.{_≡_, refl}
 use lib.Dec.{eqb}
 use borrow.Author.Tests.{eqb-true}
 use Rattle.columns.specs.Answers.{Said, done, refused}
 use Rattle.columns.proofs.Bools.{contra, and-left, and-right}
+use Rattle.columns.proofs.Sets.{same-eq}
 use Rattle.partition.specs.Partition.{Partition}
 use Rattle.partition_display.specs.Display.{displayText}
 use Rattle.listed_cases.specs.Cases.{becomes}
-use Rattle.listed_cases.specs.Text.{bytes, sameb, reads}
-
-pub same : (l m : List ℕ) → sameb l m ≡ true → l ≡ m
-unfolding sameb
-same [] [] e = refl
-same [] (y ∷ m) e = absurd (contra e refl)
-same (x ∷ l) [] e = absurd (contra e refl)
-same (x ∷ l) (y ∷ m) e =
-    let p : x ≡ y = eqb-true x y (and-left (eqb x y) (sameb l m) e) in
-    let q : l ≡ m = same l m (and-right (eqb x y) (sameb l m) e) in
-    cc
+use Rattle.listed_cases.specs.Text.{bytes, reads}
 
 read : (l : List ℕ) (text : String) → reads l text ≡ true → l ≡ bytes text
 unfolding reads
-read l text e = same l (bytes text) e
+read l text e = same-eq eqb eqb-true l (bytes text) e
 
 pub texts :
     (p : Partition) (given : String) (s : Said) (q : Partition) (left : String) → becomes p given s q left ≡ true →

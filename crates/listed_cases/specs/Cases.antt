@@ -3,11 +3,12 @@ use Prim.Native.Nat.{ℕ, _+_, _-_}
 use Prim.Native.String.{String}
 use mathlib.Core.Bool.{Bool, true, false, _&&_}
 use mathlib.Core.List.{List, [], _∷_}
+use lib.Dec.{eqb}
 use lib.ListN.{length}
 use Rattle.columns.specs.Answers.{Said, done, refused, bit}
 use Rattle.columns.specs.Columns.{zeros}
 use Rattle.columns.specs.Rows.{firstOf, lastOf}
-use Rattle.columns.specs.Sets.{Pair, Row}
+use Rattle.columns.specs.Sets.{Pair, Row, same}
 use Rattle.pairs.specs.Subset.{isSubsetOf}
 use Rattle.partition.specs.Partition.{Partition, parts}
 use Rattle.partition_display.specs.Display.{displayText}
@@ -19,7 +20,7 @@ use Rattle.quotient.specs.Call.{quotientLtsNaive}
 use Rattle.quotient_redundant.specs.Call.{removeRedundantTransitions}
 use Rattle.table.specs.Tables.{Three, tableOf, rowsOver}
 use Rattle.table_order.specs.Call.{sortTopological}
-use Rattle.listed_cases.specs.Text.{sameb, reads}
+use Rattle.listed_cases.specs.Text.{reads}
 
 -- one block: the order of the states, its inverse, and the first marked position
 unfoldable pub oneBlock : List ℕ → List ℕ → ℕ → Partition
@@ -36,17 +37,17 @@ becomes p given (refused number place) q left = false
 
 -- what is said is that the call is done, with these numbers
 unfoldable pub says : Said → List ℕ → Bool
-unfolding sameb
-says (done values) l = sameb values l
+unfolding same
+says (done values) l = same eqb values l
 says (refused number place) l = false
 
 -- the header that is said, and the rows over the first cells of result columns that had `out`
 unfoldable pub answersRows : Said × (Three × List (List ℕ)) → List ℕ → List Row → Three → Bool
-unfolding says sameb rowsOver
+unfolding says same rowsOver
 answersRows r header left out =
     let want = rowsOver left out in
     says (r .0) header
-    && (sameb (r .1 .0 .0) (want .0) && (sameb (r .1 .0 .1 .0) (want .1 .0) && sameb (r .1 .0 .1 .1) (want .1 .1)))
+    && (same eqb (r .1 .0 .0) (want .0) && (same eqb (r .1 .0 .1 .0) (want .1 .0) && same eqb (r .1 .0 .1 .1) (want .1 .1)))
 
 pub data Case : Type 0 where
   -- `partition_marked_with` on block 0, by these numbers
@@ -76,7 +77,7 @@ passes (split p given choice left) = let r = splitMarked p 0 choice in becomes p
 passes (order n rows hidden reversed places) =
     let room = zeros (n + length rows + 1) in
     let r = sortTopological (tableOf n 1 0 rows) hidden reversed (zeros n) room room in
-    says (r .0) [] && sameb (r .1 .0) places
+    says (r .0) [] && same eqb (r .1 .0) places
 passes (naive rows inerts loops left) =
     let room = zeros (length rows + 3) in
     let out : Three = (room, (room, room)) in
@@ -93,7 +94,7 @@ passes (reduction t answer blocks) =
     let room = zeros (t .n + t .m + 1) in
     let works = room ∷ room ∷ room ∷ room ∷ room ∷ room ∷ room ∷ room ∷ room ∷ room ∷ [] in
     let r = strongReduction t ((result, (result, result)), (zeros (t .n), works)) in
-    says (r .0) answer && sameb (r .1 .1 .0) blocks
+    says (r .0) answer && same eqb (r .1 .1 .0) blocks
 passes (subset self other excluded answer) =
     says (isSubsetOf (firstOf self) (lastOf self) (firstOf other) (lastOf other) excluded) (bit answer ∷ [])
 

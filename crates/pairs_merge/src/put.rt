@@ -17,7 +17,7 @@ fn is_last(labels: &[u16], blocks: &[u16], r: usize, label: u16, block: u16) -> 
     equal(labels[r - 1], blocks[r - 1], label, block)
 }
 
-// The pair becomes the r-th, unless it is the last of the first r. Returns how many there are then.
+// The pair goes into the cells r, unless it is the last of the first r. Returns how many there are then.
 pub fn put(label: u16, block: u16, labels: &mut [u16], blocks: &mut [u16], r: usize) -> usize
     requires { ⌜ (r < length (now labels)) × (r < length (now blocks)) ⌝ }
     ensures { λ t.

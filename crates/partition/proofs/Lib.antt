@@ -12,4 +12,5 @@ pub mod Freshness
 pub mod Stretches
 pub mod Sayings
 pub mod Blocks
+pub mod Theorems
 pub mod Determined

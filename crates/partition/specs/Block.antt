@@ -1,9 +1,9 @@
 -- One block given alone, and what a call says that answers one.
 use Prim.Native.Nat.{ℕ, _-_}
-use mathlib.Core.Bool.{Bool, _&&_}
+use mathlib.Core.Bool.{Bool}
 use mathlib.Core.List.{List, [], _∷_}
 use lib.ListN.{getD}
-use lib.Dec.{ltb, leb}
+use lib.Dec.{ltb}
 use Rattle.columns.specs.Limits.{inconsistent, maxStates, outOfRange}
 use Rattle.columns.specs.declared.answers.Refusal.{Refusal}
 use Rattle.columns.specs.Answers.{Said, done, refused, bit, answering}
@@ -34,11 +34,12 @@ unfolding answering due withinb
 newBlock begin split end =
     answering (due (test (withinb begin split end maxStates) outOfRange end ∷ [])) (begin ∷ split ∷ end ∷ [])
 
--- 14 where the bounds of a block given alone are broken
+-- the bounds of a block given alone hold
 unfoldable pub soundb : Block → Bool
 unfolding withinb
 soundb b = withinb (b .begin) (b .«marked_split») (b .end) maxStates
 
+-- 14 where they are broken
 unfoldable pub brokenBlock : Block → Refusal
 unfolding due soundb
 brokenBlock b = due (test (soundb b) inconsistent 0 ∷ [])

@@ -1,7 +1,6 @@
 -- What `BlockPartition::new` says and leaves: one block 0 of all states, order 0..n-1, all marked.
-use Prim.Native.Nat.{ℕ}
 use mathlib.Core.Bool.{true}
-use mathlib.Core.List.{List, [], _∷_}
+use mathlib.Core.List.{[], _∷_}
 use lib.ListN.{set}
 use Rattle.columns.specs.declared.answers.Refusal.{Refusal}
 use Rattle.columns.specs.Answers.{Said, leaving}

@@ -29,7 +29,7 @@ movedIn home c s =
     let m = getD (c .marked-split) b 0 - 1 in
     marks (swapped o m (c .elements)) (swappedInverse o m (c .elements) (c .element-offset)) (set (c .marked-split) b m)
 
--- a marked state: no change
+-- state s is marked: an unmarked one moves; a marked one: no change
 unfoldable pub markIn : List ℕ → Marks → ℕ → Marks
 unfolding movedIn
 markIn home c s = cond (ltb (getD (c .element-offset) s 0) (getD (c .marked-split) (getD home s 0) 0)) (movedIn home c s) c

@@ -83,6 +83,7 @@ impl Block {
         )
     }
 
+    // How many elements it has.
     pub fn len(self) -> NumberAnswer
         ensures { λ r. ⌜ saidNumber r ≡ len self ⌝ }
     {
@@ -97,6 +98,7 @@ impl Block {
         number(e - b)
     }
 
+    // How many of them are marked.
     pub fn len_marked(self) -> NumberAnswer
         ensures { λ r. ⌜ saidNumber r ≡ lenMarked self ⌝ }
     {
@@ -111,6 +113,7 @@ impl Block {
         number(e - m)
     }
 
+    // Whether one is marked.
     pub fn has_marked(self) -> FlagAnswer
         ensures { λ r. ⌜ saidFlag r ≡ hasMarked self ⌝ }
     {
@@ -123,6 +126,7 @@ impl Block {
         flag(self.marked_split < self.end)
     }
 
+    // Whether one is not.
     pub fn has_unmarked(self) -> FlagAnswer
         ensures { λ r. ⌜ saidFlag r ≡ hasUnmarked self ⌝ }
     {

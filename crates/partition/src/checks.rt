@@ -47,12 +47,14 @@ pub fn within(x: usize, y: usize, z: usize, n: usize) -> bool
     (x < z) & ((x <= y) & ((y <= z) & (z <= n)))
 }
 
+// Whether o is from x to before z.
 fn inside(x: usize, o: usize, z: usize) -> bool
     ensures { λ r. ⌜ r ≡ insideb x o z ⌝ }
 {
     (x <= o) & (o < z)
 }
 
+// Whether the bounds of block b hold.
 fn block_at(n: usize, begin: &[u16], marked_split: &[u16], end: &[u16], b: usize) -> bool
     requires { ⌜ (b < length (now begin)) × (b < length (now «marked_split»)) × (b < length (now end)) ⌝ }
     ensures { λ r. ⌜ r ≡ blockAt (was begin) (was «marked_split») (was end) n b ⌝ }
@@ -60,6 +62,7 @@ fn block_at(n: usize, begin: &[u16], marked_split: &[u16], end: &[u16], b: usize
     within(at(begin, b), at(marked_split, b), at(end, b), n)
 }
 
+// Whether the bounds of the first count blocks hold.
 fn blocks_ok(n: usize, count: usize, begin: &[u16], marked_split: &[u16], end: &[u16]) -> bool
     requires { ⌜ (count ≤ length (now begin)) × (count ≤ length (now «marked_split»)) × (count ≤ length (now end)) ⌝ }
     ensures { λ r. ⌜ r ≡ blocksb (was begin) (was «marked_split») (was end) n count ⌝ }
@@ -94,6 +97,7 @@ fn lie_at(
     inside(at(begin, b), at(element_offset, s), at(end, b))
 }
 
+// Whether each of the n states' places lies in its block.
 fn lies_ok(
     n: usize,
     count: usize,
@@ -116,7 +120,7 @@ fn lies_ok(
     true
 }
 
-// The lengths of the first count blocks, added up. Each is as if from 0 where its end is before its begin.
+// The lengths of the first count blocks, added up; a block whose end is before its begin counts 0.
 fn length_sum(count: usize, begin: &[u16], end: &[u16]) -> usize
     requires { ⌜ (count ≤ length (now begin)) × (count ≤ length (now end)) × (count ≤ 65535) ⌝ }
     ensures { λ r. ⌜ r ≡ lengths (was begin) (was end) count ⌝ }

@@ -10,12 +10,12 @@ use lib.Dec.{ltb, leb, eqb}
 use Rattle.columns.specs.Limits.{notDense, nothingMarked}
 use Rattle.columns.specs.declared.answers.Refusal.{Refusal}
 use Rattle.columns.specs.Answers.{refusal, none}
-use Rattle.columns.specs.Due.{due, indexTest, allLong}
+use Rattle.columns.specs.Due.{due, indexTest, allLong, Roomy}
 use Rattle.columns.specs.Counting.{first}
 use Rattle.columns.specs.Tests.{all}
 use Rattle.columns.proofs.Bools.{and-left, and-right}
 use Rattle.columns.proofs.Chains.{passed-both}
-use Rattle.columns.proofs.Rooms.{Roomy, roomy-of}
+use Rattle.columns.proofs.Rooms.{roomy-of}
 use Rattle.partition.specs.Partition.{Partition}
 use Rattle.partition.specs.Checks.{partitionTests}
 use Rattle.partition.proofs.Refusals.{checked-of}

@@ -10,7 +10,7 @@ ghost use Rattle.columns.specs.Limits.{maxStates};
 use columns::limits::MAX_STATES;
 use partition::block::Block;
 
-// As many records as a table has room for.
+// len, but no more records than a table has room for.
 pub fn at_most(len: usize) -> usize
     ensures { λ r. ⌜ (r ≤ len) × (r ≤ maxStates) × ((r ≡ len) ⊎ (r ≡ maxStates)) ⌝ }
 {

@@ -7,11 +7,11 @@ use lib.ListN.{length}
 use Rattle.columns.specs.declared.answers.Refusal.{Refusal}
 use Rattle.columns.specs.Answers.{Said, done, refused}
 use Rattle.columns.specs.Columns.{zeroed}
-use Rattle.columns.specs.Due.{allLong}
+use Rattle.columns.specs.Due.{allLong, Roomy}
 use Rattle.columns.specs.Sets.{Row}
 use Rattle.columns.proofs.Bools.{and-left, and-right}
 use Rattle.columns.proofs.Chains.{passed}
-use Rattle.columns.proofs.Rooms.{Roomy, roomy-of}
+use Rattle.columns.proofs.Rooms.{roomy-of}
 use Rattle.columns.proofs.Saying.{left-refused, left-done}
 use Rattle.partition.specs.Partition.{Partition, Sound}
 use Rattle.quotient.specs.Call.{quotientRefusal, rowsBetween, quotientLtsNaive}

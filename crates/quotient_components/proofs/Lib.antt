@@ -1,4 +1,5 @@
 pub mod Components
 pub mod Numbering
+pub mod Theorems
 pub mod Examples
 pub mod Determined

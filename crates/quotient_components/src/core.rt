@@ -10,7 +10,7 @@ ghost use Rattle.quotient_components.specs.Components.{linked, component
 ghost use Rattle.quotient_components.specs.Numbering.{numberedBelow, ifBoth};
 ghost use Rattle.table.specs.Lent.{ltsOf, ltsNow};
 ghost use Rattle.table.specs.Lts.{Valid};
-ghost use Rattle.table.specs.Turned.{RowsTurned};
+ghost use Rattle.table.specs.Turned.{TurnedWithStarts};
 use columns::cells::at;
 use columns::cells::clear_seven;
 use table::Table;
@@ -54,7 +54,7 @@ fn give(forward: &[u16], backward: &[u16], x: u16, numbers: &mut [u16])
     }
 }
 
-// Numbers the component of its least member s.
+// Numbers the component of its least member s, by the rows and the rows turned round, with where the rows of each state begin.
 fn number_one(
     table: Table,
     source: &[u16],
@@ -71,17 +71,20 @@ fn number_one(
     backward: &mut [u16],
     queue: &mut [u16],
 )
-    requires { ⌜ RowsTurned (ltsNow table source label target) (ltsNow back «back_source» «back_label» «back_target») × (s < table .n) ⌝ }
+    requires { let back = ltsNow back «back_source» «back_label» «back_target» in
+        ⌜ TurnedWithStarts (ltsNow table source label target) back × (s < table .n) ⌝ }
     requires { ⌜ (length (now forward) ≡ table .n) × (length (now backward) ≡ table .n) × (table .n ≤ length (now queue)) ⌝ }
     requires { ⌜ (now numbers ≡ numberedBelow (ltsNow table source label target) s) × (getD (now numbers) s 0 ≡ table .n) ⌝ }
     requires { ⌜ x ≡ many s (leads (linked (ltsNow table source label target))) ⌝ }
     ensures { λ _. ⌜ is numbers ≡ numberedBelow (ltsOf table source label target) (s + 1) ⌝ }
 {
+    let m = table.m as usize;
     reach(
         table,
         source,
         label,
         target,
+        &back_target[m..],
         true,
         s,
         &mut *forward,
@@ -92,6 +95,7 @@ fn number_one(
         back_source,
         back_label,
         back_target,
+        &back_label[m..],
         true,
         s,
         &mut *backward,
@@ -115,7 +119,7 @@ fn number_all(
     backward: &mut [u16],
     queue: &mut [u16],
 ) -> usize
-    requires { ⌜ RowsTurned (ltsNow table source label target) (ltsNow back «back_source» «back_label» «back_target») ⌝ }
+    requires { ⌜ TurnedWithStarts (ltsNow table source label target) (ltsNow back «back_source» «back_label» «back_target») ⌝ }
     requires { ⌜ (length (now numbers) ≡ table .n) × (length (now forward) ≡ table .n) ⌝ }
     requires { ⌜ (length (now backward) ≡ table .n) × (table .n ≤ length (now queue)) ⌝ }
     ensures { λ r. ⌜ r ≡ components (ltsOf table source label target) ⌝ }
@@ -153,7 +157,7 @@ fn number_all(
 }
 
 // The number of each state's component, over the first n cells of `numbers`. Returns how many components there are. The other columns
-// are used.
+// may hold anything before and then.
 fn find_components(
     table: Table,
     source: &[u16],

@@ -1,4 +1,4 @@
-// The components of a table along hidden rows: states that reach each other by hidden steps.
+// `tau_scc_decomposition` (scc_decomposition.rs): the components of a table, states that reach each other by hidden steps.
 ghost use mathlib.Core.Path.{_≡_};
 ghost use mathlib.Core.List.{[], _∷_};
 ghost use Rattle.columns.specs.Answers.{saidNumber};

@@ -4,10 +4,10 @@ use mathlib.Core.List.{List, [], _∷_, _++_}
 use Prim.Native.Nat.{ℕ, _+_, _<_}
 use borrow.Author.Tests.{ltb-true}
 use Rattle.columns.specs.declared.answers.Refusal.{Refusal}
-use Rattle.columns.specs.Due.{allLong, indexTest}
+use Rattle.columns.specs.Due.{allLong, indexTest, Roomy}
 use Rattle.columns.proofs.Bools.{and-left, and-right}
 use Rattle.columns.proofs.Chains.{passed-both}
-use Rattle.columns.proofs.Rooms.{Roomy, roomy-of}
+use Rattle.columns.proofs.Rooms.{roomy-of}
 use Rattle.table.specs.Checks.{worksLong, callRoom, tableTests, tableArgumentRefusal}
 use Rattle.table.specs.Lts.{Lts, Valid}
 use Rattle.table.proofs.Refusals.{checked-of}

@@ -3,5 +3,6 @@ pub mod Renumbered
 pub mod Sorting
 pub mod Reordering
 pub mod Calls
+pub mod Theorems
 pub mod Examples
 pub mod Determined

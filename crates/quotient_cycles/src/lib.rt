@@ -1,4 +1,4 @@
-// Hidden cycles taken out, and the states renumbered in the reversed hidden order.
+// `tau_cycle_elimination_and_reorder` (signatures.rs): hidden cycles taken out, and the states renumbered in the reversed hidden order.
 ghost use mathlib.Core.Path.{_≡_};
 ghost use mathlib.Core.List.{[], _∷_};
 ghost use Rattle.columns.specs.Lent.{was, is};

@@ -9,8 +9,9 @@ ghost use Rattle.quotient_redundant.specs.Redundant.{rival, witness, red
 ghost use Rattle.table.specs.Lent.{ltsOf, ltsNow};
 ghost use Rattle.table.specs.Lts.{Valid};
 ghost use Rattle.table.specs.Marks.{marksFrom, marksInto};
+ghost use Rattle.table.specs.Stretch.{StartsOf};
 ghost use Rattle.table.specs.Tables.{rowsOver};
-ghost use Rattle.table.specs.Turned.{RowsTurned};
+ghost use Rattle.table.specs.Turned.{TurnedWithStarts};
 use columns::cells::at;
 use columns::cells::clear_seven;
 use columns::rows::write_rows;
@@ -102,11 +103,12 @@ fn mark_from(
     source: &[u16],
     label: &[u16],
     target: &[u16],
+    starts: &[u16],
     i: usize,
     forward: &mut [u16],
     queue: &mut [u16],
 )
-    requires { ⌜ Valid (ltsNow table source label target) × (i < table .m) ⌝ }
+    requires { ⌜ Valid (ltsNow table source label target) × (i < table .m) × StartsOf (now source) (table .m) (now starts) ⌝ }
     requires { ⌜ (length (now forward) ≡ table .n) × (table .n ≤ length (now queue)) ⌝ }
     requires { ⌜ (0 < i → now forward ≡ marksFrom (ltsNow table source label target) (getD (now source) (i - 1) 0)) ⌝ }
     ensures { λ _. ⌜ is forward ≡ marksFrom (ltsOf table source label target) (getD (was source) i 0) ⌝ }
@@ -115,11 +117,21 @@ fn mark_from(
         return;
     }
     let s = at(source, i);
-    reach(table, source, label, target, true, s, forward, queue);
+    reach(
+        table,
+        source,
+        label,
+        target,
+        starts,
+        true,
+        s,
+        forward,
+        queue,
+    );
 }
 
-// Whether row i can go, by the rows and the rows turned round. `forward` marks what the source of the row before reaches by hidden
-// steps, and what that of row i reaches then.
+// Whether row i can go, by the rows and the rows turned round, with where the rows of each state begin. `forward` marks what the source of
+// the row before reaches by hidden steps, and what that of row i reaches then.
 fn row_goes(
     table: Table,
     source: &[u16],
@@ -135,19 +147,30 @@ fn row_goes(
     queue: &mut [u16],
 ) -> bool
     requires { ⌜ i < table .m ⌝ }
-    requires { ⌜ RowsTurned (ltsNow table source label target) (ltsNow back «back_source» «back_label» «back_target») ⌝ }
+    requires { ⌜ TurnedWithStarts (ltsNow table source label target) (ltsNow back «back_source» «back_label» «back_target») ⌝ }
     requires { ⌜ (length (now forward) ≡ table .n) × (length (now backward) ≡ table .n) × (table .n ≤ length (now queue)) ⌝ }
     requires { ⌜ (0 < i → now forward ≡ marksFrom (ltsNow table source label target) (getD (now source) (i - 1) 0)) ⌝ }
     ensures { λ r. ⌜ r ≡ redundant (ltsOf table source label target) i ⌝ }
     ensures { λ _. ⌜ is forward ≡ marksFrom (ltsOf table source label target) (getD (was source) i 0) ⌝ }
 {
-    mark_from(table, source, label, target, i, &mut *forward, &mut *queue);
+    let m = table.m as usize;
+    mark_from(
+        table,
+        source,
+        label,
+        target,
+        &back_target[m..],
+        i,
+        &mut *forward,
+        &mut *queue,
+    );
     let u = at(target, i);
     reach_back(
         back,
         back_source,
         back_label,
         back_target,
+        &back_label[m..],
         true,
         u,
         &mut *backward,
@@ -171,7 +194,7 @@ fn list_remaining(
     backward: &mut [u16],
     queue: &mut [u16],
 ) -> usize
-    requires { ⌜ RowsTurned (ltsNow table source label target) (ltsNow back «back_source» «back_label» «back_target») ⌝ }
+    requires { ⌜ TurnedWithStarts (ltsNow table source label target) (ltsNow back «back_source» «back_label» «back_target») ⌝ }
     requires { ⌜ (table .m ≤ length (now order)) × (length (now forward) ≡ table .n) ⌝ }
     requires { ⌜ (length (now backward) ≡ table .n) × (table .n ≤ length (now queue)) ⌝ }
     ensures { λ r. ⌜ take r (is order) ≡ members (table .m) (remains (ltsOf table source label target)) ⌝ }

@@ -1,4 +1,5 @@
-// Rows that can go: hidden steps, with another row of the same label between them, lead from the same source to the same target.
+// `remove_redundant_transitions` (quotient.rs). A row can go where hidden steps, with another row of its label between them, lead from its
+// source to its target.
 ghost use mathlib.Core.Path.{_≡_};
 ghost use mathlib.Core.List.{[], _∷_};
 ghost use Rattle.columns.specs.Lent.{was, is};

@@ -8,11 +8,11 @@ use lib.Dec.{leb}
 use lib.ListN.{length, drop}
 use Rattle.columns.specs.Answers.{none}
 use Rattle.columns.specs.Columns.{over}
-use Rattle.columns.specs.Due.{allLong}
+use Rattle.columns.specs.Due.{allLong, Roomy}
 use Rattle.columns.specs.declared.answers.Refusal.{Refusal}
 use Rattle.columns.proofs.Bools.{and-left, and-right, and-both}
 use Rattle.columns.proofs.Chains.{passed, none-due}
-use Rattle.columns.proofs.Rooms.{Roomy, roomy-of, of-roomy}
+use Rattle.columns.proofs.Rooms.{roomy-of, of-roomy}
 use Rattle.reduction.specs.Reducing.{reductionRefusal}
 use Rattle.refinement.proofs.Rounds.{final-length}
 use Rattle.refinement_strong.specs.Reduction.{strongBlocks}

@@ -6,7 +6,7 @@ use lib.Dec.{leb}
 use lib.ListN.{length, getD}
 use Rattle.bisimulation.specs.Quotient.{quotient}
 use Rattle.columns.specs.Answers.{Said, leaving}
-use Rattle.columns.specs.Columns.{over, zeros}
+use Rattle.columns.specs.Columns.{over, zeroed}
 use Rattle.columns.specs.Due.{due, allLong}
 use Rattle.columns.specs.Rows.{rowsOf}
 use Rattle.columns.specs.declared.answers.Refusal.{Refusal}
@@ -14,7 +14,7 @@ use Rattle.refinement.specs.Blocks.{blockCount}
 use Rattle.refinement_strong.specs.Reduction.{strongBlocks, strongBlock, strongRounds, strongCount, strongRows}
 use Rattle.table.specs.Checks.{worksLong, rowsLong, badRow, tableTests}
 use Rattle.table.specs.Lts.{Lts}
-use Rattle.table.specs.Tables.{Three, rowsOver}
+use Rattle.table.specs.Tables.{Three, lengthsOf, rowsOver}
 
 -- 1, 2, 3, 4, 7, 5 and 6, and nothing else; the result columns, the block column and the work slices by their lengths
 unfoldable pub reductionRefusal : Lts → List ℕ → ℕ → List ℕ → Refusal
@@ -35,15 +35,13 @@ Slices = Three × (List ℕ × List (List ℕ))
 unfoldable pub reductionLeft : Lts → Slices → Slices
 unfolding rowsOver over strongBlocks
 reductionLeft t lent =
-    (rowsOver (strongRows t) (lent .0), (over (strongBlocks t) (lent .1 .0), map (λ l. zeros (length l)) (lent .1 .1)))
+    (rowsOver (strongRows t) (lent .0), (over (strongBlocks t) (lent .1 .0), zeroed (lent .1 .1)))
 
 unfoldable pub strongReduction : Lts → Slices → Said × Slices
 unfolding leaving reductionRefusal reductionLeft strongRounds strongBlocks blockCount quotient rowsOf
 strongReduction t lent =
-    let out = lent .0 in
-    let results = length (out .0) ∷ length (out .1 .0) ∷ length (out .1 .1) ∷ [] in
-    let refused = reductionRefusal t results (length (lent .1 .0)) (map (λ l. length l) (lent .1 .1)) in
-    leaving refused lent (reductionNumbers t) (reductionLeft t lent)
+    let refusal = reductionRefusal t (lengthsOf (lent .0)) (length (lent .1 .0)) (map (λ l. length l) (lent .1 .1)) in
+    leaving refusal lent (reductionNumbers t) (reductionLeft t lent)
 
 -- the table that an answer's numbers and the result columns make
 abbrev pub answeredTable : List ℕ → Slices → Lts

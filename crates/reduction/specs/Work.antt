@@ -1,9 +1,9 @@
 -- Columns that are long enough.
-use mathlib.Core.List.{List, map}
-use Prim.Native.Nat.{ℕ}
+use mathlib.Core.List.{List, [], _∷_}
+use Prim.Native.Nat.{ℕ, _≤_}
 use lib.ListN.{length}
-use Rattle.columns.proofs.Rooms.{Roomy}
 
 -- every one of these columns has this many cells
 abbrev pub AllLong : ℕ → List (List ℕ) → Type 0
-AllLong cells columns = Roomy cells (map (λ l. length l) columns)
+AllLong cells [] = Unit {0}
+AllLong cells (l ∷ columns) = (cells ≤ length l) × AllLong cells columns

@@ -18,7 +18,7 @@ use columns::cells::clear;
 use quotient::core::quotient_rows;
 use quotient::core::wipe;
 use refinement_numbers::hand_out;
-use refinement_rounds::running::Outcome;
+use refinement_rounds::running::RunEnd;
 use refinement_rounds::running::run;
 use table::Table;
 
@@ -39,7 +39,7 @@ fn refine(
     labels: &mut [u16],
     blocks: &mut [u16],
     spare: &mut [u16],
-) -> Outcome
+) -> RunEnd
     requires { ⌜ Valid (ltsNow table source label target)
         × Long (partsNow elements «element_offset» «element_to_block» begin «marked_split» end (table .n) 1) ⌝ }
     requires { ⌜ RoomNow (table .n) (table .m) elements «element_offset» begins numbers labels blocks spare ⌝ }
@@ -105,7 +105,7 @@ fn strong_blocks(
     labels: &mut [u16],
     blocks: &mut [u16],
     spare: &mut [u16],
-) -> Outcome
+) -> RunEnd
     requires { ⌜ Valid (ltsNow table source label target) × (length (now block) ≡ table .n) ⌝ }
     requires { let columns = now elements ∷ now «element_offset» ∷ now «element_to_block» ∷ now begin ∷ now «marked_split» ∷ now end ∷ [] in
         ⌜ AllLong (table .n + table .m + 1) columns ⌝ }

@@ -10,15 +10,7 @@ use Rattle.bisimulation.specs.Quotient.{blockOf}
 use Rattle.columns.proofs.All.{same-or-not, lt-or-le}
 use Rattle.refinement.specs.Blocks.{Finer}
 use Rattle.refinement.specs.Rounds.{Signature, Refined}
-
--- q is p with the blocks numbered below b split by signature under p; `count` is above the numbers of p
-pub record RefinedBelow (n : ℕ) (sig : Signature) (p : List ℕ) (count b : ℕ) (q : List ℕ) : Type 0 where
-  pub block : Finer n q p
-  pub signature : (s t : ℕ) → s < n → t < n → blockOf q s ≡ blockOf q t → blockOf p s < b → sig p s ≡ sig p t
-  pub joined :
-      (s t : ℕ) → s < n → t < n → blockOf p s ≡ blockOf p t → (blockOf p s < b → sig p s ≡ sig p t) → blockOf q s ≡ blockOf q t
-  pub coming : (s : ℕ) → s < n → b ≤ blockOf p s → blockOf q s ≡ blockOf p s
-  pub passed : (s : ℕ) → s < n → blockOf p s < b → (blockOf q s < b) ⊎ (count ≤ blockOf q s)
+use Rattle.refinement.specs.Runs.{RefinedBelow}
 
 -- r is q with block b divided by numbers v; what is split off gets numbers from `count` on
 pub record Divides (n b count : ℕ) (v q r : List ℕ) : Type 0 where

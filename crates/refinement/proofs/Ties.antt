@@ -12,6 +12,7 @@ use Rattle.columns.proofs.All.{top-or-below}
 use Rattle.columns.proofs.Bools.{fails}
 use Rattle.refinement.specs.Blocks.{SameBlocks, blockCount, byLeast}
 use Rattle.refinement.specs.Rounds.{Signature, ByBlocks, afterRounds, stable, splittingRounds, final, Unsplit, Refined}
+use Rattle.refinement.specs.Runs.{Settled}
 use Rattle.refinement.proofs.Blocks.{same-turned, same-joined, same-count, finer-same, byLeast-unique}
 use Rattle.refinement.proofs.Rounds.{after-refines, after-none, after-numbered, stable-exactly, blocks-after, rounds-only}
 
@@ -19,11 +20,6 @@ use Rattle.refinement.proofs.Rounds.{after-refines, after-none, after-n
 pub record Running (n : ℕ) (sig : Signature) (k : ℕ) (p : List ℕ) : Type 0 where
   pub same : SameBlocks n p (afterRounds n sig k)
   pub split : (j : ℕ) → j < k → stable n sig j ≡ false
-
--- the run is over after k rounds that split something
-pub record Settled (n : ℕ) (sig : Signature) (k : ℕ) (p : List ℕ) : Type 0 where
-  pub rounds : k ≡ splittingRounds n sig
-  pub numbers : byLeast n p ≡ final n sig
 
 module _ (n : ℕ) (sig : Signature) where
   -- the blocks of round k, numbered by least member, are the defined column

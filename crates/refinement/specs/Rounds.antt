@@ -27,6 +27,7 @@ unfolding same pairEq
 together sig p s t = eqb (blockOf p s) (blockOf p t) && same pairEq (sig p s) (sig p t)
 
 module _ (n : ℕ) (sig : Signature) where
+  -- one round: the blocks of p split by signature, and numbered by least member
   unfoldable pub round : List ℕ → List ℕ
   unfolding together number listed
   round p = listed n (number (together sig p))

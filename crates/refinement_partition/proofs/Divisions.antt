@@ -12,7 +12,8 @@ use Rattle.partition_division.proofs.Marked.{marked-of}
 use Rattle.partition_division.proofs.PartitionMarked.{Splits, partitionMarked-splits}
 use Rattle.partition.specs.Partition.{Partition}
 use Rattle.refinement.specs.Rounds.{Signature}
-use Rattle.refinement.proofs.BlockByBlock.{RefinedBelow, Divides, Numbers, below-more}
+use Rattle.refinement.specs.Runs.{RefinedBelow}
+use Rattle.refinement.proofs.BlockByBlock.{Divides, Numbers, below-more}
 
 -- block b can be divided by the numbers v, and all its states are marked: its marks begin where it begins
 module _ (p : Partition) (b : ℕ) (v : List ℕ) (y : Dividable p b v) (all : getD (p .marked-split) b 0 ≡ getD (p .begin) b 0) where

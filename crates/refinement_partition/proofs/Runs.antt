@@ -7,7 +7,8 @@ use Rattle.partition.specs.Partition.{Partition, Consistent}
 use Rattle.refinement_partition.proofs.Counts.{count-blocks}
 use Rattle.refinement.specs.Blocks.{blockCount}
 use Rattle.refinement.specs.Rounds.{Signature, ByBlocks, Refined}
-use Rattle.refinement.proofs.Ties.{Running, Settled, run-few, run-more, run-done}
+use Rattle.refinement.specs.Runs.{Settled}
+use Rattle.refinement.proofs.Ties.{Running, run-few, run-more, run-done}
 
 module _
     (n : ℕ) (sig : Signature) (by : ByBlocks n sig) (k : ℕ) (home : List ℕ) (count : ℕ) (r : Running n sig k home)

@@ -5,7 +5,8 @@ use native.Mathlib.Omega.{arith}
 use Rattle.partition.specs.Partition.{Partition, Sound}
 use Rattle.refinement_rounds.specs.Splitting.{Split, Rounded}
 use Rattle.refinement.specs.Rounds.{Signature}
-use Rattle.refinement.proofs.BlockByBlock.{RefinedBelow, below-none, below-all}
+use Rattle.refinement.specs.Runs.{RefinedBelow}
+use Rattle.refinement.proofs.BlockByBlock.{below-none, below-all}
 
 -- the blocks of p below b are divided
 pub record Splitting (sig : Signature) (p : Partition) (b : ℕ) (q : Partition) : Type 0 where

@@ -32,7 +32,8 @@ use Rattle.refinement_rounds.specs.Splitting.{storedSignature, wholly, S
 use Rattle.refinement_signing.specs.Numbered.{alikeAt, Stand, Numbered}
 use Rattle.refinement_signing.specs.Stored.{Store, stored}
 use Rattle.refinement_signing.proofs.Numberings.{at-in, at-out, alike-equivalence}
-use Rattle.refinement.proofs.BlockByBlock.{RefinedBelow, Numbers, below-in}
+use Rattle.refinement.specs.Runs.{RefinedBelow}
+use Rattle.refinement.proofs.BlockByBlock.{Numbers, below-in}
 
 -- ---- a division makes no fewer blocks
 pub more-blocks : (p : Partition) (b : ℕ) (v : List ℕ) → Dividable p b v → p .count ≤ partitionMarked p b v .count

@@ -4,8 +4,7 @@ use Prim.Native.Nat.{ℕ, _+_, _≤_, _<_}
 use lib.ListN.{getD, set}
 use Rattle.partition.specs.Partition.{Partition, parts, Sound}
 use Rattle.refinement.specs.Rounds.{Signature, Refined}
-use Rattle.refinement.proofs.BlockByBlock.{RefinedBelow}
-use Rattle.refinement.proofs.Ties.{Settled}
+use Rattle.refinement.specs.Runs.{RefinedBelow, Settled}
 use Rattle.refinement_signing.specs.Stored.{Store, stored}
 
 -- the stored signatures, which were made under the partition as the round began

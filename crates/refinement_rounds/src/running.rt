@@ -77,7 +77,7 @@ pub fn round(
 }
 
 // How a run has ended: how many rounds split something, and how many blocks there are.
-pub struct Outcome {
+pub struct RunEnd {
     pub rounds: usize,
     pub count: usize,
 }
@@ -99,7 +99,7 @@ pub fn run(
     labels: &mut [u16],
     blocks: &mut [u16],
     spare: &mut [u16],
-) -> Outcome
+) -> RunEnd
     requires { ⌜ Valid (ltsNow table source label target)
         × Sound (partsNow elements «element_offset» «element_to_block» begin «marked_split» end (table .n) 1) ⌝ }
     requires { ⌜ RoomNow (table .n) (table .m) elements «element_offset» begins numbers labels blocks spare ⌝ }
@@ -132,10 +132,10 @@ pub fn run(
             &mut *spare,
         );
         if c == count {
-            return Outcome { rounds, count: c };
+            return RunEnd { rounds, count: c };
         }
         count = c;
         rounds += 1;
     }
-    Outcome { rounds, count }
+    RunEnd { rounds, count }
 }

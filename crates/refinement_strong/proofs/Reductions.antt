@@ -8,7 +8,7 @@ use Rattle.refinement.specs.Blocks.{Finer, byLeast}
 use Rattle.refinement.specs.Rounds.{afterRounds, splittingRounds, final}
 use Rattle.refinement.proofs.Blocks.{Member, blocks-most, blocks-some}
 use Rattle.refinement.proofs.Rounds.{inside, final-unsplit, final-below, final-onto}
-use Rattle.refinement.proofs.Ties.{Settled}
+use Rattle.refinement.specs.Runs.{Settled}
 use Rattle.refinement_strong.specs.Reduction.{strongBlocks, strongBlock, strongRounds, strongCount, quotientOf, strongReduced, In}
 use Rattle.refinement_strong.proofs.Bisimulations.{related-signature, unsplit-bisimulation}
 use Rattle.refinement_strong.proofs.Quotients.{quotientOf-valid, quotientOf-bisimulation}

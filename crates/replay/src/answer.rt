@@ -4,11 +4,13 @@ use replay_calls::blocks::of_numbers;
 use replay_calls::few::few;
 use replay_calls::operations::DIVIDING;
 use replay_calls::operations::FEW;
+use replay_calls::operations::FILING;
 use replay_calls::operations::ITER_BLOCK;
 use replay_calls::operations::NONE;
 use replay_calls::operations::NUMBERS;
 use replay_calls::operations::READERS;
 use replay_calls::operations::RECORDS;
+use replay_calls::operations::REDUCING;
 use replay_calls::operations::SIGNING;
 use replay_calls::operations::SIX;
 use replay_calls::operations::TABLES;
@@ -20,6 +22,7 @@ use replay_calls::readers::text_of;
 use replay_calls::records::records;
 use replay_calls::six::six;
 use replay_calls::tables::of_table;
+use replay_files::filing;
 use replay_lines::answers::Said;
 use replay_lines::input::Buffer;
 use replay_lines::lines::Answered;
@@ -27,6 +30,7 @@ use replay_lines::lines::bad_case;
 use replay_lines::lines::end_case;
 use replay_lines::output::part;
 use replay_lines::output::said;
+use replay_reductions::reducing;
 use replay_slots::case::Bytes;
 use replay_slots::case::Case;
 use replay_slots::case::Narrow;
@@ -104,6 +108,12 @@ fn done(
 ) -> usize {
     if operation == ITER_BLOCK {
         return part(part_of(case, narrow), out, used);
+    }
+    if family(operation) == REDUCING {
+        return reducing(operation, case, narrow, out, used);
+    }
+    if family(operation) == FILING {
+        return filing(operation, case, narrow, bytes, out, used);
     }
     let answer = called(
         operation,

@@ -38,7 +38,16 @@ pub fn found(name: &[u8; 64], count: usize) -> Found {
           strong_bisim_signature nnnncccccccccnnmmmmmm \
           branching_bisim_signature_inductive nnnncccccccccnncmmmmmm \
           branching_bisim_signature nnnncccccccccnnmmmmmmmm \
-          branching_bisim_signature_sorted nnnncccccccccnnwccmmmmmmmmm ",
+          branching_bisim_signature_sorted nnnncccccccccnnwccmmmmmmmmm \
+          quotient_lts_naive nnnncccccccccnffssssssss \
+          quotient_lts_block nnnncccccccccnffsssssssss \
+          remove_redundant_transitions nnnncccssssssssss \
+          tau_scc_decomposition nnnncccssssssss \
+          tau_cycle_elimination_and_reorder nnnncccnfssssssssssss \
+          strong_reduction nnnncccssssssssssssss \
+          read_file bsss \
+          write_file nnnncccnct \
+          reduce_file bt ",
         name,
         count,
     )
@@ -114,9 +123,28 @@ pub const BRANCHING_BISIM_SIGNATURE: usize = 33;
 
 pub const BRANCHING_BISIM_SIGNATURE_SORTED: usize = 34;
 
+pub const QUOTIENT_LTS_NAIVE: usize = 35;
+
+pub const QUOTIENT_LTS_BLOCK: usize = 36;
+
+pub const REMOVE_REDUNDANT_TRANSITIONS: usize = 37;
+
+pub const TAU_SCC_DECOMPOSITION: usize = 38;
+
+pub const TAU_CYCLE_ELIMINATION_AND_REORDER: usize = 39;
+
+pub const STRONG_REDUCTION: usize = 40;
+
+pub const READ_FILE: usize = 41;
+
+pub const WRITE_FILE: usize = 42;
+
+pub const REDUCE_FILE: usize = 43;
+
 // The families, each a run of operations: those on numbers alone; those that read a partition; those that read a table or lists of pairs;
 // the one that answers a part; the one that writes text; those that change two or three slices of u16; those on block records; those that
-// change four to six; the one that changes nine; the signatures that change six; and those that change eight or nine.
+// change four to six; the one that changes nine; the signatures that change six; those that change eight or nine; those that make
+// a table, or components, of a table, which change eight to fourteen; and those on files.
 pub const NUMBERS: usize = 0;
 
 pub const READERS: usize = 1;
@@ -139,6 +167,10 @@ pub const SIGNING: usize = 9;
 
 pub const WALKING: usize = 10;
 
+pub const REDUCING: usize = 11;
+
+pub const FILING: usize = 12;
+
 // The family of an operation.
 pub fn family(operation: usize) -> usize {
     match operation {
@@ -152,6 +184,8 @@ pub fn family(operation: usize) -> usize {
         BLOCKPARTITION_NEW..=MARK_BACKWARD_CLOSURE => SIX,
         PARTITION_MARKED_WITH => DIVIDING,
         STRONG_BISIM_SIGNATURE..=BRANCHING_BISIM_SIGNATURE_INDUCTIVE => SIGNING,
-        _ => WALKING,
+        BRANCHING_BISIM_SIGNATURE..=BRANCHING_BISIM_SIGNATURE_SORTED => WALKING,
+        QUOTIENT_LTS_NAIVE..=STRONG_REDUCTION => REDUCING,
+        _ => FILING,
     }
 }

@@ -22,14 +22,13 @@ use partition_calls::PartitionOutcome;
 pub struct Said {
     pub refused: bool,
     pub count: usize,
-    pub numbers: [u64; 6],
+    pub numbers: [u64; 8],
 }
 
-// What is done, with the first `count` of three numbers.
-pub fn done(count: usize, a: u64, b: u64, c: u64) -> Said
-    ensures { λ r. ⌜ told r ≡ doneWith (take count (a ∷ b ∷ c ∷ 0 ∷ 0 ∷ 0 ∷ [])) ⌝ }
+// What is done, with the first `count` of these numbers.
+pub fn done_with(count: usize, numbers: [u64; 8]) -> Said
+    ensures { λ r. ⌜ told r ≡ doneWith (take count numbers) ⌝ }
 {
-    let numbers = [a, b, c, 0, 0, 0];
     Said {
         refused: false,
         count,
@@ -37,11 +36,18 @@ pub fn done(count: usize, a: u64, b: u64, c: u64) -> Said
     }
 }
 
+// What is done, with the first `count` of three numbers.
+pub fn done(count: usize, a: u64, b: u64, c: u64) -> Said
+    ensures { λ r. ⌜ told r ≡ doneWith (take count (a ∷ b ∷ c ∷ 0 ∷ 0 ∷ 0 ∷ 0 ∷ 0 ∷ [])) ⌝ }
+{
+    done_with(count, [a, b, c, 0, 0, 0, 0, 0])
+}
+
 // What is refused.
 pub fn refused(refusal: Refusal) -> Said
     ensures { λ r. ⌜ told r ≡ refusedWith (refusal .number) (refusal .place) ⌝ }
 {
-    let numbers = [refusal.number, refusal.place, 0, 0, 0, 0];
+    let numbers = [refusal.number, refusal.place, 0, 0, 0, 0, 0, 0];
     Said {
         refused: true,
         count: 2,

@@ -127,12 +127,12 @@ pub fn part(part: &[u16], out: &mut Buffer, used: usize) -> usize
 }
 
 // The first `count` numbers of an answer.
-fn numbers(numbers: [u64; 6], count: usize, out: &mut Buffer, used: usize) -> usize
+fn numbers(numbers: [u64; 8], count: usize, out: &mut Buffer, used: usize) -> usize
     ensures { λ r. ⌜ (r, now (out .exit)) ≡ puts (spelledAll (take count numbers)) (used, now (out .entry)) ⌝ }
 {
     let mut at = used;
     let mut i = 0;
-    while i < 6 {
+    while i < 8 {
         if i == count {
             return at;
         }

@@ -8,8 +8,10 @@ pub type Wide = [u32; 70000];
 
 pub type Bytes = [u8; 140000];
 
-// The longest slice, and the longest list of records.
+// The longest slice; the longest of an operation that changes many, which lie in arrays of its own; and the longest list of records.
 pub const ROOM: usize = 70000;
+
+pub const HELD_ROOM: usize = 16384;
 
 pub const RECORDS: u64 = MAX_STATES as u64;
 
@@ -110,6 +112,14 @@ fn between(cells: &[u16], start: usize, end: usize) -> &[u16] {
 // The slice at place k.
 pub fn column(cells: &[u16], case: Case, k: usize) -> &[u16] {
     between(cells, case.start(k), case.end(k))
+}
+
+// Slice k of those that may change, as the case has it.
+pub fn changed(cells: &[u16], case: Case, k: usize) -> &[u16] {
+    if k < 16 {
+        return column(cells, case, CHANGED + k);
+    }
+    &cells[0..0]
 }
 
 fn between_wide(cells: &[u32], start: usize, end: usize) -> &[u32] {

@@ -1,8 +1,9 @@
 // A line read by the kinds of its parameters: n a number, f a flag, c a slice of u16, w of u32, b of bytes; and those that may change, m a
-// slice of u16, t of bytes, r a list of records of three numbers, k one such record.
+// slice of u16, s one of an operation that changes many, t of bytes, r a list of records of three numbers, k one such record.
 use crate::case::Bytes;
 use crate::case::CHANGED;
 use crate::case::Case;
+use crate::case::HELD_ROOM;
 use crate::case::Narrow;
 use crate::case::RECORDS;
 use crate::case::ROOM;
@@ -38,14 +39,14 @@ fn plus(a: usize, b: usize) -> usize {
     1000000000000
 }
 
-// How long a slice may be where that many cells of all are taken.
-fn room(taken: usize, all: usize) -> u64 {
+// How long a slice of at most that many cells may be where so many of all are taken.
+fn room(most: usize, taken: usize, all: usize) -> u64 {
     if all < taken {
         return 0;
     }
     let left = all - taken;
-    if ROOM < left {
-        return ROOM as u64;
+    if most < left {
+        return most as u64;
     }
     left as u64
 }
@@ -133,9 +134,15 @@ impl Reading {
         whole
     }
 
-    // A slice of u16.
-    fn narrow_slice(self, changes: bool, buffer: &mut Buffer, into: &mut Narrow) -> Reading {
-        let read = self.input.number(buffer, room(self.narrow, 1400000));
+    // A slice of u16, of at most that many cells.
+    fn narrow_slice(
+        self,
+        changes: bool,
+        most: usize,
+        buffer: &mut Buffer,
+        into: &mut Narrow,
+    ) -> Reading {
+        let read = self.input.number(buffer, room(most, self.narrow, 1400000));
         let end = plus(self.narrow, read.value as usize);
         self.word(whole(read.input))
             .narrow_cells(changes, end, buffer, into)
@@ -157,7 +164,7 @@ impl Reading {
     // A slice of u32.
     fn wide_slice(self, buffer: &mut Buffer, into: &mut Wide) -> Reading {
         let start = self.wide;
-        let read = self.input.number(buffer, room(start, 70000));
+        let read = self.input.number(buffer, room(ROOM, start, 70000));
         let end = plus(start, read.value as usize);
         let after = self.word(whole(read.input));
         let cells = read_wide(after.input, buffer, into, start, end);
@@ -169,7 +176,7 @@ impl Reading {
     // A slice of bytes.
     fn byte_slice(self, changes: bool, buffer: &mut Buffer, into: &mut Bytes) -> Reading {
         let start = self.bytes;
-        let read = self.input.number(buffer, room(start, 140000));
+        let read = self.input.number(buffer, room(ROOM, start, 140000));
         let end = plus(start, read.value as usize);
         let after = self.word(whole(read.input));
         let cells = read_bytes(after.input, buffer, into, start, end);
@@ -190,8 +197,9 @@ impl Reading {
         match kind {
             b'n' => self.number(65535, buffer),
             b'f' => self.number(1, buffer),
-            b'c' => self.narrow_slice(false, buffer, narrow),
-            b'm' => self.narrow_slice(true, buffer, narrow),
+            b'c' => self.narrow_slice(false, ROOM, buffer, narrow),
+            b'm' => self.narrow_slice(true, ROOM, buffer, narrow),
+            b's' => self.narrow_slice(true, HELD_ROOM, buffer, narrow),
             b'r' => self.records(buffer, narrow),
             b'k' => self.record(buffer, narrow),
             b'w' => self.wide_slice(buffer, wide),

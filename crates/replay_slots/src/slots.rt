@@ -3,7 +3,7 @@ ghost use Rattle.io.specs.Counts.{Counts};
 use crate::case::CHANGED;
 use crate::case::Case;
 use crate::case::byte_column;
-use crate::case::column;
+use crate::case::changed;
 use crate::names::Kinds;
 use replay_lines::input::Buffer;
 use replay_lines::output::bytes as show_bytes;
@@ -14,7 +14,7 @@ pub type Slot = [u16; 70000];
 pub type Text = [u8; 70000];
 
 // Copies cells to a slot, and says how many.
-fn copy(from: &[u16], into: &mut [u16]) -> usize
+pub fn copy(from: &[u16], into: &mut [u16]) -> usize
     ensures { λ r. ⌜ Counts r (now (into .exit)) ⌝ }
 {
     let mut i = 0;
@@ -32,13 +32,10 @@ fn copy(from: &[u16], into: &mut [u16]) -> usize
 pub fn fill(case: Case, cells: &[u16], k: usize, slot: &mut Slot) -> usize
     ensures { λ r. ⌜ Counts r (now (slot .exit)) ⌝ }
 {
-    if k < 16 {
-        return copy(column(cells, case, CHANGED + k), slot);
-    }
-    copy(&cells[0..0], slot)
+    copy(changed(cells, case, k), slot)
 }
 
-fn copy_bytes(from: &[u8], into: &mut [u8]) -> usize
+pub fn copy_bytes(from: &[u8], into: &mut [u8]) -> usize
     ensures { λ r. ⌜ Counts r (now (into .exit)) ⌝ }
 {
     let mut i = 0;

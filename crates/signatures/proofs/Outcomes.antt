@@ -7,9 +7,10 @@ use lib.ListN.{length}
 use borrow.Author.Tests.{eq-eqb, ne-eqb}
 use Rattle.columns.specs.declared.answers.Refusal.{Refusal}
 use Rattle.columns.specs.Answers.{Said, done, refused}
+use Rattle.columns.specs.Columns.{zeroed}
 use Rattle.columns.specs.Sets.{Pair}
 use Rattle.signatures.specs.Pairs.{Columns, fits, pairsOver}
-use Rattle.signatures.specs.Signing.{Left, finishing, signing, allZero}
+use Rattle.signatures.specs.Signing.{Left, finishing, signing}
 
 module _ (r : Refusal) (pushed : ℕ) (pairs : List Pair) (out : Columns) (works : List (List ℕ)) where
   pub signing-refused : (s : Said) → (r .number ≡ 0 → ⊥) → s ≡ refused (r .number) (r .place) →
@@ -19,20 +20,20 @@ module _ (r : Refusal) (pushed : ℕ) (pairs : List Pair) (out : Columns) (works
 
   -- a call whose checks are passed writes its signature, or has no room
   pub signing-on :
-      (d : ℕ) (l : List Pair) (w : List (List ℕ)) → r .number ≡ 0 → d ≡ pushed → l ≡ pairs → allZero w ≡ allZero works
+      (d : ℕ) (l : List Pair) (w : List (List ℕ)) → r .number ≡ 0 → d ≡ pushed → l ≡ pairs → zeroed w ≡ zeroed works
       → finishing d l out w ≡ signing r pushed pairs out works
   unfolding finishing signing
   signing-on d l w z e f g = rw (eq-eqb (r .number) 0 z, e, f, g)
 
 module _ (pushed : ℕ) (pairs : List Pair) (out : Columns) (works : List (List ℕ)) where
   pub finish-short :
-      (s : Said) (w : List (List ℕ)) → fits pushed out ≡ false → s ≡ refused 16 pushed → w ≡ allZero works
+      (s : Said) (w : List (List ℕ)) → fits pushed out ≡ false → s ≡ refused 16 pushed → w ≡ zeroed works
       → _≡_ {A = Said × Left} (s, (out, w)) (finishing pushed pairs out works)
   unfolding finishing
   finish-short s w f e g = rw (f, e, g)
 
   pub finish-done :
       (s : Said) (o : Columns) (w : List (List ℕ)) → fits pushed out ≡ true → s ≡ done (length pairs ∷ []) → o ≡ pairsOver pairs out
-      → w ≡ allZero works → _≡_ {A = Said × Left} (s, (o, w)) (finishing pushed pairs out works)
+      → w ≡ zeroed works → _≡_ {A = Said × Left} (s, (o, w)) (finishing pushed pairs out works)
   unfolding finishing
   finish-done s o w f e h g = rw (f, e, h, g)

@@ -11,14 +11,14 @@ use lib.ListN.{length, length-map, drop}
 use lib.Seq.{drop-at}
 use Rattle.columns.specs.declared.answers.Refusal.{Refusal}
 use Rattle.columns.specs.Answers.{Said, done, refused}
-use Rattle.columns.specs.Columns.{over}
+use Rattle.columns.specs.Columns.{over, zeroed}
 use Rattle.columns.specs.Rows.{pairsOf, firstOf, lastOf}
 use Rattle.columns.specs.Sets.{Mem, Pair, pairLt, Ascending}
 use Rattle.columns.proofs.Bools.{and-left, and-right}
 use Rattle.columns.proofs.Saying.{apart}
 use Rattle.columns.proofs.TwoColumns.{pairs-over}
 use Rattle.signatures.specs.Pairs.{Columns, roomFor, fits, pairsOver}
-use Rattle.signatures.specs.Signing.{Left, finishing, signing, allZero}
+use Rattle.signatures.specs.Signing.{Left, finishing, signing}
 
 -- the call has answered k, for result columns `out` and work slices `works`: the first k cells of the columns are the signature, pairs
 -- ascending and none twice; a pair is in it exactly if `In` says so; nothing behind them has changed, and the work slices are zero
@@ -27,7 +27,7 @@ pub record Signed (In : Pair → Type 0) (out : Columns) (works : List (List ℕ
   pub ascending : Ascending pairLt (pairsOf k (left .0 .0) (left .0 .1))
   pub exactly : (p : Pair) → Mem p (pairsOf k (left .0 .0) (left .0 .1)) ↔ In p
   pub behind : (drop k (left .0 .0) ≡ drop k (out .0)) × (drop k (left .0 .1) ≡ drop k (out .1))
-  pub work : left .1 ≡ allZero works
+  pub work : left .1 ≡ zeroed works
 
 module _ (r : Refusal) (pushed : ℕ) (pairs : List Pair) (out : Columns) (works : List (List ℕ)) (k : ℕ) (left : Left) where
   -- a call that says done was not refused, had room, and has written its pairs
@@ -36,11 +36,11 @@ module _ (r : Refusal) (pushed : ℕ) (pairs : List Pair) (out : Columns) (works
     enough : fits pushed out ≡ true
     count : k ≡ length pairs
     columns : left .0 ≡ pairsOver pairs out
-    work : left .1 ≡ allZero works
+    work : left .1 ≡ zeroed works
 
   finished : (b : Bool) → fits pushed out ≡ b → r .number ≡ 0
       → _≡_ {A = Said × Left}
-      (cond b (done (length pairs ∷ []), (pairsOver pairs out, allZero works)) (refused 16 pushed, (out, allZero works)))
+      (cond b (done (length pairs ∷ []), (pairsOver pairs out, zeroed works)) (refused 16 pushed, (out, zeroed works)))
       (done (k ∷ []), left) → Written
   finished true f z e =
       let said : done (length pairs ∷ []) ≡ done (k ∷ []) = ap (λ (t : Said × Left). t .0) e in

@@ -4,9 +4,10 @@ use mathlib.Core.Bool.{true}
 use mathlib.Core.Path.{_≡_, refl, ap, ap₂, sym, _∙_}
 use mathlib.Core.List.{List, [], _∷_, _++_, map, map-id, map-map, map-append}
 use lib.ListN.{length}
-use Rattle.columns.specs.Columns.{zeros}
-use Rattle.columns.proofs.Rooms.{Roomy, roomy-of}
-use Rattle.signatures.specs.Signing.{roomy, allZero}
+use Rattle.columns.specs.Columns.{zeros, zeroed}
+use Rattle.columns.specs.Due.{Roomy}
+use Rattle.columns.proofs.Rooms.{roomy-of}
+use Rattle.signatures.specs.Signing.{roomy}
 use Rattle.table.specs.Lts.{Lts}
 
 -- ---- they are long enough
@@ -33,18 +34,15 @@ each-map f g [] (b ∷ before) e = absurd e
 each-map f g (a ∷ works) [] e = absurd e
 each-map f g (a ∷ works) (b ∷ before) e = ap₂ _∷_ (e .0) (each-map f g works before (e .1))
 
-pub zeroed : (works before : List (List ℕ)) → Each (λ a b. a ≡ zeros (length b)) works before → works ≡ allZero before
-unfolding allZero
-zeroed works before e = sym (map-id works) ∙ each-map (λ a. a) (λ b. zeros (length b)) works before e
+pub zeroed-of : (works before : List (List ℕ)) → Each (λ a b. a ≡ zeros (length b)) works before → works ≡ zeroed before
+zeroed-of works before e = sym (map-id works) ∙ each-map (λ a. a) (λ b. zeros (length b)) works before e
 
 -- they are left alike where they are as long as before
-pub level : (works before : List (List ℕ)) → Each (λ a b. length a ≡ length b) works before → allZero works ≡ allZero before
-unfolding allZero
+pub level : (works before : List (List ℕ)) → Each (λ a b. length a ≡ length b) works before → zeroed works ≡ zeroed before
 level works before e =
     sym (map-map zeros (λ (w : List ℕ). length w) works)
     ∙ ap (map zeros) (each-map (λ w. length w) (λ w. length w) works before e)
     ∙ map-map zeros (λ (w : List ℕ). length w) before
 
-pub cleared-append : (l m : List (List ℕ)) → allZero l ++ allZero m ≡ allZero (l ++ m)
-unfolding allZero
+pub cleared-append : (l m : List (List ℕ)) → zeroed l ++ zeroed m ≡ zeroed (l ++ m)
 cleared-append l m = sym (map-append (λ (w : List ℕ). zeros (length w)) l m)

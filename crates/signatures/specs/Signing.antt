@@ -6,7 +6,7 @@ use lib.Dec.{eqb}
 use lib.ListN.{length}
 use Rattle.columns.specs.declared.answers.Refusal.{Refusal}
 use Rattle.columns.specs.Answers.{Said, done, refused}
-use Rattle.columns.specs.Columns.{zeros}
+use Rattle.columns.specs.Columns.{zeroed}
 use Rattle.columns.specs.Due.{allLong}
 use Rattle.columns.specs.Limits.{noRoom}
 use Rattle.columns.specs.Sets.{Pair}
@@ -21,19 +21,15 @@ unfoldable pub roomy : Lts → List (List ℕ) → Bool
 unfolding allLong
 roomy t works = worksLong t (map (λ w. length w) works)
 
--- every cell of every work slice zero
-unfoldable pub allZero : List (List ℕ) → List (List ℕ)
-allZero works = map (λ w. zeros (length w)) works
-
 -- what a call leaves: its two result columns, and its work slices
 abbrev pub Left : Type 0
 Left = Columns × List (List ℕ)
 
 -- a signature is written, or 16 where there is no room for as many pairs as were pushed; the work slices are zero then
 unfoldable pub finishing : ℕ → List Pair → Columns → List (List ℕ) → Said × Left
-unfolding fits pairsOver allZero
+unfolding fits pairsOver
 finishing pushed pairs out works =
-    cond (fits pushed out) (done (length pairs ∷ []), (pairsOver pairs out, allZero works)) (refused noRoom pushed, (out, allZero works))
+    cond (fits pushed out) (done (length pairs ∷ []), (pairsOver pairs out, zeroed works)) (refused noRoom pushed, (out, zeroed works))
 
 -- a call whose checks have answered r, with as many pairs pushed and with its signature: a refusal leaves everything as it was
 unfoldable pub signing : Refusal → ℕ → List Pair → Columns → List (List ℕ) → Said × Left

@@ -71,7 +71,7 @@ fn marked(element_offset: &[u16], element_to_block: &[u16], marked_split: &[u16]
     }
 }
 
-// x or y.
+// x if `first`, else y.
 fn either(first: bool, x: u16, y: u16) -> u16
     ensures { λ r. ⌜ r ≡ cond first x y ⌝ }
 {

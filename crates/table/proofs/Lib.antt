@@ -5,6 +5,7 @@ pub mod Stretches
 pub mod Counted
 pub mod RowsOf
 pub mod RowsInto
+pub mod Starts
 pub mod Incomings
 pub mod Walks
 pub mod Searching

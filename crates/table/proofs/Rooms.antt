@@ -3,10 +3,10 @@ use mathlib.Core.Path.{_≡_, refl}
 use mathlib.Core.List.{List}
 use Prim.Native.Nat.{ℕ, _+_}
 use Rattle.columns.specs.declared.answers.Refusal.{Refusal}
-use Rattle.columns.specs.Due.{due, allLong}
+use Rattle.columns.specs.Due.{due, allLong, Roomy}
 use Rattle.columns.proofs.Bools.{and-left, and-right}
 use Rattle.columns.proofs.Chains.{passed}
-use Rattle.columns.proofs.Rooms.{Roomy, roomy-of}
+use Rattle.columns.proofs.Rooms.{roomy-of}
 use Rattle.table.specs.Checks.{worksLong, callRoom, tableTests}
 use Rattle.table.specs.Lts.{Lts, Valid}
 use Rattle.table.proofs.Refusals.{checked-of}

@@ -39,7 +39,7 @@ swapped-step t s a u k =
 
 module _ (t : Lts) where
   -- and as a set
-  abbrev turnedRows : List Row
+  abbrev pub turnedRows : List Row
   turnedRows = rowSet (t .m) (t .target) (t .label) (t .source)
 
   set-in : (p : Row) → Mem p (rows (swapped t)) → Mem p turnedRows

@@ -8,7 +8,7 @@ use lib.Dec.{eqb}
 use lib.ListN.{length, getD}
 use Rattle.columns.specs.Counting.{many}
 use Rattle.columns.specs.Sets.{pairLt}
-use Rattle.table.specs.Lts.{Lts, Step, Valid}
+use Rattle.table.specs.Lts.{Lts, Step}
 use Rattle.table.specs.Reach.{takes}
 use Rattle.table.specs.Stretch.{StretchOf, listedTarget, firstInto}
 

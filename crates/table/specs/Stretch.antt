@@ -19,6 +19,10 @@ unfoldable pub firstRow : List ℕ → ℕ → ℕ → ℕ
 unfolding many
 firstRow source m s = many m (λ i. ltb (getD source i 0) s)
 
+-- each cell of `starts` says where the rows of its state begin among the first m; there may be no cell
+abbrev pub StartsOf : List ℕ → ℕ → List ℕ → Type 0
+StartsOf source m starts = (s : ℕ) → s < length starts → getD starts s 0 ≡ firstRow source m s
+
 -- where the row listed at k leads
 abbrev pub listedTarget : List ℕ → List ℕ → ℕ → ℕ
 listedTarget target order k = getD target (getD order k 0) 0

@@ -41,7 +41,7 @@ fn fields_ok(table: Table, source: &[u16], label: &[u16], target: &[u16], i: usi
     if n <= at(target, i) { false } else { true }
 }
 
-// Whether row i is above the one before.
+// Whether row i is the first, or above the one before.
 fn above_ok(source: &[u16], label: &[u16], target: &[u16], i: usize) -> bool
     requires { ⌜ (i < length (now source)) × (i < length (now label)) × (i < length (now target)) × (i < 65536) ⌝ }
     ensures { λ r. ⌜ r ≡ aboveb (was source) (was label) (was target) i ⌝ }

@@ -8,8 +8,8 @@ ghost use Rattle.columns.specs.Counting.{many};
 ghost use Rattle.table.specs.Lts.{Lts, lts, Valid, NeverFalls};
 ghost use Rattle.table.specs.Reach.{takes, edge, reaches};
 ghost use Rattle.table.specs.Search.{Search, appended};
-ghost use Rattle.table.specs.Stretch.{ByTarget, firstRow, firstInto, nextIncoming};
-ghost use Rattle.table.specs.Turned.{RowsTurned};
+ghost use Rattle.table.specs.Stretch.{ByTarget, StartsOf, firstRow, firstInto, nextIncoming};
+ghost use Rattle.table.specs.Turned.{RowsTurned, TurnedWithStarts};
 ghost use Rattle.columns.specs.Lent.{was, is};
 ghost use Rattle.table.specs.Lent.{ltsOf, ltsNow};
 use crate::Table;
@@ -65,6 +65,34 @@ pub fn rows_of(source: &[u16], m: usize, s: usize) -> Stretch
 {
     let first = first_row(source, m, s);
     let end = run_end(source, m, s, first);
+    Stretch { first, end }
+}
+
+// Where the rows of each state begin, state after state, over the whole of `starts`: the rows are walked once.
+fn list_starts(source: &[u16], m: usize, starts: &mut [u16])
+    requires { ⌜ (m ≤ length (now source)) × NeverFalls (now source) m × (m < 65536) ⌝ }
+    ensures { λ _. ⌜ is starts ≡ listed (length (was starts)) (firstRow (was source) m) ⌝ }
+{
+    let mut s = 0;
+    let mut i = 0;
+    while s < starts.len() {
+        starts[s] = i as u16;
+        i = run_end(source, m, s, i);
+        s += 1;
+    }
+}
+
+// The rows of s among the first m: read off `starts`, and searched for where that has no cell for them.
+fn rows_at(source: &[u16], m: usize, starts: &[u16], s: usize) -> Stretch
+    requires { ⌜ (m ≤ length (now source)) × NeverFalls (now source) m × (s < 65536) ⌝ }
+    requires { ⌜ StartsOf (now source) m (now starts) ⌝ }
+    ensures { λ r. ⌜ (r .first ≡ firstRow (was source) m s) × (r .end ≡ firstRow (was source) m (s + 1)) ⌝ }
+{
+    if starts.len() <= s + 1 {
+        return rows_of(source, m, s);
+    }
+    let first = at(starts, s);
+    let end = at(starts, s + 1);
     Stretch { first, end }
 }
 
@@ -130,8 +158,8 @@ pub fn next_incoming(target: &[u16], m: usize, u: usize, from: usize) -> usize
     i
 }
 
-// The numbers of the first rows, as many as `order` has cells, by target, then source, then label. The first half as many
-// cells of `spare` are used, and zero then.
+// The numbers of the first rows, as many as `order` has cells, by target, then source, then label. Of `spare` the first cells are
+// used, half as many as `order` has, and zero then.
 pub fn sort_incoming(
     source: &[u16],
     label: &[u16],
@@ -178,13 +206,14 @@ fn visit(
     source: &[u16],
     label: &[u16],
     target: &[u16],
+    starts: &[u16],
     hidden: bool,
     marks: &mut [u16],
     queue: &mut [u16],
     head: usize,
     tail: usize,
 ) -> usize
-    requires { ⌜ Valid (ltsNow table source label target) × (head < tail) ⌝ }
+    requires { ⌜ Valid (ltsNow table source label target) × (head < tail) × StartsOf (now source) (table .m) (now starts) ⌝ }
     requires { let system = ltsNow table source label target in
         ⌜ Search (edge system hidden) (table .n) (getD (now queue) 0 0) (now marks) (now queue) head tail ⌝ }
     ensures { λ r.
@@ -193,7 +222,7 @@ fn visit(
 {
     let m = table.m as usize;
     let s = at(&*queue, head);
-    let rows = rows_of(source, m, s);
+    let rows = rows_at(source, m, starts, s);
     let mut i = rows.first;
     let end = rows.end;
     let mut high = tail;
@@ -210,18 +239,19 @@ fn visit(
 }
 
 // The states that a state reaches, along all rows or hidden rows only: 1 for each in `marks`, 0 for each other. Returns how
-// many. The first n cells of `queue` are used.
+// many. The rows of a state are read off `starts`, or searched for where that has no cell for them. The first n cells of `queue` are used.
 pub fn reach(
     table: Table,
     source: &[u16],
     label: &[u16],
     target: &[u16],
+    starts: &[u16],
     hidden: bool,
     state: usize,
     marks: &mut [u16],
     queue: &mut [u16],
 ) -> usize
-    requires { ⌜ Valid (ltsNow table source label target) × (state < table .n) ⌝ }
+    requires { ⌜ Valid (ltsNow table source label target) × (state < table .n) × StartsOf (now source) (table .m) (now starts) ⌝ }
     requires { ⌜ (length (now marks) ≡ table .n) × (table .n ≤ length (now queue)) ⌝ }
     ensures { λ r. ⌜ r ≡ many (table .n) (reaches (ltsOf table source label target) hidden state) ⌝ }
     ensures { λ _. ⌜ is marks ≡ listed (table .n) (λ u. bit (reaches (ltsOf table source label target) hidden state u)) ⌝ }
@@ -237,6 +267,7 @@ pub fn reach(
             source,
             label,
             target,
+            starts,
             hidden,
             &mut *marks,
             &mut *queue,
@@ -249,7 +280,8 @@ pub fn reach(
 }
 
 // The rows turned round, ascending again, over the first cells of the three columns named `back`: along them lead the ways back. Returns
-// their table. The cells of `order` and `spare` that are used are zero then.
+// their table. Behind the first m cells of `back_label` and `back_target` stands where the rows of each state begin, turned round and as
+// they are. The cells of `order` and `spare` that are used are zero then.
 pub fn turn_rows(
     table: Table,
     source: &[u16],
@@ -264,7 +296,9 @@ pub fn turn_rows(
     requires { ⌜ Valid (ltsNow table source label target) ⌝ }
     requires { ⌜ (table .m ≤ length (now «back_source»)) × (table .m ≤ length (now «back_label»)) ⌝ }
     requires { ⌜ (table .m ≤ length (now «back_target»)) × (table .m ≤ length (now order)) × (table .m ≤ 2 * length (now spare) + 1) ⌝ }
-    ensures { λ r. ⌜ RowsTurned (ltsOf table source label target) (lts r (is «back_source») (is «back_label») (is «back_target»)) ⌝ }
+    ensures { λ r.
+        let back = lts r (is «back_source») (is «back_label») (is «back_target») in
+        ⌜ TurnedWithStarts (ltsOf table source label target) back ⌝ }
     ensures { λ _. ⌜ (is order ≡ wiped (table .m) (was order)) × (is spare ≡ wiped (table .m / 2) (was spare)) ⌝ }
 {
     let m = table.m as usize;
@@ -273,12 +307,14 @@ pub fn turn_rows(
         label,
         source,
         m,
-        back_source,
-        back_label,
-        back_target,
+        &mut *back_source,
+        &mut *back_label,
+        &mut *back_target,
         order,
         spare,
     );
+    list_starts(&*back_source, r, &mut back_label[m..]);
+    list_starts(source, m, &mut back_target[m..]);
     Table {
         n: table.n,
         labels: table.labels,
@@ -294,6 +330,7 @@ pub fn reach_back(
     back_source: &[u16],
     back_label: &[u16],
     back_target: &[u16],
+    back_starts: &[u16],
     hidden: bool,
     state: usize,
     marks: &mut [u16],
@@ -301,6 +338,7 @@ pub fn reach_back(
 ) -> usize
     requires { ⌜ Valid (ltsNow back «back_source» «back_label» «back_target») × (state < back .n) ⌝ }
     requires { ⌜ (length (now marks) ≡ back .n) × (back .n ≤ length (now queue)) ⌝ }
+    requires { ⌜ StartsOf (now «back_source») (back .m) (now «back_starts») ⌝ }
     ensures { λ r.
         ⌜ ((t : Lts) → RowsTurned t (ltsOf back «back_source» «back_label» «back_target»)
         → r ≡ many (t .n) (λ s. reaches t hidden s state)) ⌝ }
@@ -313,6 +351,7 @@ pub fn reach_back(
         back_source,
         back_label,
         back_target,
+        back_starts,
         hidden,
         state,
         marks,

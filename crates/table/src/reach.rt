@@ -59,6 +59,7 @@ pub fn reachable(
         source,
         label,
         target,
+        &source[0..0],
         hidden,
         s,
         &mut reached[..n],

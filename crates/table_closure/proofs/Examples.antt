@@ -1,6 +1,5 @@
 -- Three states in one block in the order 1, 0, 2, closed: nothing marked; all marked; no rows; no hidden row; and a hidden chain from 0
--- over 1
--- to 2, of which the last is marked.
+-- over 1 to 2, of which the last is marked.
 use mathlib.Core.Path.{_≡_, refl}
 use mathlib.Core.List.{List, [], _∷_}
 use Prim.Native.Nat.{ℕ}

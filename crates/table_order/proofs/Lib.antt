@@ -12,6 +12,7 @@ pub mod Steps
 pub mod Searches
 pub mod Sorts
 pub mod Calls
+pub mod Theorems
 pub mod Absences
 pub mod Bounds
 pub mod Determined

@@ -1,4 +1,4 @@
-// The topological order of a table's states, along all rows or along hidden rows only.
+// `sort_topological` (sort_topological.rs): the order of a table's states, along all rows or along hidden rows only.
 ghost use mathlib.Core.Path.{_≡_};
 ghost use Rattle.columns.specs.Answers.{said};
 ghost use Rattle.table_order.specs.Call.{sortRefusal, sortTopological};

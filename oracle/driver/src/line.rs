@@ -9,12 +9,14 @@ pub enum Stop {
     Refused,
     /// The Rust returned an error.
     Failed,
-    /// The Rust panicked.
-    Panicked,
+    /// The Rust panicked, with these words.
+    Panicked(String),
 }
 
 /// Cells of the longest slice that may be lent.
 const ROOM: usize = 70_000;
+/// The same where an operation changes more slices than `replay` has slots for.
+const SHORT_ROOM: usize = 16_384;
 /// Records of the longest list of blocks that may be lent.
 const RECORDS_ROOM: usize = 4_096;
 
@@ -48,14 +50,19 @@ impl<'a> Line<'a> {
         self.up_to(u16::MAX.into())
     }
 
-    fn slice(&mut self, largest: usize) -> Result<Vec<usize>, Stop> {
-        let length = self.up_to(ROOM)?;
+    fn slice(&mut self, room: usize, largest: usize) -> Result<Vec<usize>, Stop> {
+        let length = self.up_to(room)?;
         (0..length).map(|_| self.up_to(largest)).collect()
     }
 
     /// A slice of numbers: its length and its cells.
     pub fn column(&mut self) -> Result<Vec<usize>, Stop> {
-        self.slice(u16::MAX.into())
+        self.slice(ROOM, u16::MAX.into())
+    }
+
+    /// A slice of numbers that is one of many that may change.
+    pub fn short(&mut self) -> Result<Vec<usize>, Stop> {
+        self.slice(SHORT_ROOM, u16::MAX.into())
     }
 
     /// A list of block records: its length and the three fields of each.
@@ -66,7 +73,7 @@ impl<'a> Line<'a> {
 
     /// The starts of given lists, each u32.
     pub fn starts(&mut self) -> Result<Vec<usize>, Stop> {
-        self.slice(u32::MAX as usize)
+        self.slice(ROOM, u32::MAX as usize)
     }
 
     /// A flag, 0 or 1.
@@ -76,7 +83,7 @@ impl<'a> Line<'a> {
 
     /// A slice of bytes: its length and its bytes as numbers.
     pub fn bytes(&mut self) -> Result<Vec<usize>, Stop> {
-        self.slice(u8::MAX.into())
+        self.slice(ROOM, u8::MAX.into())
     }
 
     /// The line has no further word.

@@ -1,7 +1,7 @@
 //! Reads cases from standard input and writes the answer line of the Rust for each; docs/REPLAY.md has both forms.
 //!
-//! A case that document 01 refuses is answered `none`, one where the Rust panics `panic`, one where it returns an error
-//! `error`, a line that is no case `bad`.
+//! A case that document 01 refuses is answered `none`, one where the Rust panics `panic` (and the block, where it says
+//! that one has no bottom state), one where it returns an error `error`, a line that is no case `bad`.
 
 mod accept;
 mod answer;
@@ -10,6 +10,7 @@ mod host;
 mod lent;
 mod line;
 mod partition;
+mod quotient;
 mod run;
 mod signature;
 mod split;
@@ -29,6 +30,7 @@ const TABLES: &[&[(&str, Operation)]] = &[
     split::OPERATIONS,
     steps::OPERATIONS,
     signature::OPERATIONS,
+    quotient::OPERATIONS,
 ];
 
 fn case(text: &str) -> Result<String, Stop> {
@@ -45,7 +47,7 @@ fn answer(text: &str) -> String {
             Stop::NoCase => "bad",
             Stop::Refused => "none",
             Stop::Failed => "error",
-            Stop::Panicked => "panic",
+            Stop::Panicked(_) => "panic",
         };
         word.to_string()
     })

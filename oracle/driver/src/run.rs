@@ -16,7 +16,7 @@ pub fn rust<T>(call: impl FnOnce() -> T) -> Result<T, Stop> {
     INSIDE.store(true, Ordering::Relaxed);
     let outcome = catch_unwind(AssertUnwindSafe(call));
     INSIDE.store(false, Ordering::Relaxed);
-    outcome.map_err(|_| Stop::Panicked)
+    outcome.map_err(|panic| Stop::Panicked(panic.downcast_ref::<String>().cloned().unwrap_or_default()))
 }
 
 /// From here on a panic of the Rust writes nothing.

@@ -54,6 +54,11 @@ impl Table {
         accept::ascending(&rows)
     }
 
+    /// A column of rows has a cell for each row.
+    pub fn accept_rows(&self, column: &[usize]) -> Result<(), Stop> {
+        accept(column.len() >= self.m)
+    }
+
     /// A work slice has a cell for each state, for each row, and one more.
     pub fn accept_work(&self, slice: &[usize]) -> Result<(), Stop> {
         accept(slice.len() > self.n + self.m)

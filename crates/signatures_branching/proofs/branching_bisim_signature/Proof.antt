@@ -18,7 +18,7 @@ use Rattle.signatures.specs.Pairs.{Columns, signature}
 use Rattle.signatures.specs.Signing.{roomy, signatureRefusal}
 use Rattle.signatures.proofs.Outcomes.{signing-refused, signing-on}
 use Rattle.table_partition.proofs.Refusals.{BothReady, both-ready}
-use Rattle.signatures.proofs.Works.{Wide, wide-of, zeroed, level, cleared-append}
+use Rattle.signatures.proofs.Works.{Wide, wide-of, zeroed-of, level, cleared-append}
 use Rattle.table.specs.Lts.{Lts, lts}
 use Rattle.signatures_branching.specs.Branching.{branchingPushed, branchingSignature, branchingBisimSignature}
 use Rattle.signatures_branching.proofs.MoreWorks.{with-more, finish-more}
@@ -270,7 +270,7 @@ returns-2 c =
     ap (with-more more) (c .before .before .before .before .before .before .before .before .before .before .before .before .sign .ensures)
     ∙ finish-more (p .result) (signature (pairsOf (p .result) (pushed-labels q) (pushed-blocks q))) (Out a) w more (Works a)
     (ap₂ _++_ (level w (take 4 (Works a)) (p .kept .1 .1 .1 .1 .1 .1 .0, (p .kept .1 .1 .1 .1 .1 .1 .1 .0, (refl, (refl, tt)))))
-    (zeroed more (drop 4 (Works a)) (marks-left q, (queue-left q, tt)))
+    (zeroed-of more (drop 4 (Works a)) (marks-left q, (queue-left q, tt)))
     ∙ cleared-append (take 4 (Works a)) (drop 4 (Works a)))
     ∙ signing-on (R a) (length (Pushed a)) (Signature a) (Out a) (Works a) (p .result) _ (Works a)
     (sym (ap (λ (r : Refusal). r .number) (answered

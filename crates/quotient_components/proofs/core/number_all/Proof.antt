@@ -44,7 +44,7 @@ abbrev L : tie.Start Inv-loop μ-loop → Lts
 L a = lts (a .args .table) (a .args .source .now) (a .args .label .now) (a .args .target .now)
 
 valid : (a : tie.Start Inv-loop μ-loop) → Valid (L a)
-valid a = a .pre .0 .given
+valid a = a .pre .0 .rows .given
 
 -- a turn of the loop: s is a state, and not more components are counted
 module _ (q : tie.In-loop Inv-loop μ-loop) where

@@ -28,7 +28,7 @@ L a = lts (a .args .table) (a .args .source .now) (a .args .label .now) (a .args
 few : (q : tie.In-loop Inv-loop μ-loop) → (q .before .loop .k ≤ q .before .loop .i) × (q .before .loop .i < 8192)
 few q = let a = q .before .before .before .before .before .before .before .before .before .before .before .before .before in (
   remain-few (L a) _ _ _ _ _ (q .before .loop .inv .1),
-  omega (arith, q .loop-test, a .pre .0 .given .few-rows),
+  omega (arith, q .loop-test, a .pre .0 .rows .given .few-rows),
 )
 
 -- the lengths after row i was looked at

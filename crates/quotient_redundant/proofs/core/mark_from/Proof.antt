@@ -16,7 +16,7 @@ same-source-requires : tie.Need-same-source-requires
 same-source-requires c κs = search needs
 
 returns : tie.Need-returns
-returns c = let a = c .before .before .before .before .before .before .before in
+returns c = let a = c .before .before .before .before .before .before .before .before in
     let p = c .before .same-source .ensures (c .if1 .taken) in
     a .pre .1 .1 (p .0) ∙ ap (λ (x : ℕ). marksFrom (L a) x) (p .1)
 
@@ -24,11 +24,9 @@ at-requires : tie.Need-at-requires
 at-requires c κs = search needs
 
 reach-requires : tie.Need-reach-requires
-reach-requires c κs = let a = c .before .before .before .before .before .before .before .before .before .before in (
-  (a .pre .0 .0, omega (arith, c .before .before .at .ensures .0, a .pre .0 .0 .fields (a .args .i) (a .pre .0 .1) .source)),
-  a .pre
-      .1 .0,
-)
+reach-requires c κs = let a = c .before .before .before .before .before .before .before .before .before .before .before in
+    let f = a .pre .0 .0 .fields (a .args .i) (a .pre .0 .1) in
+    ((a .pre .0 .0, omega (arith, c .before .before .at .ensures .0, f .source), a .pre .0 .2), a .pre .1 .0)
 
 same-length : tie.Need-same-length
 same-length c = search needs
@@ -38,7 +36,7 @@ same-length-2 c = search needs
 
 returns-2 : tie.Need-returns-2
 returns-2 c = c .before .before .before .before .reach .ensures .1 ∙ ap (λ (x : ℕ). marksFrom (L (c .before .before .before .before
-    .before .before .before .before .before .before .before .before .before .before .before)) x) (c .before .before .before .before
+    .before .before .before .before .before .before .before .before .before .before .before .before)) x) (c .before .before .before .before
     .before .before .before .at .ensures .0)
 
 pub mark-from-spec : {M : Type 1} → statement M

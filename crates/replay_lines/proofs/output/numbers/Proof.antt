@@ -10,10 +10,10 @@ use Rattle.replay_lines.proofs.output.numbers.Statement.{statement}
 use Rattle.replay_lines.proofs.output.numbers.Tie as tie
 
 abbrev Inv-loop : tie.InvT-loop
-Inv-loop count out₀ used numbers at₀ i₀ out at i = (i ≤ 6) × (i ≤ count) × ((at, out) ≡ puts (spelledAll (take i numbers)) (used, out₀))
+Inv-loop count out₀ used numbers at₀ i₀ out at i = (i ≤ 8) × (i ≤ count) × ((at, out) ≡ puts (spelledAll (take i numbers)) (used, out₀))
 
 abbrev μ-loop : tie.MeasureT-loop
-μ-loop count out₀ used numbers at₀ i₀ out at i = 6 - i
+μ-loop count out₀ used numbers at₀ i₀ out at i = 8 - i
 
 loop-holds : tie.Need-loop-holds Inv-loop μ-loop
 loop-holds c = (search needs, search needs, listed-none)

@@ -15,7 +15,7 @@ use Rattle.columns.proofs.Bools.{and-left, and-right}
 use Rattle.columns.proofs.TwoColumns.{length-pairs}
 use Rattle.signatures.specs.Pairs.{Columns, signature, fits, roomFor}
 use Rattle.signatures.proofs.Outcomes.{finish-short, finish-done}
-use Rattle.signatures.proofs.Works.{zeroed}
+use Rattle.signatures.proofs.Works.{zeroed-of}
 use Rattle.signatures.proofs.flat.sign.Statement.{statement}
 use Rattle.signatures.proofs.flat.sign.Tie as tie
 
@@ -76,7 +76,7 @@ returns c =
     (c .before .before .before .before .before .before .before .before .before .before .before .before .before .before .before .if1
     .taken)))
     (c .refusing-number .ensures ∙ ap (λ r. refused (r .number) (r .place)) (c .before .refuse .ensures))
-    (zeroed _ _ (w .0 .0, (w .0 .1, (w .1 .0, (w .1 .1, tt)))))
+    (zeroed-of _ (Works a) (w .0 .0, (w .0 .1, (w .1 .0, (w .1 .1, tt)))))
 
 flatten-requires : tie.Need-flatten-requires
 flatten-requires c κs =
@@ -135,7 +135,7 @@ returns-2 c =
     .before .before .before .before .before .before .before .before .before .before .before .before .before .if1 .left)))
     (c .number .ensures ∙ ap (λ (k : ℕ). done (k ∷ [])) (f .ensures .0))
     (f .ensures .1 .0)
-    (zeroed _ _
+    (zeroed-of _ (Works a)
     (w .0 .0, (w .0 .1, (w .1 .0 ∙ ap zeros (f .kept .1 .1 .1 .1 .1 .0), (w .1 .1 ∙ ap zeros (f .kept .1 .1 .1 .1 .1 .1 .0), tt)))))
 
 pub sign-spec : {M : Type 1} → statement M

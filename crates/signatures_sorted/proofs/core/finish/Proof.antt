@@ -7,7 +7,7 @@ use Rattle.columns.specs.Columns.{zeros}
 use Rattle.columns.specs.Sets.{Pair}
 use Rattle.pairs_merge.specs.Merged.{heads}
 use Rattle.signatures.specs.Pairs.{Columns}
-use Rattle.signatures.proofs.Works.{zeroed}
+use Rattle.signatures.proofs.Works.{zeroed-of}
 use Rattle.signatures_sorted.specs.Joining.{jointSet}
 use Rattle.signatures_sorted.proofs.Emptied.{finished}
 use Rattle.signatures_sorted.proofs.core.finish.Statement.{statement}
@@ -103,7 +103,7 @@ returns c =
     let k = wrote c .write-set .kept in
     let w = wiped c .wipe .ensures in
     finished (a .args .taken .pushed) (Pairs a) (Out a) _ _ (Works a) _ (wrote c .write-set .ensures)
-    (zeroed _ _ (
+    (zeroed-of _ (Works a) (
       w .0 .0 ∙ ap zeros (k .1 .1 .1 .1 .1 .0),
       (
         w .0 .1 ∙ ap zeros (k .1 .1 .1 .1 .1 .1 .0),

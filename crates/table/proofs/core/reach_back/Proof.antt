@@ -20,7 +20,7 @@ same-length-2 : tie.Need-same-length-2
 same-length-2 c = search needs
 
 returns : tie.Need-returns
-returns c = let a = c .before .before .before .before .before .before .before .before .before .before .before .before in
+returns c = let a = c .before .before .before .before .before .before .before .before .before .before .before .before .before in
     let q = c .before .before .before .before .reach in (
       λ t r. q .ensures .0 ∙ count-turned t (L a) r (a .args .hidden) (a .args .state),
       λ t r. q .ensures .1 ∙ marks-turned t (L a) r (a .args .hidden) (a .args .state),

@@ -18,12 +18,12 @@ use Rattle.table.proofs.core.visit.Statement.{statement}
 use Rattle.table.proofs.core.visit.Tie as tie
 
 abbrev Inv-loop : tie.InvT-loop
-Inv-loop source label target hidden marks₀ queue₀ head tail m s i₀ end high₀ marks queue i high =
+Inv-loop source label target starts hidden marks₀ queue₀ head tail m s i₀ end high₀ marks queue i high =
     ((i₀ ≤ i) × (i ≤ end))
     × Visit (length marks₀) m source target (λ j. takes hidden (getD label j 0)) (getD queue₀ 0 0) s queue₀ tail marks queue head high i
 
 abbrev μ-loop : tie.MeasureT-loop
-μ-loop source label target hidden marks₀ queue₀ head tail m s i₀ end high₀ marks queue i high = end - i
+μ-loop source label target starts hidden marks₀ queue₀ head tail m s i₀ end high₀ marks queue i high = end - i
 
 abbrev Start : Type 0
 Start = tie.Start Inv-loop μ-loop
@@ -53,38 +53,35 @@ cast-m c = search needs
 at-requires : tie.Need-at-requires Inv-loop μ-loop
 at-requires c κs = omega (
   arith,
-  c .before .before .before .before .before .before .before .pre .0 .1,
-  search-few _ _ _ _ _ _ _ (search₀ (c .before .before .before .before .before .before .before)),
-  search₀ (c .before .before .before .before .before .before .before) .room,
+  c .before .before .before .before .before .before .before .before .pre .0 .1,
+  search-few _ _ _ _ _ _ _ (search₀ (c .before .before .before .before .before .before .before .before)),
+  search₀ (c .before .before .before .before .before .before .before .before) .room,
 )
 
-rows-of-requires : tie.Need-rows-of-requires Inv-loop μ-loop
-rows-of-requires c κs = (
-  valid (c .before .before .before .before .before .before .before .before) .long .source,
-  rising (L (c .before .before .before .before .before .before .before .before))
-      (valid (c .before .before .before .before .before .before .before .before)),
-  c .at .ensures .1,
-)
+rows-at-requires : tie.Need-rows-at-requires Inv-loop μ-loop
+rows-at-requires c κs =
+    let a = c .before .before .before .before .before .before .before .before .before in
+    ((valid a .long .source, rising (L a) (valid a), c .at .ensures .1), a .pre .0 .2)
 
 -- the rows of the state at head
-module _ (q : tie.After-rows-of Inv-loop μ-loop) where
+module _ (q : tie.After-rows-at Inv-loop μ-loop) where
   abbrev A : Start
-  A = q .before .before .before .before .before .before .before .before .before
+  A = q .before .before .before .before .before .before .before .before .before .before
 
-  run : StretchOf (λ i. getD (A .args .source .now) i 0) (A .args .table .m) (q .before .at .result) (q .rows-of .result .first)
-      (q .rows-of .result .end)
+  run : StretchOf (λ i. getD (A .args .source .now) i 0) (A .args .table .m) (q .before .at .result) (q .rows-at .result .first)
+      (q .rows-at .result .end)
   run =
-      rows-stretch (A .args .source .now) (A .args .table .m) (rising (L A) (valid A)) (q .before .at .result) _ _ (q .rows-of .ensures .0)
-      (q .rows-of .ensures .1)
+      rows-stretch (A .args .source .now) (A .args .table .m) (rising (L A) (valid A)) (q .before .at .result) _ _ (q .rows-at .ensures .0)
+      (q .rows-at .ensures .1)
 
 loop-holds : tie.Need-loop-holds Inv-loop μ-loop
 unfolding edge
 loop-holds c =
-    let a = c .before .before .before .before .before .before .before .before .before in (
+    let a = c .before .before .before .before .before .before .before .before .before .before in (
       (omega arith, run c .low),
       visit-start (length (a .args .marks .now)) (a .args .table .m) (a .args .source .now) (a .args .target .now) (W a) (to a)
           (getD (a .args .queue .now) 0 0) (c .before .at .result) (a .args .queue .now) (a .args .tail) (a .args .head)
-          (a .args .marks .now) (c .rows-of .result .first) (c .rows-of .result .end) (run c)
+          (a .args .marks .now) (c .rows-at .result .first) (c .rows-at .result .end) (run c)
           (subst (λ (n : ℕ). Found a n (a .args .marks .now) (a .args .queue .now) (a .args .head) (a .args .tail)) (sym (search₀ a .size))
           (search₀ a))
           (a .pre .0 .1) (sym (c .before .at .ensures .0)),
@@ -92,10 +89,11 @@ loop-holds c =
 
 -- a row of the state
 module _ (q : tie.In-loop Inv-loop μ-loop) where
-  below : q .before .loop .i < q .before .before .before .before .before .before .before .before .before .before .before .args .table .m
+  below : q .before .loop .i < q .before .before .before .before .before .before .before .before .before .before .before
+      .before .args .table .m
   below = omega (arith, q .loop-test, run (q .before .before) .most)
 
-  own : getD (q .before .before .before .before .before .before .before .before .before .before .before .args .source .now)
+  own : getD (q .before .before .before .before .before .before .before .before .before .before .before .before .args .source .now)
       (q .before .loop .i) 0 ≡ q .before .before .before .at .result
   own = run (q .before .before) .exactly (q .before .loop .i) below .1 (q .before .loop .inv .0 .0, omega (arith, q .loop-test))
 
@@ -104,20 +102,20 @@ taken-requires c κs = omega (
   arith,
   below c,
   valid
-      (c .before .before .before .before .before .before .before .before .before .before .before) .long .label,
+      (c .before .before .before .before .before .before .before .before .before .before .before .before) .long .label,
 )
 
 at-requires-2 : tie.Need-at-requires-2 Inv-loop μ-loop
 at-requires-2 c κs = omega (
   arith,
   below (c .before .before),
-  valid (c .before .before .before .before .before .before .before .before .before .before .before .before .before) .long .target,
+  valid (c .before .before .before .before .before .before .before .before .before .before .before .before .before .before) .long .target,
 )
 
 append-requires : tie.Need-append-requires Inv-loop μ-loop
 append-requires c κs =
     let a = c .before .before .before .before .before .before .before .before .before .before .before .before .before .before .before
-    .before in
+    .before .before in
     let l = c .before .before .before .before .before .before .loop in
     let s = l .inv .1 .search in (
       omega (arith, c .before .before .at2 .ensures .0, to a (l .i) (below (c .before .before .before .before .before)), s .size),
@@ -142,7 +140,7 @@ add-i c = omega (
   arith,
   below (c .before .before .before .before .before .before .before .before .before .before),
   valid (c .before .before .before .before .before .before .before .before .before .before .before .before .before .before .before .before
-      .before .before .before .before .before) .few-rows,
+      .before .before .before .before .before .before) .few-rows,
 )
 
 loop-less : tie.Need-loop-less Inv-loop μ-loop
@@ -151,7 +149,7 @@ loop-less c = omega (arith, c .before .before .before .before .before .before .b
 loop-again : tie.Need-loop-again Inv-loop μ-loop
 loop-again c =
     let a = c .before .before .before .before .before .before .before .before .before .before .before .before .before .before .before
-    .before .before .before .before .before .before in
+    .before .before .before .before .before .before .before in
     let l = c .before .before .before .before .before .before .before .before .before .before .before .loop in
     let p = c .before .before .before .before .append in (
       (
@@ -175,7 +173,7 @@ add-i-2 : tie.Need-add-i-2 Inv-loop μ-loop
 add-i-2 c = omega (
   arith,
   below (c .before .before),
-  valid (c .before .before .before .before .before .before .before .before .before .before .before .before .before) .few-rows,
+  valid (c .before .before .before .before .before .before .before .before .before .before .before .before .before .before) .few-rows,
 )
 
 loop-less-2 : tie.Need-loop-less-2 Inv-loop μ-loop
@@ -183,7 +181,7 @@ loop-less-2 c = omega (arith, c .before .before .loop-test)
 
 loop-again-2 : tie.Need-loop-again-2 Inv-loop μ-loop
 loop-again-2 c =
-    let a = c .before .before .before .before .before .before .before .before .before .before .before .before .before in
+    let a = c .before .before .before .before .before .before .before .before .before .before .before .before .before .before in
     let l = c .before .before .before .loop in (
       (omega (arith, l .inv .0), omega (arith, c .before .before .loop-test)),
       visit-skip (length (a .args .marks .now)) (a .args .table .m) (a .args .source .now) (a .args .target .now) (W a)
@@ -202,9 +200,9 @@ same-length-2 c = c .before .loop .inv .1 .long
 returns : tie.Need-returns Inv-loop μ-loop
 unfolding edge
 returns c =
-    let a = c .before .before .before .before .before .before .before .before .before .before .before in
+    let a = c .before .before .before .before .before .before .before .before .before .before .before .before in
     let l = c .before .loop in
-    let e : l .i ≡ c .before .before .rows-of .result .end = omega (arith, c .loop-test, l .inv .0) in
+    let e : l .i ≡ c .before .before .rows-at .result .end = omega (arith, c .loop-test, l .inv .0) in
     subst (λ (n : ℕ). Found a n (l .marks) (l .queue) (a .args .head + 1) (l .high)) (search₀ a .size)
     (visit-end (length (a .args .marks .now)) (a .args .table .m) (a .args .source .now) (a .args .target .now) (W a)
     (to a)
@@ -220,7 +218,7 @@ visit-spec =
     μ-loop
     cast-m
     at-requires
-    rows-of-requires
+    rows-at-requires
     loop-holds
     taken-requires
     at-requires-2

@@ -1,0 +1,4 @@
+pub mod Layout
+pub mod Bytes
+pub mod Input
+pub mod Output

@@ -1,0 +1,4 @@
+pub mod Ties
+pub mod Theorems
+pub mod Examples
+pub mod Determined

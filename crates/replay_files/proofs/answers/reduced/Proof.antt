@@ -1,0 +1,35 @@
+-- `answers::reduced` meets its contract: each arm's numbers are those of its case.
+use borrow.Author.Needs.{needs}
+use mathlib.Core.Path.{_≡_, ap, _∙⁻¹_}
+use Rattle.file_reduction.specs.Answers.{saidFileOutcome}
+use Rattle.replay_files.proofs.answers.reduced.Statement.{statement}
+use Rattle.replay_files.proofs.answers.reduced.Tie as tie
+
+enum-known-outcome : tie.Need-enum-known-outcome
+enum-known-outcome c = search needs
+
+done-with-requires : tie.Need-done-with-requires
+done-with-requires c κs = search needs
+
+enum-known-outcome-2 : tie.Need-enum-known-outcome-2
+enum-known-outcome-2 c = search needs
+
+refused-requires : tie.Need-refused-requires
+refused-requires c κs = search needs
+
+returns : tie.Need-returns
+returns c = c .done-with .ensures ∙⁻¹ ap saidFileOutcome (c .before .before .outcome .given .1)
+
+returns-2 : tie.Need-returns-2
+returns-2 c = c .refused .ensures ∙⁻¹ ap saidFileOutcome (c .before .before .outcome2 .given .1)
+
+pub reduced-spec : {M : Type 1} → statement M
+reduced-spec =
+    tie.close
+    (tie.spec
+    enum-known-outcome
+    done-with-requires
+    enum-known-outcome-2
+    refused-requires
+    returns
+    returns-2)

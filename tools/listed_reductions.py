@@ -1,0 +1,71 @@
+"""The cases of absence and of limit of the operations that make a smaller table, or number its states."""
+from listed_cases import (Listed, Section, at_bound, blocks, header, hidden, largest, no_room, only_self_loop, rows,
+                          unreached)
+
+CYCLES = 'tau_cycle_elimination_and_reorder'
+
+
+def own_rows(v, state):
+    return [row for row in rows(v) if row[0] == state]
+
+
+def rowless_choice(v):
+    """The first state of a block has no rows, and other states have."""
+    return v['m'] > 0 and any(not own_rows(v, v['elements'][begin]) for begin, _, _ in blocks(v))
+
+
+def of_tables(*more):
+    """A table, small and largest."""
+    return (
+        Listed('one state, no rows', 'done', lambda v: (v['n'], v['m']) == (1, 0)),
+        Listed('no rows', 'done', lambda v: v['n'] > 1 and v['m'] == 0),
+        Listed('no hidden row', 'done', lambda v: v['m'] > 0 and not hidden(v)),
+        Listed('a hidden self-loop alone', 'done', only_self_loop),
+        Listed('a state with no way out among others', 'done',
+               lambda v: v['m'] > 0 and any(not own_rows(v, state) for state in range(v['n']))),
+        Listed('the initial state reached by no other', 'done', unreached),
+        *more,
+        no_room(),
+        *header(),
+        *largest(),
+    )
+
+
+def linked(v):
+    """All states lie on one hidden ring, in their order."""
+    return v['n'] > 1 and all((state, 0, (state + 1) % v['n']) in rows(v) for state in range(v['n']))
+
+
+def sections(by_name):
+    """The operations are given by name: some of the tests ask what they answer or refuse."""
+    redundant, chosen = by_name['remove_redundant_transitions'], by_name['quotient_lts_block']
+
+    def left(v):
+        """The rows that stay."""
+        return redundant.computed(v)[0][2]
+
+    return (
+        Section('Quotients by a partition', ('quotient_lts_naive', 'quotient_lts_block'), of_tables(
+            Listed('one block', 'done', lambda v: v['count'] == 1 < v['n']),
+            Listed('as many blocks as states', 'done', lambda v: v['count'] == v['n'] > 1),
+            *(Listed(f'switches {inerts} and {loops}', 'done',
+                     lambda v, inerts=inerts, loops=loops: v['m'] > 0
+                     and (v['eliminate_inert_taus'], v['eliminate_tau_loops']) == (inerts, loops),
+                     ('quotient_lts_naive',)) for inerts in (0, 1) for loops in (0, 1)),
+            Listed('a chosen state without rows', 'done', rowless_choice, ('quotient_lts_block',)),
+            Listed('no bottom state in the last block', 'refused 12',
+                   lambda v: chosen.refusal(v)[1] == v['count'] - 1 > 0, ('quotient_lts_block',)),
+        )),
+        Section('Redundant rows', ('remove_redundant_transitions',), of_tables(
+            Listed('every row redundant', 'done', lambda v: v['m'] > 0 and left(v) == 0),
+            Listed('no row redundant', 'done', lambda v: v['m'] > 0 and left(v) == v['m']),
+        )),
+        Section('Hidden components and cycles', ('tau_scc_decomposition', CYCLES), of_tables(
+            Listed('all states on one hidden cycle', 'done', linked),
+            at_bound('state', 'n')._replace(only=(CYCLES,)),
+        )),
+        Section('The strong reduction', ('strong_reduction',), of_tables(
+            Listed('every label used', 'done', lambda v: len({row[1] for row in rows(v)}) == v['labels'] > 1),
+            Listed('no label used', 'done', lambda v: v['m'] == 0 and v['labels'] > 1),
+        )),
+    )
