@@ -164,38 +164,40 @@ module _ (t : Lts) (v : Valid t) where
   unfolding little inputBytes
   read-size = omega (arith, v .few-rows)
 
+  -- a field of every row, which stands j bytes from where the row begins, is a column of m cells
+  read-field :
+      (j : ℕ) (cells : List ℕ) → t .m ≤ length cells
+      → ((i : ℕ) (r : List ℕ) → i < t .m → little 2 (row i ++ r) j ≡ getD cells i 0)
+      → column s (inputRows + j) (t .m) ≡ take (t .m) cells
+  unfolding column
+  read-field j cells long right =
+      listed-cong (t .m) (λ i. little 2 s (inputRows + j + rowSize * i)) (λ i. getD cells i 0)
+      (λ i w. let q = in-row i j w in q .1 ∙ right i (q .0) w)
+      ∙ front (t .m) cells long
+
   read-source : column s firstSource (t .m) ≡ take (t .m) (t .source)
-  unfolding column rowBytes
+  unfolding rowBytes
   read-source =
-      listed-cong (t .m) (λ i. little 2 s (firstSource + rowSize * i)) (λ i. getD (t .source) i 0)
-      (λ i w.
-      let q = in-row i 0 w in
-      q .1
-      ∙ row-source (getD (t .source) i 0) (getD (t .label) i 0) (getD (t .target) i 0) (q .0)
+      read-field 0 (t .source) (v .long .source)
+      (λ i r w.
+      row-source (getD (t .source) i 0) (getD (t .label) i 0) (getD (t .target) i 0) r
       (omega (arith, v .few-states, v .fields i w .source)))
-      ∙ front (t .m) (t .source) (v .long .source)
 
   read-label : column s firstLabel (t .m) ≡ take (t .m) (t .label)
-  unfolding column rowBytes
+  unfolding rowBytes
   read-label =
-      listed-cong (t .m) (λ i. little 2 s (firstLabel + rowSize * i)) (λ i. getD (t .label) i 0)
-      (λ i w.
-      let q = in-row i 2 w in
-      q .1
-      ∙ row-label (getD (t .source) i 0) (getD (t .label) i 0) (getD (t .target) i 0) (q .0)
+      read-field 2 (t .label) (v .long .label)
+      (λ i r w.
+      row-label (getD (t .source) i 0) (getD (t .label) i 0) (getD (t .target) i 0) r
       (omega (arith, v .few-labels, v .fields i w .label)))
-      ∙ front (t .m) (t .label) (v .long .label)
 
   read-target : column s firstTarget (t .m) ≡ take (t .m) (t .target)
-  unfolding column rowBytes
+  unfolding rowBytes
   read-target =
-      listed-cong (t .m) (λ i. little 2 s (firstTarget + rowSize * i)) (λ i. getD (t .target) i 0)
-      (λ i w.
-      let q = in-row i 4 w in
-      q .1
-      ∙ row-target (getD (t .source) i 0) (getD (t .label) i 0) (getD (t .target) i 0) (q .0)
+      read-field 4 (t .target) (v .long .target)
+      (λ i r w.
+      row-target (getD (t .source) i 0) (getD (t .label) i 0) (getD (t .target) i 0) r
       (omega (arith, v .few-states, v .fields i w .target)))
-      ∙ front (t .m) (t .target) (v .long .target)
 
   -- The table in a table's file is the table.
   pub table-back : tableIn (inputBytes t) ≡ cutTo t
