@@ -16,6 +16,7 @@ from try_streams import UNWRITTEN, compared, last_line
 
 HEGRASTOL = needs.ROOT / 'hegrastol'
 BEFORE = b'what was there before\n'
+NOBODY = 65534
 # 01's example and its output as text and as graphs, by hand.
 SHOWN = '''3 states, 2 labels, 2 rows, initial state 0
 
@@ -137,6 +138,19 @@ def stopped(folder, words, due, **settings):
 
 
 @in_folder
+def unreadable(folder, *words):
+    """The file can't be read by who runs this: where that is root, nobody does."""
+    path = folder / 'in'
+    path.write_bytes(file_cases.EXAMPLE)
+    path.chmod(0)
+    folder.chmod(0o777)
+    ended = run(*words, cwd=folder, **({'user': NOBODY} if os.geteuid() == 0 else {}))
+    path.chmod(0o600)
+    got = ended.returncode, 'in cannot be read' in last_line(ended), left(folder)
+    return compared(f'{words[0]} of a file that cannot be read', got, (2, True, {'in': file_cases.EXAMPLE}))
+
+
+@in_folder
 def without_python(folder, words):
     """Only the few commands that are needed to find Python are on the PATH."""
     for name in ('dirname', 'readlink'):
@@ -145,7 +159,7 @@ def without_python(folder, words):
 
 
 def stops():
-    """Missing files, folders, a full disk, wrong words, no kit, no Python."""
+    """Missing files, folders, a full disk, wrong words, no kit, files that can't be read, no Python."""
     return [stopped(['reduce', 'none', 'out'], 'there is no file none'),
             stopped(['reduce', 'folder', 'out'], 'folder is a folder'),
             stopped(['reduce', 'in', 'folder'], 'folder is a folder'),
@@ -159,6 +173,7 @@ def stops():
             stopped(['show', 'none'], 'none cannot be read'),
             stopped(['dot', 'folder'], 'folder cannot be read'),
             stopped(['show', 'in', 'none'], 'none cannot be read'),
+            unreadable('reduce', 'in', 'out'), unreadable('show', 'in'), unreadable('dot', 'in'),
             without_python(['show', 'in']), without_python(['dot', 'in'])]
 
 
