@@ -4,7 +4,7 @@ The kinds that are wanted are those of the parameters in `operations`, which doc
 """
 import re
 
-from operations import BLOCK, BYTES, BY_NAME, FLAGS, RECORDS, WIDE
+from operations import BYTES, BY_NAME, FLAGS, RECORDS, WIDE
 from programs import ROOT
 
 SOURCE = ROOT / 'crates' / 'replay_calls' / 'src' / 'operations.rt'
@@ -33,9 +33,7 @@ def kind(operation, parameter):
 
 
 def kinds(operation):
-    """The letters of an operation's parameters; those of a block that is lent are one."""
-    if BLOCK in operation.changed:
-        return 'k'
+    """The letters of an operation's parameters."""
     return ''.join(kind(operation, parameter) for parameter in operation.parameters)
 
 
@@ -73,7 +71,7 @@ def faults():
             yield f'{constant(name)} is not {number}'
         group = family(text, number, numbers)
         slots = SLOTS.get(group, 0)
-        if sum(letters.count(letter) for letter in 'mrk') > slots:
+        if sum(letters.count(letter) for letter in 'mr') > slots:
             yield f'{name} changes more than the {slots} slices of its family'
         if letters.count('t') > (1 if group in CHANGING_BYTES else 0):
             yield f'{name} changes more slices of bytes than its family {group} may'

@@ -2,6 +2,7 @@
 use crate::line::Line;
 use replay_calls::blocks::of_numbers;
 use replay_calls::few::few;
+use replay_calls::operations::BLOCK_UNMARK_ALL;
 use replay_calls::operations::DIVIDING;
 use replay_calls::operations::FEW;
 use replay_calls::operations::FILING;
@@ -20,6 +21,7 @@ use replay_calls::readers::of_partition;
 use replay_calls::readers::part_of;
 use replay_calls::readers::text_of;
 use replay_calls::records::records;
+use replay_calls::records::unmarked;
 use replay_calls::six::six;
 use replay_calls::tables::of_table;
 use replay_files::filing;
@@ -28,8 +30,8 @@ use replay_lines::input::Buffer;
 use replay_lines::lines::Answered;
 use replay_lines::lines::bad_case;
 use replay_lines::lines::end_case;
-use replay_lines::output::part;
 use replay_lines::output::said;
+use replay_lines::slices::part;
 use replay_reductions::reducing;
 use replay_slots::case::Bytes;
 use replay_slots::case::Case;
@@ -77,7 +79,7 @@ fn called(
         TABLES => of_table(operation, case, narrow),
         TEXTS => displayed(case, narrow, bytes, text),
         FEW => few(operation, case, narrow, to, a, b, c),
-        RECORDS => records(operation, case, narrow, to, a, b),
+        RECORDS => records(case, narrow, to, a, b),
         SIX => six(operation, case, narrow, bytes, to, a, b, c, d, e, f),
         DIVIDING => dividing(case, narrow, to, a, b, c, d, e, f, g, h, i),
         SIGNING => signing(operation, case, narrow, to, a, b, c, d, e, f),
@@ -107,7 +109,10 @@ fn done(
     used: usize,
 ) -> usize {
     if operation == ITER_BLOCK {
-        return part(part_of(case, narrow), out, used);
+        return part(part_of(case, narrow), case.short, out, used);
+    }
+    if operation == BLOCK_UNMARK_ALL {
+        return unmarked(case, out, used);
     }
     if family(operation) == REDUCING {
         return reducing(operation, case, narrow, out, used);

@@ -28,7 +28,7 @@ pub fn found(name: &[u8; 64], count: usize) -> Found {
           incoming nnnncccmm \
           reachable nnnncccfnmm \
           sort_topological nnnncccffmmm \
-          Block::unmark_all k \
+          Block::unmark_all nnn \
           swap_blocks_host nnccmrnn \
           BlockPartition::new nmmmmmm \
           swap_blocks nnccmmmmnn \

@@ -2,8 +2,8 @@
 ghost use Prim.Native.Nat.{_≤_};
 ghost use Rattle.columns.specs.Limits.{maxStates};
 ghost use Rattle.io.specs.Counts.{Counts};
+use crate::headers::block;
 use crate::headers::partition;
-use crate::operations::BLOCK_UNMARK_ALL;
 use columns::limits::MAX_STATES;
 use partition::block::Block;
 use partition_records::records::empty_table;
@@ -11,6 +11,9 @@ use partition_records::swapping::swap_here;
 use partition_records::unmarking::unmark_here;
 use replay_lines::answers::Said;
 use replay_lines::answers::plain;
+use replay_lines::input::Buffer;
+use replay_lines::output::said;
+use replay_lines::slices::column as column_text;
 use replay_slots::case::Case;
 use replay_slots::case::column;
 use replay_slots::slots::Filled;
@@ -66,11 +69,17 @@ fn number_of(cells: usize) -> usize
     MAX_STATES
 }
 
-// `unmark_all` on the first record.
-fn unmarked(block: &mut [u16]) -> Said {
-    let done = unmark_here(block_at(&*block, 0));
-    change_to(block, 0, done.block);
-    plain(done.answer)
+// `unmark_all` on the block of the first three numbers: the answer, and the block at return.
+pub fn unmarked(case: Case, out: &mut Buffer, used: usize) -> usize {
+    let done = unmark_here(block(case));
+    let at = said(plain(done.answer), out, used);
+    let left = done.block;
+    column_text(
+        &[left.begin, left.marked_split, left.end],
+        case.short,
+        out,
+        at,
+    )
 }
 
 // The records of a list in a table.
@@ -114,18 +123,8 @@ fn swapped(case: Case, cells: &[u16], element_to_block: &mut [u16], records: &mu
 }
 
 // The call, with as much of each slot as is filled.
-pub fn records(
-    operation: usize,
-    case: Case,
-    cells: &[u16],
-    to: Filled,
-    a: &mut [u16],
-    b: &mut [u16],
-) -> Said
+pub fn records(case: Case, cells: &[u16], to: Filled, a: &mut [u16], b: &mut [u16]) -> Said
     requires { ⌜ Counts (to .a) (now a) × Counts (to .b) (now b) ⌝ }
 {
-    match operation {
-        BLOCK_UNMARK_ALL => unmarked(&mut a[..to.a]),
-        _ => swapped(case, cells, &mut a[..to.a], &mut b[..to.b]),
-    }
+    swapped(case, cells, &mut a[..to.a], &mut b[..to.b])
 }

@@ -1,8 +1,10 @@
 -- Texts worked out by computation.
-use mathlib.Core.List.{List, [], _∷_, _++_}
+use mathlib.Core.Bool.{true, false}
+use mathlib.Core.List.{[], _∷_, _++_}
 use mathlib.Core.Path.{_≡_, refl}
 use Rattle.columns.specs.Answers.{done, refused}
-use Rattle.replay_lines.specs.Spelling.{digits, columnText, partText, saidText}
+use Rattle.replay_lines.specs.Spelling.{digits, saidText}
+use Rattle.replay_lines.specs.Slices.{columnText, partText}
 
 zero-text : digits 0 ≡ 48 ∷ []
 unfolding digits
@@ -19,7 +21,7 @@ unfolding digits
 widest = refl
 
 -- `done 3 1 | 1 0`
-answered : saidText (done (3 ∷ 1 ∷ [])) ++ columnText (1 ∷ 0 ∷ [])
+answered : saidText (done (3 ∷ 1 ∷ [])) ++ columnText false (1 ∷ 0 ∷ [])
     ≡ 100 ∷ 111 ∷ 110 ∷ 101 ∷ 32 ∷ 51 ∷ 32 ∷ 49 ∷ 32 ∷ 124 ∷ 32 ∷ 49 ∷ 32 ∷ 48 ∷ []
 unfolding saidText columnText
 answered = refl
@@ -30,10 +32,24 @@ unfolding saidText
 not-done = refl
 
 -- an empty slice, ` |`, and an empty part, `part 0`
-empty : columnText [] ≡ 32 ∷ 124 ∷ []
+empty : columnText false [] ≡ 32 ∷ 124 ∷ []
 unfolding columnText
 empty = refl
 
-no-part : partText [] ≡ 112 ∷ 97 ∷ 114 ∷ 116 ∷ 32 ∷ 48 ∷ []
+no-part : partText false [] ≡ 112 ∷ 97 ∷ 114 ∷ 116 ∷ 32 ∷ 48 ∷ []
 unfolding partText
 no-part = refl
+
+-- the cells 0 0 1 2 3, ` | 0*2 1+3`, and 0 1 1 1, ` | 0+2 1*2`
+twice : columnText true (0 ∷ 0 ∷ 1 ∷ 2 ∷ 3 ∷ []) ≡ 32 ∷ 124 ∷ 32 ∷ 48 ∷ 42 ∷ 50 ∷ 32 ∷ 49 ∷ 43 ∷ 51 ∷ []
+unfolding columnText
+twice = refl
+
+upward : columnText true (0 ∷ 1 ∷ 1 ∷ 1 ∷ []) ≡ 32 ∷ 124 ∷ 32 ∷ 48 ∷ 43 ∷ 50 ∷ 32 ∷ 49 ∷ 42 ∷ 50 ∷ []
+unfolding columnText
+upward = refl
+
+-- cells of which no two go together, ` | 2 0 5`
+apart : columnText true (2 ∷ 0 ∷ 5 ∷ []) ≡ columnText false (2 ∷ 0 ∷ 5 ∷ [])
+unfolding columnText
+apart = refl

@@ -8,7 +8,7 @@ use lib.Dec.{ltb, eqb}
 use lib.ListN.{getD}
 use borrow.Author.Tests.{lt-ltb, le-ltb, eq-eqb, ne-eqb}
 use Rattle.replay_lines.specs.declared.input.Input as input
-use Rattle.replay_lines.specs.Places.{inLine, filled, stepped, held, Next, Read}
+use Rattle.replay_lines.specs.Places.{inLine, filled, stepped, held, Next, Read, ReadHere}
 
 pub newline : (byte : ℕ) → byte ≡ 10 → false ≡ inLine byte
 unfolding inLine
@@ -79,5 +79,13 @@ pub read-none : (i j : input.Input) (value : ℕ) → j .good ≡ false → valu
 read-none i j value h e =
     record { good = λ q. absurd (apart q h); blank = λ q. absurd (apart q h); nothing = λ q. e }
 
-pub read-some : (i j : input.Input) (value : ℕ) → i .good ≡ true → i .byte ≡ 32 → j .good ≡ true → Read i j value
-read-some i j value h k e = record { good = λ q. h; blank = λ q. k; nothing = λ q. absurd (apart e q) }
+pub here-none : (i j : input.Input) (value : ℕ) → j .good ≡ false → value ≡ 0 → ReadHere i j value
+here-none i j value h e = record { good = λ q. absurd (apart q h); nothing = λ g q. e }
+
+pub here-some : (i j : input.Input) (value : ℕ) → j .good ≡ i .good → ReadHere i j value
+here-some i j value h = record { good = λ q. sym h ∙ q; nothing = λ g q. absurd (apart (h ∙ g) q) }
+
+-- a blank, and a number from the place after it on
+pub read-next : (i n j : input.Input) (value : ℕ) → i .good ≡ true → i .byte ≡ 32 → n .good ≡ i .good → ReadHere n j value → Read i j value
+read-next i n j value h k e here =
+    record { good = λ q. h; blank = λ q. k; nothing = λ q. here .nothing (e ∙ h) q }

@@ -32,8 +32,14 @@ pub record Next (before : input.Input) (buffer : List ℕ) (after : input.Input)
   pub beyond : held before ≡ false → after ≡ filled (before .good) left (after .end)
   pub good : after .good ≡ before .good
 
--- a number read from a place on, with the place after it: a line that is good then was so before, with a blank at that place;
--- and on one that is not the number is 0
+-- a number read from its first digit on, with the place after it: a line that is good then was so before, and where one becomes bad the
+-- number is 0
+pub record ReadHere (before after : input.Input) (value : ℕ) : Type 0 where
+  pub good : after .good ≡ true → before .good ≡ true
+  pub nothing : before .good ≡ true → after .good ≡ false → value ≡ 0
+
+-- a number read from the blank before it on: a line that is good then was so before, with a blank at that place; and on one that is not
+-- the number is 0
 pub record Read (before after : input.Input) (value : ℕ) : Type 0 where
   pub good : after .good ≡ true → before .good ≡ true
   pub blank : after .good ≡ true → before .byte ≡ 32

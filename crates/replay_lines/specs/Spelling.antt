@@ -1,9 +1,8 @@
--- The text of numbers and answers, as bytes: 32 is a blank, 48 the digit 0, 124 the bar before a slice.
+-- The text of numbers and answers, as bytes: 32 is a blank, 48 the digit 0.
 use Prim.Native.Nat.{ℕ, zero, suc, _+_, _/_, _%_}
 use mathlib.Core.Bool.{Bool, true, false}
 use mathlib.Core.List.{List, [], _∷_, _++_}
 use lib.Dec.{ltb}
-use lib.ListN.{length}
 use Rattle.columns.specs.Answers.{Said, done, refused}
 
 -- the digits of n in at most k turns more, where the flag says that n is a single digit
@@ -27,16 +26,6 @@ unfoldable pub spelledAll : List ℕ → List ℕ
 unfolding spelled
 spelledAll [] = []
 spelledAll (n ∷ l) = spelled n ++ spelledAll l
-
--- a slice at return: ` |` and its cells
-unfoldable pub columnText : List ℕ → List ℕ
-unfolding spelledAll
-columnText cells = 32 ∷ 124 ∷ spelledAll cells
-
--- a part of a slice: `part`, its length and its cells
-unfoldable pub partText : List ℕ → List ℕ
-unfolding spelledAll
-partText cells = 112 ∷ 97 ∷ 114 ∷ 116 ∷ spelledAll (length cells ∷ cells)
 
 -- what an answer says: `done` and its numbers, or `refused`, the number and the place
 unfoldable pub saidText : Said → List ℕ

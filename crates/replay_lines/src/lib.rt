@@ -4,3 +4,5 @@ pub mod input;
 pub mod lines;
 pub mod numbers;
 pub mod output;
+pub mod runs;
+pub mod slices;

@@ -2,7 +2,7 @@
 ghost use Prim.Native.Nat.{_≤_};
 ghost use mathlib.Core.Bool.{false};
 ghost use mathlib.Core.Path.{_≡_};
-ghost use Rattle.replay_lines.specs.Places.{Read};
+ghost use Rattle.replay_lines.specs.Places.{Read, ReadHere};
 use crate::input::BLANK;
 use crate::input::Buffer;
 use crate::input::Input;
@@ -69,6 +69,21 @@ impl Input {
         Number { input, value: 0 }
     }
 
+    // A number of at most `most` that starts here; where it is not there, 0 and a bad line.
+    pub fn number_here(self, buffer: &mut Buffer, most: u64) -> Number
+        ensures { λ r. ⌜ r .value ≤ most ⌝ }
+        ensures { λ r. ⌜ ReadHere self (r .input) (r .value) ⌝ }
+    {
+        if !is_digit(self.byte) {
+            return self.no_number();
+        }
+        let read = digits(self, buffer);
+        if most < read.value {
+            return read.input.no_number();
+        }
+        read
+    }
+
     // A blank and a number of at most `most`; where they are not there, 0 and a bad line.
     pub fn number(self, buffer: &mut Buffer, most: u64) -> Number
         ensures { λ r. ⌜ r .value ≤ most ⌝ }
@@ -80,15 +95,6 @@ impl Input {
         if self.byte != BLANK {
             return self.no_number();
         }
-        let first = self.next(buffer);
-        if !is_digit(first.byte) {
-            return first.no_number();
-        }
-        let read = digits(first, buffer);
-        if most < read.value {
-            let input = read.input;
-            return input.no_number();
-        }
-        read
+        self.next(buffer).number_here(buffer, most)
     }
 }

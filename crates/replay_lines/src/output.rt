@@ -1,10 +1,11 @@
 // Standard output, byte by byte through a lent buffer, of which the first `used` cells are not written yet.
 ghost use mathlib.Core.Path.{_≡_};
+ghost use mathlib.Core.List.{_∷_};
 ghost use lib.ListN.{take};
 ghost use Rattle.columns.specs.Answers.{refused as refusedWith};
 ghost use Rattle.replay_lines.specs.Text.{putByte, puts};
 ghost use Rattle.replay_lines.specs.Told.{told};
-ghost use Rattle.replay_lines.specs.Spelling.{spelled, spelledAll, columnText, partText, saidText};
+ghost use Rattle.replay_lines.specs.Spelling.{digits, spelled, spelledAll, saidText};
 use crate::answers::Said;
 use crate::input::Buffer;
 use libc::STDOUT_FILENO;
@@ -47,83 +48,21 @@ pub fn word(word: &[u8], out: &mut Buffer, used: usize) -> usize
     at
 }
 
+// A mark and a number.
+pub fn marked(mark: u8, value: u64, out: &mut Buffer, used: usize) -> usize
+    ensures { λ r. ⌜ (r, now (out .exit)) ≡ puts (mark ∷ digits value) (used, now (out .entry)) ⌝ }
+{
+    let mut text = [0u8; 20];
+    let count = io::decimal(value, &mut text);
+    let at = byte(mark, out, used);
+    word(&text[..count], out, at)
+}
+
 // A blank and a number.
 pub fn number(value: u64, out: &mut Buffer, used: usize) -> usize
     ensures { λ r. ⌜ (r, now (out .exit)) ≡ puts (spelled value) (used, now (out .entry)) ⌝ }
 {
-    let mut digits = [0u8; 20];
-    let count = io::decimal(value, &mut digits);
-    let at = byte(b' ', out, used);
-    word(&digits[..count], out, at)
-}
-
-fn wide(cell: u16) -> u64
-    ensures { λ r. ⌜ r ≡ cell ⌝ }
-{
-    cell as u64
-}
-
-// The first `count` cells of a slice, with a blank before each.
-pub fn cells(cells: &[u16], count: usize, out: &mut Buffer, used: usize) -> usize
-    ensures { λ r. ⌜ (r, now (out .exit)) ≡ puts (spelledAll (take count (now (cells .entry)))) (used, now (out .entry)) ⌝ }
-{
-    let mut at = used;
-    let mut i = 0;
-    while i < cells.len() {
-        if i == count {
-            return at;
-        }
-        at = number(wide(cells[i]), out, at);
-        i += 1;
-    }
-    at
-}
-
-// The first `count` cells of a slice at return.
-pub fn column(column: &[u16], count: usize, out: &mut Buffer, used: usize) -> usize
-    ensures { λ r. ⌜ (r, now (out .exit)) ≡ puts (columnText (take count (now (column .entry)))) (used, now (out .entry)) ⌝ }
-{
-    let at = word(b" |", out, used);
-    cells(column, count, out, at)
-}
-
-fn widest(byte: u8) -> u64
-    ensures { λ r. ⌜ r ≡ byte ⌝ }
-{
-    byte as u64
-}
-
-// The first `count` bytes of a slice, as numbers, with a blank before each.
-fn byte_cells(cells: &[u8], count: usize, out: &mut Buffer, used: usize) -> usize
-    ensures { λ r. ⌜ (r, now (out .exit)) ≡ puts (spelledAll (take count (now (cells .entry)))) (used, now (out .entry)) ⌝ }
-{
-    let mut at = used;
-    let mut i = 0;
-    while i < cells.len() {
-        if i == count {
-            return at;
-        }
-        at = number(widest(cells[i]), out, at);
-        i += 1;
-    }
-    at
-}
-
-// The first `count` bytes of text at return.
-pub fn bytes(text: &[u8], count: usize, out: &mut Buffer, used: usize) -> usize
-    ensures { λ r. ⌜ (r, now (out .exit)) ≡ puts (columnText (take count (now (text .entry)))) (used, now (out .entry)) ⌝ }
-{
-    let at = word(b" |", out, used);
-    byte_cells(text, count, out, at)
-}
-
-// A part of a lent slice.
-pub fn part(part: &[u16], out: &mut Buffer, used: usize) -> usize
-    ensures { λ r. ⌜ (r, now (out .exit)) ≡ puts (partText (now (part .entry))) (used, now (out .entry)) ⌝ }
-{
-    let a = word(b"part", out, used);
-    let b = number(part.len() as u64, out, a);
-    cells(part, part.len(), out, b)
+    marked(b' ', value, out, used)
 }
 
 // The first `count` numbers of an answer.

@@ -8,6 +8,13 @@ pub type Wide = [u32; 70000];
 
 pub type Bytes = [u8; 140000];
 
+// The types of cells, each by its largest value.
+pub const NARROW: u64 = 65535;
+
+pub const WIDE: u64 = 4294967295;
+
+pub const BYTE: u64 = 255;
+
 // The longest slice; the longest of an operation that changes many, which lie in arrays of its own; and the longest list of records.
 pub const ROOM: usize = 70000;
 
@@ -18,7 +25,9 @@ pub const RECORDS: u64 = MAX_STATES as u64;
 // The places from 16 on are those of the slices that may change.
 pub const CHANGED: usize = 16;
 
+// The numbers, where the slices start and end, and whether a run stands in the line: slices are then shown in runs.
 pub struct Case {
+    pub short: bool,
     pub numbers: [u16; 16],
     pub starts: [usize; 32],
     pub ends: [usize; 32],
@@ -31,6 +40,7 @@ impl Case {
         let starts = [0usize; 32];
         let ends = [0usize; 32];
         Case {
+            short: false,
             numbers,
             starts,
             ends,
@@ -100,7 +110,7 @@ impl Case {
 }
 
 // The cells from a place to another.
-fn between(cells: &[u16], start: usize, end: usize) -> &[u16] {
+pub fn between(cells: &[u16], start: usize, end: usize) -> &[u16] {
     if start <= end {
         if end <= cells.len() {
             return &cells[start..end];
@@ -136,7 +146,7 @@ pub fn wide_column(cells: &[u32], case: Case, k: usize) -> &[u32] {
     between_wide(cells, case.start(k), case.end(k))
 }
 
-fn between_bytes(cells: &[u8], start: usize, end: usize) -> &[u8] {
+pub fn between_bytes(cells: &[u8], start: usize, end: usize) -> &[u8] {
     if start <= end {
         if end <= cells.len() {
             return &cells[start..end];

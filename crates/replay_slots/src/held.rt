@@ -2,10 +2,11 @@
 ghost use Prim.Native.Nat.{_<_};
 use crate::case::Case;
 use crate::case::HELD_ROOM;
+use crate::case::between;
 use crate::case::changed;
 use crate::slots::copy;
 use replay_lines::input::Buffer;
-use replay_lines::output::column as show_column;
+use replay_lines::slices::column as show_column;
 
 pub type Held = [u16; HELD_ROOM];
 
@@ -17,7 +18,7 @@ pub fn lend<'a>(case: Case, cells: &[u16], k: usize, array: &'a mut [u16]) -> &'
 
 // Slice k at return.
 pub fn show(case: Case, k: usize, array: &Held, out: &mut Buffer, used: usize) -> usize {
-    show_column(array, case.length(k), out, used)
+    show_column(between(array, 0, case.length(k)), case.short, out, used)
 }
 
 // Slice k and the two after it, at return.

@@ -1,20 +1,76 @@
 // A line read by the kinds of its parameters: n a number, f a flag, c a slice of u16, w of u32, b of bytes; and those that may change, m a
-// slice of u16, s one of an operation that changes many, t of bytes, r a list of records of three numbers, k one such record.
+// slice of u16, s one of an operation that changes many, t of bytes, r a list of records of three numbers.
+ghost use Prim.Native.Nat.{_≤_};
+use crate::case::BYTE;
 use crate::case::Bytes;
 use crate::case::CHANGED;
 use crate::case::Case;
 use crate::case::HELD_ROOM;
+use crate::case::NARROW;
 use crate::case::Narrow;
 use crate::case::RECORDS;
 use crate::case::ROOM;
+use crate::case::WIDE;
 use crate::case::Wide;
-use crate::cells::read_bytes;
-use crate::cells::read_narrow;
-use crate::cells::read_wide;
+use crate::cells::Feed;
+use crate::cells::plus;
+use crate::cells::read_cells;
 use crate::cells::whole;
 use crate::names::Kinds;
 use replay_lines::input::Buffer;
 use replay_lines::input::Input;
+
+// Whether a slice of this kind may change.
+fn changes(kind: u8) -> bool {
+    match kind {
+        b'm' => true,
+        b'r' => true,
+        b's' => true,
+        b't' => true,
+        _ => false,
+    }
+}
+
+// The largest value of its cells' type.
+fn largest(kind: u8) -> u64
+    ensures { λ r. ⌜ r ≤ 4294967295 ⌝ }
+{
+    match kind {
+        b'w' => WIDE,
+        b'b' => BYTE,
+        b't' => BYTE,
+        _ => NARROW,
+    }
+}
+
+// Its greatest length.
+fn longest(kind: u8) -> usize {
+    match kind {
+        b's' => HELD_ROOM,
+        _ => ROOM,
+    }
+}
+
+// How many cells of the type with this largest value a line may have.
+fn all(largest: u64) -> usize {
+    match largest {
+        NARROW => 1400000,
+        WIDE => 70000,
+        _ => 140000,
+    }
+}
+
+// How long a slice of at most that many cells may be where so many of all are taken.
+fn room(longest: usize, taken: usize, all: usize) -> u64 {
+    if all < taken {
+        return 0;
+    }
+    let left = all - taken;
+    if longest < left {
+        return longest as u64;
+    }
+    left as u64
+}
 
 // What is read of a line: how many words, numbers, slices that are only read, slices that may change, and cells of each type.
 pub struct Reading {
@@ -27,28 +83,6 @@ pub struct Reading {
     pub narrow: usize,
     pub wide: usize,
     pub bytes: usize,
-}
-
-// A sum of sizes, up to a bound that none reaches.
-fn plus(a: usize, b: usize) -> usize {
-    if a < 1000000000000 {
-        if b < 1000000000000 {
-            return a + b;
-        }
-    }
-    1000000000000
-}
-
-// How long a slice of at most that many cells may be where so many of all are taken.
-fn room(most: usize, taken: usize, all: usize) -> u64 {
-    if all < taken {
-        return 0;
-    }
-    let left = all - taken;
-    if most < left {
-        return most as u64;
-    }
-    left as u64
 }
 
 impl Reading {
@@ -68,12 +102,37 @@ impl Reading {
         }
     }
 
-    // The place of the next slice.
-    fn place(self, changes: bool) -> usize {
-        if changes {
-            return plus(CHANGED, self.changed);
+    // How many cells of the type with this largest value are taken.
+    fn taken(self, largest: u64) -> usize {
+        match largest {
+            NARROW => self.narrow,
+            WIDE => self.wide,
+            _ => self.bytes,
         }
-        self.read
+    }
+
+    // With the cells of that type taken up to a place.
+    fn taking(mut self, largest: u64, end: usize) -> Reading {
+        match largest {
+            NARROW => self.narrow = end,
+            WIDE => self.wide = end,
+            _ => self.bytes = end,
+        }
+        self
+    }
+
+    // With a slice more, from a place to another.
+    fn placed(mut self, changes: bool, start: usize, end: usize) -> Reading {
+        if changes {
+            let case = self.case.placed(plus(CHANGED, self.changed), start, end);
+            self.case = case;
+            self.changed = plus(self.changed, 1);
+            return self;
+        }
+        let case = self.case.placed(self.read, start, end);
+        self.case = case;
+        self.read = plus(self.read, 1);
+        self
     }
 
     // With a word more, unless it is none.
@@ -85,26 +144,14 @@ impl Reading {
         self
     }
 
-    // With a slice more, from a place to another, of which the cells up to `count` are read.
-    fn slice(
-        mut self,
-        changes: bool,
-        start: usize,
-        end: usize,
-        input: Input,
-        count: usize,
-    ) -> Reading {
-        let case = self.case.placed(self.place(changes), start, end);
-        self.case = case;
+    // With the words of a slice's cells.
+    fn fed(mut self, feed: Feed) -> Reading {
+        let input = feed.input;
         self.input = input;
-        if start <= count {
-            self.words = plus(self.words, count - start);
+        self.words = plus(self.words, feed.words);
+        if feed.short {
+            self.case.short = true;
         }
-        if changes {
-            self.changed = plus(self.changed, 1);
-            return self;
-        }
-        self.read = plus(self.read, 1);
         self
     }
 
@@ -119,70 +166,55 @@ impl Reading {
         after
     }
 
-    // The cells of a slice of u16, up to a place.
-    fn narrow_cells(
+    // The cells of a slice, up to a place.
+    fn cells(
         self,
-        changes: bool,
+        kind: u8,
         end: usize,
         buffer: &mut Buffer,
-        into: &mut Narrow,
+        narrow: &mut Narrow,
+        wide: &mut Wide,
+        bytes: &mut Bytes,
     ) -> Reading {
-        let start = self.narrow;
-        let cells = read_narrow(self.input, buffer, into, start, end);
-        let mut whole = self.slice(changes, start, end, cells.input, cells.count);
-        whole.narrow = end;
-        whole
+        let largest = largest(kind);
+        let start = self.taken(largest);
+        let feed = read_cells(self.input, largest, start, end, buffer, narrow, wide, bytes);
+        self.placed(changes(kind), start, end)
+            .taking(largest, end)
+            .fed(feed)
     }
 
-    // A slice of u16, of at most that many cells.
-    fn narrow_slice(
+    // A slice: its length, and its cells.
+    fn slice(
         self,
-        changes: bool,
-        most: usize,
+        kind: u8,
         buffer: &mut Buffer,
-        into: &mut Narrow,
+        narrow: &mut Narrow,
+        wide: &mut Wide,
+        bytes: &mut Bytes,
     ) -> Reading {
-        let read = self.input.number(buffer, room(most, self.narrow, 1400000));
-        let end = plus(self.narrow, read.value as usize);
+        let largest = largest(kind);
+        let start = self.taken(largest);
+        let most = room(longest(kind), start, all(largest));
+        let read = self.input.number(buffer, most);
+        let end = plus(start, read.value as usize);
         self.word(whole(read.input))
-            .narrow_cells(changes, end, buffer, into)
+            .cells(kind, end, buffer, narrow, wide, bytes)
     }
 
-    // A list of records.
-    fn records(self, buffer: &mut Buffer, into: &mut Narrow) -> Reading {
+    // A list of records: how many, and the three cells of each.
+    fn records(
+        self,
+        kind: u8,
+        buffer: &mut Buffer,
+        narrow: &mut Narrow,
+        wide: &mut Wide,
+        bytes: &mut Bytes,
+    ) -> Reading {
         let read = self.input.number(buffer, RECORDS);
         let end = plus(self.narrow, read.value as usize * 3);
         self.word(whole(read.input))
-            .narrow_cells(true, end, buffer, into)
-    }
-
-    // A record.
-    fn record(self, buffer: &mut Buffer, into: &mut Narrow) -> Reading {
-        self.narrow_cells(true, plus(self.narrow, 3), buffer, into)
-    }
-
-    // A slice of u32.
-    fn wide_slice(self, buffer: &mut Buffer, into: &mut Wide) -> Reading {
-        let start = self.wide;
-        let read = self.input.number(buffer, room(ROOM, start, 70000));
-        let end = plus(start, read.value as usize);
-        let after = self.word(whole(read.input));
-        let cells = read_wide(after.input, buffer, into, start, end);
-        let mut whole = after.slice(false, start, end, cells.input, cells.count);
-        whole.wide = end;
-        whole
-    }
-
-    // A slice of bytes.
-    fn byte_slice(self, changes: bool, buffer: &mut Buffer, into: &mut Bytes) -> Reading {
-        let start = self.bytes;
-        let read = self.input.number(buffer, room(ROOM, start, 140000));
-        let end = plus(start, read.value as usize);
-        let after = self.word(whole(read.input));
-        let cells = read_bytes(after.input, buffer, into, start, end);
-        let mut whole = after.slice(changes, start, end, cells.input, cells.count);
-        whole.bytes = end;
-        whole
+            .cells(kind, end, buffer, narrow, wide, bytes)
     }
 
     // A parameter of this kind.
@@ -197,15 +229,8 @@ impl Reading {
         match kind {
             b'n' => self.number(65535, buffer),
             b'f' => self.number(1, buffer),
-            b'c' => self.narrow_slice(false, ROOM, buffer, narrow),
-            b'm' => self.narrow_slice(true, ROOM, buffer, narrow),
-            b's' => self.narrow_slice(true, HELD_ROOM, buffer, narrow),
-            b'r' => self.records(buffer, narrow),
-            b'k' => self.record(buffer, narrow),
-            b'w' => self.wide_slice(buffer, wide),
-            b'b' => self.byte_slice(false, buffer, bytes),
-            b't' => self.byte_slice(true, buffer, bytes),
-            _ => self,
+            b'r' => self.records(kind, buffer, narrow, wide, bytes),
+            _ => self.slice(kind, buffer, narrow, wide, bytes),
         }
     }
 }

@@ -2,12 +2,13 @@
 ghost use Rattle.io.specs.Counts.{Counts};
 use crate::case::CHANGED;
 use crate::case::Case;
+use crate::case::between;
 use crate::case::byte_column;
 use crate::case::changed;
 use crate::names::Kinds;
+use crate::texts::show as show_bytes;
 use replay_lines::input::Buffer;
-use replay_lines::output::bytes as show_bytes;
-use replay_lines::output::column as show_column;
+use replay_lines::slices::column;
 
 pub type Slot = [u16; 70000];
 
@@ -103,6 +104,11 @@ pub fn fill_all(
     }
 }
 
+// Slice k at return, in its slot.
+fn show_filled(case: Case, k: usize, slot: &Slot, out: &mut Buffer, used: usize) -> usize {
+    column(between(slot, 0, case.length(k)), case.short, out, used)
+}
+
 // Slot k at return.
 fn show_slot(
     case: Case,
@@ -119,17 +125,16 @@ fn show_slot(
     out: &mut Buffer,
     used: usize,
 ) -> usize {
-    let count = case.length(k);
     match k {
-        0 => show_column(a, count, out, used),
-        1 => show_column(b, count, out, used),
-        2 => show_column(c, count, out, used),
-        3 => show_column(d, count, out, used),
-        4 => show_column(e, count, out, used),
-        5 => show_column(f, count, out, used),
-        6 => show_column(g, count, out, used),
-        7 => show_column(h, count, out, used),
-        8 => show_column(i, count, out, used),
+        0 => show_filled(case, k, a, out, used),
+        1 => show_filled(case, k, b, out, used),
+        2 => show_filled(case, k, c, out, used),
+        3 => show_filled(case, k, d, out, used),
+        4 => show_filled(case, k, e, out, used),
+        5 => show_filled(case, k, f, out, used),
+        6 => show_filled(case, k, g, out, used),
+        7 => show_filled(case, k, h, out, used),
+        8 => show_filled(case, k, i, out, used),
         _ => used,
     }
 }
@@ -155,8 +160,7 @@ fn show_kind(
     match kind {
         b'm' => show_slot(case, k, a, b, c, d, e, f, g, h, i, out, used),
         b'r' => show_slot(case, k, a, b, c, d, e, f, g, h, i, out, used),
-        b'k' => show_slot(case, k, a, b, c, d, e, f, g, h, i, out, used),
-        b't' => show_bytes(text, case.length(k), out, used),
+        b't' => show_bytes(case, text, out, used),
         _ => used,
     }
 }
@@ -165,7 +169,6 @@ fn changes(kind: u8) -> bool {
     match kind {
         b'm' => true,
         b'r' => true,
-        b'k' => true,
         b't' => true,
         _ => false,
     }

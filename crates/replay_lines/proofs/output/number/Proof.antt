@@ -1,40 +1,15 @@
--- `output::number` meets its contract: a blank, and the digits that `io::decimal` gives.
+-- `output::number` meets its contract: a blank is the mark.
 use borrow.Author.Needs.{needs}
-use mathlib.Core.Path.{_≡_, ap, _∙_}
 use Rattle.replay_lines.specs.Spelling.{spelled}
-use Rattle.replay_lines.proofs.Putting.{put-then, puts-as}
-use Rattle.replay_lines.proofs.Spelled.{fewest-digits}
 use Rattle.replay_lines.proofs.output.number.Statement.{statement}
 use Rattle.replay_lines.proofs.output.number.Tie as tie
 
-decimal-requires : tie.Need-decimal-requires
-decimal-requires c κs = search needs
-
-byte-requires : tie.Need-byte-requires
-byte-requires c κs = search needs
-
-array-share-prefix-digits : tie.Need-array-share-prefix-digits
-array-share-prefix-digits c = search needs
-
-slice-aggregate-word : tie.Need-slice-aggregate-word
-slice-aggregate-word c = search needs
-
-word-requires : tie.Need-word-requires
-word-requires c κs = search needs
+marked-requires : tie.Need-marked-requires
+marked-requires c κs = search needs
 
 returns : tie.Need-returns
 unfolding spelled
-returns c = put-then 32 _ _ (c .before .before .before .byte .ensures)
-    (puts-as _ _ _ (c .word .ensures) (c .before .before .before .before .before .decimal .ensures .1 .1 ∙
-    fewest-digits _ _ (c .before .before .before .before .before .decimal .ensures .1 .0)))
+returns c = c .marked .ensures
 
 pub number-spec : {M : Type 1} → statement M
-number-spec =
-    tie.close
-    (tie.spec
-    decimal-requires
-    byte-requires
-    array-share-prefix-digits
-    slice-aggregate-word
-    word-requires
-    returns)
+number-spec = tie.close (tie.spec marked-requires returns)

@@ -1,10 +1,10 @@
--- `output::column` meets its contract: two texts, one after the other.
+-- `slices::column` meets its contract: two texts, one after the other.
 use borrow.Author.Needs.{needs}
 use mathlib.Core.List.{[], _∷_}
-use Rattle.replay_lines.specs.Spelling.{columnText}
+use Rattle.replay_lines.specs.Slices.{columnText}
 use Rattle.replay_lines.proofs.Putting.{puts-then}
-use Rattle.replay_lines.proofs.output.column.Statement.{statement}
-use Rattle.replay_lines.proofs.output.column.Tie as tie
+use Rattle.replay_lines.proofs.slices.column.Statement.{statement}
+use Rattle.replay_lines.proofs.slices.column.Tie as tie
 
 slice-aggregate-word : tie.Need-slice-aggregate-word
 slice-aggregate-word c = search needs

@@ -1,10 +1,10 @@
--- `output::bytes` meets its contract: two texts, one after the other.
+-- `slices::bytes` meets its contract: two texts, one after the other.
 use borrow.Author.Needs.{needs}
 use mathlib.Core.List.{[], _∷_}
-use Rattle.replay_lines.specs.Spelling.{columnText}
+use Rattle.replay_lines.specs.Slices.{columnText}
 use Rattle.replay_lines.proofs.Putting.{puts-then}
-use Rattle.replay_lines.proofs.output.bytes.Statement.{statement}
-use Rattle.replay_lines.proofs.output.bytes.Tie as tie
+use Rattle.replay_lines.proofs.slices.bytes.Statement.{statement}
+use Rattle.replay_lines.proofs.slices.bytes.Tie as tie
 
 slice-aggregate-word : tie.Need-slice-aggregate-word
 slice-aggregate-word c = search needs
