@@ -1,5 +1,6 @@
 """Lines that are no case."""
-from operations import BYTES, FLAGS, RECORDS, WIDE, Case, room, written
+from lines import Case, room, written
+from operations import BYTES, FLAGS, RECORDS, WIDE
 
 WRONG_WORDS = ('65536', '131071', '4294967296', '18446744073709551616', 'x', '-1', '1x', '|')
 

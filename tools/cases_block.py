@@ -1,7 +1,7 @@
 """Cases of the operations on one block: every small one, the limits, random ones."""
 from itertools import product
 
-from operations import Case
+from lines import Case
 from refusals import MOST_STATES
 
 EDGES = (0, 1, 2, MOST_STATES - 1, MOST_STATES, MOST_STATES + 1, 65534, 65535)

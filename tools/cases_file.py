@@ -10,12 +10,15 @@ import plain_file
 import tables
 from faults import damaged, every_length, outside, several, shorten
 from file_cases import CONTENTS, EXAMPLE, SMALL
-from operations import HELD_ROOM, ROOM, Case
-from refusals import MOST_ROWS, MOST_STATES, ROWS
+from lines import Case
+from operations import HELD_ROOM, ROOM
+from refusals import MOST_LABELS, MOST_ROWS, MOST_STATES, ROWS
 from splits import junk_cells, more
 
 # So many cells where a file does not say how many are needed.
 SOME = 3
+# Cases of more cells are written in runs.
+LONG = 10000
 
 
 def junk_bytes(rng, number):
@@ -47,11 +50,12 @@ def writing(rng, v, states=None):
     return {**v, 'bytes': junk_bytes(rng, min(plain_file.size_written(v) + more(rng), ROOM))}
 
 
-def many_rows():
-    """A row too many, with other faults in the header beside it."""
-    rows = [(0, 0, 0)] * (MOST_ROWS + 1)
-    for n, labels, initial in product((0, 1, MOST_STATES + 1), (0, 1), (0, 1)):
-        yield file_model.bytes_of(file_model.Table(n, labels, initial, rows))
+def many_rows(rng):
+    """A row too many, and many, with other faults in the header beside it; as many as `replay` has room for."""
+    most = (ROOM - len(file_model.bytes_of(file_model.Table(1, 1, 0, [])))) // 6
+    for n, labels, initial in product((0, 1, MOST_STATES, MOST_STATES + 1), (0, 1, MOST_LABELS), (0, 1)):
+        for m in (MOST_ROWS + 1, rng.randint(MOST_ROWS + 2, most - 1), most):
+            yield file_model.bytes_of(file_model.Table(n, labels, initial, [(0, 0, 0)] * m))
 
 
 # What makes the table in a file faulty.
@@ -82,7 +86,7 @@ def every_file(rng, number):
     """file_cases' files that `replay` has room for, every small table, rows too many, faulty ones."""
     known = chain.from_iterable(file_cases.kinds(rng.randrange(2 ** 32), number).values())
     faulty = (faulty_file(rng) for _ in range(number))
-    return (data for data in chain(known, every_table(), many_rows(), faulty) if len(data) <= ROOM)
+    return (data for data in chain(known, every_table(), many_rows(rng), faulty) if len(data) <= ROOM)
 
 
 def some_short(operation, rng, v):
@@ -163,7 +167,9 @@ VALUES = {'read_file': to_read, 'write_file': to_write, 'reduce_file': to_reduce
 
 
 def cases(operation, rng, number):
-    return (Case(operation, v) for v in VALUES[operation.name](operation, rng, number))
+    """The long ones are written in runs."""
+    for v in VALUES[operation.name](operation, rng, number):
+        yield Case(operation, v, in_runs=sum(len(v[name]) for name in v if operation.is_slice(name)) > LONG)
 
 
 def example(operation):

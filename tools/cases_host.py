@@ -4,7 +4,8 @@ from itertools import chain
 import cases_partition
 from cases_partition import good_arguments
 from faults import every_length
-from operations import BLOCK, BY_NAME, RECORDS, RECORDS_ROOM, STATES, Case
+from lines import Case
+from operations import BLOCK, BY_NAME, RECORDS, RECORDS_ROOM, STATES
 from partitions import LARGEST, laid_out, random_partition
 from refusals import MOST_STATES
 

@@ -4,7 +4,8 @@ from itertools import product
 import partitions
 import splits
 from faults import damage, every_length, shorten
-from operations import BOUNDS, ROOM, Case
+from lines import Case
+from operations import BOUNDS, ROOM
 from partitions import LARGEST, copied, laid_out, lengthen, random_partition
 from refusals import COLUMNS, MOST_STATES, shown
 

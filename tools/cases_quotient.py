@@ -6,7 +6,7 @@ import partitions
 import tables
 from cases_table import argument_names, completed, takes_partition, with_slices
 from faults import damaged, several
-from operations import Case
+from lines import Case
 from partitions import laid_out, random_split, stretches
 from refusals import MOST_LABELS, MOST_ROWS, MOST_STATES
 

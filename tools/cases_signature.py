@@ -2,7 +2,8 @@
 from itertools import chain, combinations, product
 
 from faults import several
-from operations import OTHER, ROOM, SELF, Case
+from lines import Case
+from operations import OTHER, ROOM, SELF
 from partitions import LARGEST
 from refusals import MOST_LABELS, MOST_ROWS
 

@@ -5,7 +5,8 @@ import partitions
 import splits
 from cases_partition import every_changed_cell, every_short_column, good_arguments, large, small_size, sound
 from faults import damage, damaged, every_length, outside, several, shorten
-from operations import ROOM, Case
+from lines import Case
+from operations import ROOM
 from partitions import LARGEST, laid_out, lengthen, random_partition, random_split
 from refusals import COLUMNS, MOST_STATES, WORK, marked
 from splits import junk_bytes, junk_cells, put

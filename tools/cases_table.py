@@ -8,7 +8,8 @@ import splits
 import tables
 from cases_partition import small_size
 from faults import above, damage, damaged, every_length, outside, several, shorten
-from operations import FLAGS, Case, room
+from lines import Case, room
+from operations import FLAGS
 from partitions import LARGEST, random_partition
 from refusals import COLUMNS, GIVEN, MOST_LABELS, MOST_ROWS, MOST_STATES, ROWS
 from splits import junk_cells, more

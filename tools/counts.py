@@ -18,10 +18,18 @@ def accepted(operation, agreed):
     return f'{rust}; computed: {agreed["plain"]:,}' if agreed['plain'] else rust
 
 
-def row(operation, agreed):
+def refused(number, agreed, places):
+    """The cases that 01 refuses with this number, and at how many places, if there are several."""
+    kind = f'refused {number}'
+    at = f' at {len(places[kind]):,} places' if len(places[kind]) > 1 else ''
+    return f'{number}: {agreed[kind]:,}{at}'
+
+
+def row(operation, agreed, places):
     """The row of an operation."""
-    refused = [f'{number}: {agreed[f"refused {number}"]:,}' for number in refusals.ORDER if agreed[f'refused {number}']]
-    return f'`{operation.name}`', accepted(operation, agreed), ', '.join(refused), f'{agreed["no case"]:,}'
+    numbers = [number for number in refusals.ORDER if agreed[f'refused {number}']]
+    found = ', '.join(refused(number, agreed, places) for number in numbers)
+    return f'`{operation.name}`', accepted(operation, agreed), found, f'{agreed["no case"]:,}'
 
 
 def rows_there():
@@ -34,14 +42,16 @@ def rows_there():
 
 def numbers(cells):
     """The numbers of a row that count cases."""
-    counts = [re.sub(r'\d+: ', '', part) for part in cells[2].split(', ')]
-    return [int(number.replace(',', '')) for text in (cells[1], *counts, cells[3])
-            for number in re.findall(r'\d[\d,]*', text)]
+    found = re.findall(r'\d[\d,]*', f'{cells[1]} {cells[3]}') + re.findall(r'\d+: ([\d,]*\d)', cells[2])
+    return [int(number.replace(',', '')) for number in found]
 
 
 def write(tallies):
-    """Puts the rows of the operations that were run in the place of theirs, and says how many cases all rows count."""
-    rows = {**rows_there(), **{name: row(operations.BY_NAME[name], agreed) for name, agreed in tallies.items()}}
+    """Puts the rows of the operations that were run in the place of theirs, and says how many cases all rows count.
+
+    A tally has how many cases of each kind agreed, and the places of each refusal.
+    """
+    rows = {**rows_there(), **{name: row(operations.BY_NAME[name], *tally) for name, tally in tallies.items()}}
     listed = [rows[name] for name in operations.BY_NAME if name in rows]
     total = sum(sum(numbers(cells)) for cells in listed)
     table = document.table(('operation', 'Rust', 'refused', 'no case'), listed, left=4)

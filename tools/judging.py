@@ -1,7 +1,8 @@
 """The answer that is due to a case, by document 01 and by what the oracle says."""
 import needs
-import operations
 import programs
+from lines import computed_line
+
 
 def refused(number, place):
     """What the oracle answers where 01 refuses: the Rust's own error, its panic and the block, or, not run, none."""
@@ -10,13 +11,18 @@ def refused(number, place):
 
 def due(case, oracle):
     """The answer that is due, or None where the oracle's is not what it must be; that is None where it isn't asked."""
+    return case.told(full(case, oracle))
+
+
+def full(case, oracle):
+    """The same with every cell written out."""
     if case.values is None:
         return case.bad_line if oracle in ('bad', None) else None
     if case.refused:
         return case.refusal_line if oracle in (refused(*case.refused), None) else None
     if case.operation.computed is None:
         return None if oracle in ('none', 'error', 'panic', 'bad', '') else oracle
-    line = operations.computed_line(case.operation, case.values)
+    line = computed_line(case.operation, case.values)
     return line if oracle is None or case.operation.alike(case.values, oracle, line) else None
 
 
@@ -30,7 +36,7 @@ def shared_out(cases, answers):
 
 def asked_lines(cases):
     """The lines that the oracle is asked."""
-    return [case.line for case in cases if case.asked()]
+    return [case.full for case in cases if case.asked()]
 
 
 def due_of_each(cases):

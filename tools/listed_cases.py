@@ -1,6 +1,7 @@
 """The cases of absence and of limit that the sample must have: for some operations, words, the outcome, and a test."""
 from typing import Callable, NamedTuple
 
+from operations import ROOM
 from refusals import COLUMNS, GIVEN, MOST_LABELS, MOST_ROWS, MOST_STATES, RESULT, ROWS, WORK
 
 LARGEST = 65535
@@ -68,6 +69,9 @@ def at_bound(name, bound):
     return Listed(f'{name} not below {bound}, just', 'refused 8', lambda v: v[name] == v[bound])
 
 
+MOST_BLOCKS = Listed('the most blocks, 4,096', 'done', lambda v: v['count'] == MOST_STATES)
+
+
 def nothing_marked(v):
     return all(split == end for _, split, end in blocks(v))
 
@@ -118,6 +122,7 @@ NUMBERS = (
         Listed('a column of no cell beside one that has some', 'done',
                lambda v: not v['self_blocks'] and v['self_labels']),
         Listed('the largest numbers', 'done', lambda v: (LARGEST, LARGEST) in pairs(v, 'self')),
+        Listed('lists as long as `replay` takes them, 70,000', 'done', lambda v: len(pairs(v, 'self')) == ROOM),
     )),
 )
 
@@ -161,6 +166,7 @@ PARTITIONS = (
                ('block_number', 'is_element_marked', 'mark_element')),
         Listed('the first block that is none', 'refused 8', lambda v: v['block'] == v['count'],
                ('read_block', 'iter_block', 'iter_block_refusal')),
+        MOST_BLOCKS,
         Listed('a block with itself', 'done', lambda v: v['left'] == v['right'], ('swap_blocks', 'swap_blocks_host')),
         Listed('a state that is marked already', 'done', lambda v: v['n'] > 1 and all_marked(v), ('mark_element',)),
         Listed('no room', 'refused 16', lambda v: not v['text'], ('display',)),
@@ -174,6 +180,7 @@ PARTITIONS = (
         Listed('all one number, nothing unmarked', 'done',
                lambda v: len(marked(v)) == size(v) > 1 and numbers(v) == {0}),
         Listed('as many numbers as states', 'done', lambda v: len(marked(v)) > 1 and len(numbers(v)) == v['n']),
+        Listed('the most numbers, 4,096', 'done', lambda v: len(marked(v)) > 1 and len(numbers(v)) == MOST_STATES),
         Listed('number 0 missing', 'refused 10', lambda v: 0 not in numbers(v)),
         Listed('the largest number', 'refused 10', lambda v: LARGEST in numbers(v)),
         Listed('no numbers', 'refused 7', lambda v: v['n'] > 0 and not v['numbers']),
@@ -306,5 +313,6 @@ SIGNATURES = (
         at_bound('state', 'n'),
         *header(),
         *largest(),
+        MOST_BLOCKS,
     )),
 )

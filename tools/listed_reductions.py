@@ -1,6 +1,7 @@
 """The cases of absence and of limit of the operations that make a smaller table, or number its states."""
-from listed_cases import (Listed, Section, at_bound, blocks, header, hidden, largest, no_room, only_self_loop, rows,
-                          unreached)
+from listed_cases import (MOST_BLOCKS, Listed, Section, at_bound, blocks, header, hidden, largest, no_room,
+                          only_self_loop, rows, unreached)
+from refusals import MOST_STATES
 
 CYCLES = 'tau_cycle_elimination_and_reorder'
 
@@ -36,6 +37,12 @@ def linked(v):
     return v['n'] > 1 and all((state, 0, (state + 1) % v['n']) in rows(v) for state in range(v['n']))
 
 
+def is_longest_chain(v):
+    """A step from each state to the next, all with one label: a round splits one state off, from the last one on."""
+    steps = [(source, target) for source, _, target in rows(v)]
+    return steps == list(zip(range(MOST_STATES - 1), range(1, MOST_STATES))) and len({row[1] for row in rows(v)}) == 1
+
+
 def sections(by_name):
     """The operations are given by name: some of the tests ask what they answer or refuse."""
     redundant, chosen = by_name['remove_redundant_transitions'], by_name['quotient_lts_block']
@@ -48,6 +55,7 @@ def sections(by_name):
         Section('Quotients by a partition', ('quotient_lts_naive', 'quotient_lts_block'), of_tables(
             Listed('one block', 'done', lambda v: v['count'] == 1 < v['n']),
             Listed('as many blocks as states', 'done', lambda v: v['count'] == v['n'] > 1),
+            MOST_BLOCKS,
             *(Listed(f'switches {inerts} and {loops}', 'done',
                      lambda v, inerts=inerts, loops=loops: v['m'] > 0
                      and (v['eliminate_inert_taus'], v['eliminate_tau_loops']) == (inerts, loops),
@@ -67,5 +75,6 @@ def sections(by_name):
         Section('The strong reduction', ('strong_reduction',), of_tables(
             Listed('every label used', 'done', lambda v: len({row[1] for row in rows(v)}) == v['labels'] > 1),
             Listed('no label used', 'done', lambda v: v['m'] == 0 and v['labels'] > 1),
+            Listed('the most rounds, 4,095: a chain of 4,096 states', 'done', is_longest_chain),
         )),
     )

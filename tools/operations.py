@@ -1,4 +1,4 @@
-"""The operations of docs/REPLAY.md, and a case of one."""
+"""The operations of docs/REPLAY.md: what each takes, refuses and changes, and how its cases are made and compared."""
 from typing import Callable, NamedTuple
 
 import alike
@@ -7,7 +7,7 @@ import plain
 import plain_file
 import quotients
 import refusals
-from refusals import COLUMNS, GIVEN, RESULT, ROWS, WORK, WORKED, a_row, a_start, a_state, below, pushed, up_to, worked
+from refusals import COLUMNS, GIVEN, RESULT, ROWS, WORK, a_row, a_start, a_state, below, pushed, up_to, worked
 
 
 def always(values):
@@ -247,116 +247,3 @@ ALL = (
             ('output',), plain_file.reduce_file, rooms={'output': plain_file.size_reduced}),
 )
 BY_NAME = {operation.name: operation for operation in ALL}
-
-
-def room(operation, slice):
-    """The longest such slice that `replay` takes."""
-    if slice in RECORDS:
-        return RECORDS_ROOM
-    return HELD_ROOM if operation.holds and slice in operation.changed and slice not in BYTES else ROOM
-
-
-def largest(parameter):
-    """The largest number that the parameter, or a cell of it, may be."""
-    if parameter in FLAGS:
-        return 1
-    if parameter in BYTES:
-        return 255
-    return 4294967295 if parameter in WIDE else 65535
-
-
-def is_number(words, place, most):
-    """Whether the word at the place is a number of at most this."""
-    if place >= len(words):
-        return False
-    word = words[place]
-    return word.isascii() and word.isdigit() and int(word) <= most
-
-
-def bad_place(line):
-    """The place of the first word of a line that is wrong, missing or too many, the name's being 0; None for a case."""
-    words = line.split(' ')
-    if words[0] not in BY_NAME:
-        return 0
-    operation, place = BY_NAME[words[0]], 1
-    for parameter in operation.parameters:
-        end = place + 1
-        if operation.is_slice(parameter):
-            if not is_number(words, place, room(operation, parameter)):
-                return place
-            place, end = end, end + int(words[place]) * (3 if parameter in RECORDS else 1)
-        for place in range(place, end):
-            if not is_number(words, place, largest(parameter)):
-                return place
-        place = end
-    return None if place == len(words) else place
-
-
-class Case:
-    """A line of input: an operation on values, or a line that is no case (`line` given, `values` None)."""
-
-    def __init__(self, operation, values, line=None):
-        self.operation, self.values = operation, values
-        self.line = line if values is None else written(operation, values)
-        self.bad_line = f'bad {bad_place(line)}' if values is None else None
-        self.refused = None if values is None else operation.refusal(values)
-        self.refusal_line = refusal_line(operation, values, self.refused) if self.refused else None
-
-    def kind(self):
-        """What this case is counted under."""
-        if self.values is None:
-            return 'no case'
-        if self.refused:
-            return f'refused {self.refused[0]}'
-        return 'Rust' if self.asked() else 'plain'
-
-    def asked(self):
-        """Whether the Rust is asked."""
-        operation = self.operation
-        return operation.has_rust and (self.values is None or bool(self.refused) or operation.asked(self.values))
-
-
-def cells(slice):
-    """The cells of a slice, the fields of a record one after the other."""
-    return ''.join(cells(cell) if isinstance(cell, tuple) else f' {cell}' for cell in slice)
-
-
-def written(operation, values):
-    """The line of a case: the name, numbers as themselves, slices as their length and cells."""
-    words = [operation.name]
-    for parameter in operation.parameters:
-        value = values[parameter]
-        if isinstance(value, int):
-            words.append(str(value))
-        else:
-            words.append(f'{len(value)}{cells(value)}')
-    return ' '.join(words)
-
-
-def lent(values, slice):
-    """What is lent as `&mut`: a slice, or a block's three numbers."""
-    return values[slice] if isinstance(slice, str) else [values[number] for number in slice]
-
-
-def answer_line(operation, values, words, slices):
-    """The words, and the `&mut` slices at return: those given here, and the others as they came in."""
-    return words + ''.join(f' |{cells(slices.get(slice, lent(values, slice)))}' for slice in operation.changed)
-
-
-def cleared(operation, values):
-    """The work slices, all zero."""
-    return {slice: [0] * len(values[slice]) for slice in operation.work()}
-
-
-def refusal_line(operation, values, refused):
-    """The answer to a refused case: no `&mut` slice changes, but for work that was used."""
-    if operation.answers_part:
-        return 'part 0'
-    slices = cleared(operation, values) if refused[0] in WORKED else {}
-    return answer_line(operation, values, f'refused {refused[0]} {refused[1]}', slices)
-
-
-def computed_line(operation, values):
-    """The answer to an accepted case that is computed plainly."""
-    numbers, slices = operation.computed(values)
-    return answer_line(operation, values, 'done' + cells(numbers), {**cleared(operation, values), **slices})

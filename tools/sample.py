@@ -8,13 +8,15 @@ import cases_bad
 import sample_absence
 import sample_file
 import sample_host
+import sample_largest
 import sample_partition
 import sample_quotient
 import sample_signature
 import sample_split
 import sample_table
 import tables
-from operations import ALL, BY_NAME, ROOM, Case
+from lines import Case
+from operations import ALL, BY_NAME, ROOM
 from partitions import laid_out, wrapped_sum
 from refusals import MOST_STATES
 
@@ -62,6 +64,24 @@ def of_no_case():
     yield from sample_file.of_no_case()
 
 
+def of_runs():
+    """Runs in another form than the longest, with leading zeros too; and words that are none, or that don't fit."""
+    operation = BY_NAME['is_subset_of']
+    v = {'self_labels': [3, 3, 3, 4], 'self_blocks': [0, 1, 2, 0], 'other_labels': [], 'other_blocks': [], 'label': 1,
+         'block': 1}
+    yield '# runs'
+    for cells in ('3*1 3*2 4', '3 3*2 4*1', '03*003 4', '3*2 3+2'):
+        for blocks in ('0+3 0', '0*1 1+2 0', '0 1+1 2 0+1'):
+            yield Case(operation, v, f'is_subset_of 4 {cells} 4 {blocks} 0 0 1 1', in_runs=True)
+    for word in ('3*', '3+', '*4', '+4', '3*0', '3+0', '3*5', '3+5', '65533+4', '65536*4', '3*2*2', '3-4', '3*4x',
+                 '3**4', '3*+4', '3*18446744073709551617', '3*4*', '3*3', '3*3 4*2', '3*4 3'):
+        yield Case(operation, None, f'is_subset_of 4 {word} 4 0+3 0 0 0 1 1')
+    for line in ('is_subset_of 4*1 3*4 0 0 0 1 1', 'is_subset_of 0*0 0 0 0 1 1', 'is_subset_of 0 0 0 0 1*1 1',
+                 'is_subset_of 0 0 0 0 1*2', 'tau_hat 3*1', 'tau_hat 3+1', 'Block::len 1*3', 'Block::unmark_all 1*3',
+                 'Block::unmark_all 1*2', 'display 1*8'):
+        yield Case(operation, None, line)
+
+
 def entries():
     for operation in ALL:
         yield ''
@@ -75,5 +95,7 @@ def entries():
     yield from sample_absence.entries()
     yield from sample_quotient.of_room()
     yield from sample_file.of_room()
+    yield from sample_largest.entries()
+    yield from of_runs()
     yield from of_no_case()
     yield from of_line_ends()

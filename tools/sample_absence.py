@@ -4,7 +4,8 @@ import sample_table
 import tables
 from cases_host import as_records
 from listed_cases import ON_TABLE
-from operations import ALL, BY_NAME, FLAGS, RECORDS, Case
+from lines import Case
+from operations import ALL, BY_NAME, FLAGS, RECORDS
 from partitions import laid_out
 from refusals import COLUMNS, MOST_LABELS, MOST_STATES
 
@@ -42,7 +43,7 @@ def of_states():
         v = {**tables.given(MOST_STATES, MOST_LABELS, [], MOST_STATES - 1), **dict.fromkeys(FLAGS, 0)}
         v |= {'state': MOST_STATES - 1, 'from': 0}
         yield f'# {name}: 4,096 states, 1,024 labels, no rows'
-        yield Case(operation, {**v, **sample_table.lent(operation, v)})
+        yield Case(operation, {**v, **sample_table.lent(operation, v)}, in_runs=True)
 
 
 def entries():

@@ -1,5 +1,5 @@
 """The sample's part for the operations on one block: the limits, and bounds that are broken."""
-from operations import Case
+from lines import Case
 
 BOUNDS_OF_BLOCKS = (
     (0, 1), (3, 7), (0, 4096), (4095, 4096), (0, 0), (5, 5), (5, 4), (0, 4097), (4096, 4096), (4096, 4097),

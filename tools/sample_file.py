@@ -7,7 +7,8 @@ import plain_file
 import tables
 from file_cases import CONTENTS, EXAMPLE, EXAMPLE_OUTPUT, HEADER, put
 from file_model import Table, bytes_of
-from operations import ALL, BY_NAME, HELD_ROOM, Case
+from lines import Case
+from operations import ALL, BY_NAME, HELD_ROOM, ROOM
 from refusals import MOST_LABELS, MOST_ROWS, MOST_STATES, ROWS
 
 # Words, and a sound table.
@@ -21,23 +22,23 @@ SOUND = (
 )
 
 
-def reading(data, cells=None):
+def reading(data, cells=None, in_runs=False):
     """A file to read, with columns of so many cells, or as many as needed."""
     cells = plain_file.a_row({'bytes': data}) if cells is None else cells
-    return Case(BY_NAME['read_file'], {'bytes': list(data), 'source': [9] * cells, 'label': [65535] * cells,
-                                       'target': [1] * cells})
+    values = {'bytes': list(data), 'source': [9] * cells, 'label': [65535] * cells, 'target': [1] * cells}
+    return Case(BY_NAME['read_file'], values, in_runs=in_runs)
 
 
-def reducing(data, room):
-    return Case(BY_NAME['reduce_file'], {'input': list(data), 'output': [9] * room})
+def reducing(data, room, in_runs=False):
+    return Case(BY_NAME['reduce_file'], {'input': list(data), 'output': [9] * room}, in_runs=in_runs)
 
 
-def writing(table, **others):
+def writing(table, in_runs=False, **others):
     """A table to write, with two source states more than it has, and room as needed; and what is otherwise."""
     values = {**tables.given(table.n, table.labels, table.rows, table.initial), 'states': table.n + 2,
               'state_blocks': [*range(table.n), 0, 65535]}
     values['bytes'] = [9] * plain_file.size_written(values)
-    return Case(BY_NAME['write_file'], {**values, **others})
+    return Case(BY_NAME['write_file'], {**values, **others}, in_runs=in_runs)
 
 
 def given_by_01():
@@ -111,6 +112,7 @@ def of_write():
     for name in (*ROWS, 'state_blocks'):
         cells = writing(table).values[name]
         yield from (writing(table, **{name: cells[:-1]}), writing(table, **{name: []}))
+    yield writing(table, **dict.fromkeys(ROWS, []))
     yield '# write_file: rows'
     yield from (writing(file_model.held(data)) for data in row_faults())
     yield '# write_file: several faults at once'
@@ -145,8 +147,8 @@ def of(operation):
 def of_room():
     """A column and bytes as long as `replay` takes them."""
     yield '# read_file and reduce_file: the longest slices'
-    yield reading(EXAMPLE, HELD_ROOM)
-    yield reducing(EXAMPLE, 70000)
+    yield reading(EXAMPLE, HELD_ROOM, in_runs=True)
+    yield reducing(EXAMPLE, ROOM, in_runs=True)
 
 
 def of_no_case():

@@ -3,7 +3,8 @@ import cases_bad
 import cases_host
 import sample_partition
 from cases_host import as_records
-from operations import BY_NAME, RECORDS_ROOM, Case
+from lines import Case
+from operations import BY_NAME, RECORDS_ROOM
 from partitions import laid_out
 
 SWAP = BY_NAME['swap_blocks_host']

@@ -2,7 +2,8 @@
 from itertools import product
 
 import cases_partition
-from operations import ALL, BOUNDS, Case
+from lines import Case
+from operations import ALL, BOUNDS
 from partitions import LARGEST, copied, laid_out
 from refusals import COLUMNS, MOST_STATES, shown
 
@@ -56,7 +57,7 @@ def of_new(operation):
     accepted = ((1, 1), (4, 4), (3, 5), (MOST_STATES, MOST_STATES))
     refused = ((0, 0), (0, 3), (MOST_STATES + 1, 3), (LARGEST, 0), (3, 0))
     for n, length in accepted + refused:
-        yield Case(operation, {'n': n, **columns_of(length, 9)})
+        yield Case(operation, {'n': n, **columns_of(length, 9)}, in_runs=length == MOST_STATES)
     for column in COLUMNS:
         yield Case(operation, {'n': 3, **columns_of(3, 9), column: [9, 9]})
 

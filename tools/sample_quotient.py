@@ -3,8 +3,10 @@ import cases_quotient
 import cases_table
 import sample_table
 import tables
-from operations import ALL, BY_NAME, HELD_ROOM, Case, written
+from lines import Case, written
+from operations import ALL, BY_NAME, HELD_ROOM
 from partitions import LARGEST, laid_out
+from refusals import MOST_LABELS
 from sample_table import lent
 
 # Stands where nothing is read.
@@ -17,6 +19,7 @@ SOUND = (
     ('no hidden row, every visible label used', tables.given(3, 3, [(0, 1, 1), (0, 2, 1), (1, 1, 2)], 2)),
     ('a hidden self-loop alone', tables.given(2, 1, [(1, 0, 1)], 0)),
     ('every label used', tables.given(2, 3, [(0, 0, 1), (0, 1, 1), (1, 2, 0)], 0)),
+    ('the most labels, the last one used', tables.given(2, MOST_LABELS, [(0, 0, 1), (0, MOST_LABELS - 1, 1)], 1)),
     ('P6', tables.given(2, 1, [(0, 0, 0), (0, 0, 1)], 0)),
     ('P7', tables.given(3, 2, [(0, 0, 1), (0, 1, 2), (1, 1, 2)], 0)),
     ('P8', tables.given(3, 2, [(0, 1, 1), (1, 1, 2)], 0)),
@@ -101,7 +104,7 @@ def of_room():
     v = sample_table.a_case(operation)
     yield f'# {operation.name}: the longest slices'
     for slice in (operation.changed[0], operation.changed[-1]):
-        yield Case(operation, {**v, slice: v[slice] + [8] * (HELD_ROOM - len(v[slice]))})
+        yield Case(operation, {**v, slice: v[slice] + [8] * (HELD_ROOM - len(v[slice]))}, in_runs=True)
 
 
 def of(operation):

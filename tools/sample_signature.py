@@ -9,7 +9,8 @@ import sample_table
 import signatures
 import tables
 from cases_signature import given
-from operations import ALL, OTHER, SELF, Case
+from lines import Case
+from operations import ALL, OTHER, SELF
 from partitions import LARGEST, laid_out
 from refusals import GIVEN, MOST_LABELS, RESULT, pushed
 

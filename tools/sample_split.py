@@ -1,7 +1,8 @@
 """The sample's part for the operations that split a block: each easy error is told apart by a case."""
 import cases_bad
 import cases_split
-from operations import BY_NAME, Case
+from lines import Case
+from operations import BY_NAME
 from partitions import LARGEST, laid_out
 from refusals import COLUMNS, WORK
 

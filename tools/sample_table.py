@@ -5,7 +5,8 @@ import cases_bad
 import cases_table
 import given_lists
 import tables
-from operations import ALL, BY_NAME, FLAGS, Case, written
+from lines import Case, written
+from operations import ALL, BY_NAME, FLAGS
 from partitions import LARGEST, laid_out
 from refusals import GIVEN, MOST_LABELS, MOST_ROWS, MOST_STATES
 
