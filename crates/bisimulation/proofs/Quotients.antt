@@ -1,50 +1,38 @@
 -- The quotient's steps are those of the states, and where sharing a block is a bisimulation, each state and its block are related by
 -- one between the rows and their quotient.
-use mathlib.Core.Path.{_≡_, refl, sym, ap, subst, _∙_}
+use mathlib.Core.Path.{_≡_, refl, sym, subst, _∙_}
 use mathlib.Core.Bool.{true}
 use mathlib.Core.List.{List}
 use Prim.Native.Nat.{ℕ, _≤_, _<_}
 use lib.ListN.{length}
 use Rattle.columns.specs.Sets.{Mem, Row, rowLt, Ascending}
 use Rattle.columns.proofs.Orders.{row-order}
-use Rattle.columns.proofs.Sets.{ascending-unique, collect-in, collect-out, collect-ascending}
-use Rattle.columns.proofs.Unions.{collect-few}
+use Rattle.columns.proofs.Sets.{ascending-unique}
 use Rattle.bisimulation.specs.Bisimulation.{Step, InRange, Match, Simulation, Bisimulation}
-use Rattle.bisimulation.specs.Quotient.{between, quotient, Shares, Belongs}
+use Rattle.bisimulation.specs.Quotient.{quotient, Shares, Belongs}
+use Rattle.bisimulation.proofs.Kept.{From, kept-in, kept-out, kept-ascending, kept-few}
 
 module _ (block : ℕ → ℕ) (rows : List Row) where
   -- ---- the steps of the quotient
   pub quotient-in : (s a u : ℕ) → Step rows s a u → Step (quotient block rows) (block s) a (block u)
-  unfolding quotient between
-  quotient-in s a u k = collect-in rowLt row-order (λ r. true) (between block) rows (s, (a, u)) k refl
+  unfolding quotient
+  quotient-in s a u k = kept-in (λ r. true) block rows s a u k refl
 
   -- the step of a state that a step between blocks comes from
-  pub record Source (b a c : ℕ) : Type 0 where
-    pub source : ℕ
-    pub target : ℕ
-    pub step : Step rows source a target
-    pub from : block source ≡ b
-    pub to : block target ≡ c
+  abbrev pub Source : ℕ → ℕ → ℕ → Type 0
+  Source b a c = From (λ r. true) block rows b a c
 
   pub quotient-out : (b a c : ℕ) → Step (quotient block rows) b a c → Source b a c
-  unfolding quotient between
-  quotient-out b a c k =
-      let f = collect-out rowLt row-order (λ r. true) (between block) rows (b, (a, c)) k in
-      record {
-        source = f .0 .0;
-        target = f .0 .1 .1;
-        step = subst (λ (x : ℕ). Step rows (f .0 .0) x (f .0 .1 .1)) (ap (λ (r : Row). r .1 .0) (sym (f .3))) (f .1);
-        from = ap (λ (r : Row). r .0) (sym (f .3));
-        to = ap (λ (r : Row). r .1 .1) (sym (f .3));
-      }
+  unfolding quotient
+  quotient-out b a c k = kept-out (λ r. true) block rows b a c k
 
   pub quotient-ascending : Ascending rowLt (quotient block rows)
   unfolding quotient
-  quotient-ascending = collect-ascending rowLt row-order (λ r. true) (between block) rows
+  quotient-ascending = kept-ascending (λ r. true) block rows
 
   pub quotient-few : length (quotient block rows) ≤ length rows
   unfolding quotient
-  quotient-few = collect-few rowLt (λ r. true) (between block) rows
+  quotient-few = kept-few (λ r. true) block rows
 
   module _ (n : ℕ) where
     -- where each state is its own block, the quotient has the same rows

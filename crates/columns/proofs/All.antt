@@ -6,7 +6,7 @@ use native.Mathlib.Numerals.{add-one}
 use mathlib.Core.Bool.{Bool, true, false, _&&_}
 use mathlib.Core.Path.{_≡_, refl, ap, sym, _∙_}
 use mathlib.Core.Logic.{_⊎_, inl, inr, ⊎-elim}
-use Rattle.columns.specs.Tests.{all}
+use Rattle.columns.specs.Counting.{all}
 use Rattle.columns.proofs.Bools.{and-left, and-right, and-both, and-no-left, and-no-right}
 
 -- a number below suc n is n or below n

@@ -23,7 +23,7 @@ abbrev pub Holds : List Test → Type 0
 Holds [] = Unit {0}
 Holds (t ∷ tests) = (t .0 ≡ true) × Holds tests
 
--- a chain refuses nothing exactly if all its tests hold
+-- where a chain refuses nothing all its tests hold
 due-zero : (l : List Test) → allNumbered l ≡ true → due l .number ≡ 0 → Holds l
 unfolding due
 due-zero [] n z = tt
@@ -50,6 +50,7 @@ parted (t ∷ l) k h = let p = parted l k (h .1) in ((h .0, p .0), p .1)
 pub passed-both : (l k : List Test) → allNumbered (l ++ k) ≡ true → (r : Refusal) → r ≡ due (l ++ k) → r .number ≡ 0 → Holds l × Holds k
 passed-both l k n r e z = parted l k (passed (l ++ k) n r e z)
 
+-- where all its tests hold a chain refuses nothing
 pub none-due : (l : List Test) → Holds l → due l ≡ none
 unfolding due
 none-due [] h = refl

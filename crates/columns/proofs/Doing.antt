@@ -1,13 +1,15 @@
 -- A call that says done: nothing is refused, and what it says and leaves is what its definition has for that.
 use Prim.Native.Nat.{ℕ}
-use mathlib.Core.Path.{_≡_, refl, ap}
+use mathlib.Core.Path.{_≡_, refl, ap, sym, _∙_}
 use mathlib.Core.Bool.{Bool, true, false, cond}
-use mathlib.Core.List.{List}
+use mathlib.Core.List.{List, [], _∷_}
+use mathlib.Core.Logic.{_⊎_, inl, inr, _↔_}
 use borrow.Author.Tests.{eqb-true}
 use lib.Dec.{eqb}
 use Rattle.columns.specs.declared.answers.Refusal.{Refusal}
-use Rattle.columns.specs.Answers.{Said, done, refused, answering, leaving}
+use Rattle.columns.specs.Answers.{Said, done, refused, answering, leaving, bit}
 use Rattle.columns.proofs.Saying.{apart}
+use native.Mathlib.Omega.{arith}
 
 same-values : (k l : List ℕ) → done k ≡ done l → k ≡ l
 same-values k l e = cc
@@ -36,3 +38,20 @@ module _ {A : Type 0} (r : Refusal) (before left after : A) where
         ap (λ (x : Said × A). x .1) e,
       )
       go false q e = absurd (apart _ _ _ (ap (λ (x : Said × A). x .0) e))
+
+-- a flag that is said: yes or no, and yes exactly if P
+pub record SaysWhether (values : List ℕ) (P : Type 0) : Type 0 where
+  pub flag : (values ≡ 1 ∷ []) ⊎ (values ≡ 0 ∷ [])
+  pub exactly : (values ≡ 1 ∷ []) ↔ P
+
+pub says-whether : (b : Bool) (values : List ℕ) {P : Type 0} → values ≡ bit b ∷ [] → (b ≡ true) ↔ P → SaysWhether values P
+says-whether b values e law =
+    record { flag = one-of b e; exactly = (λ q. law .0 (yes b e q), λ p. e ∙ ap (λ (t : Bool). bit t ∷ []) (law .1 p)) }
+  where
+    one-of : (b : Bool) → values ≡ bit b ∷ [] → (values ≡ 1 ∷ []) ⊎ (values ≡ 0 ∷ [])
+    one-of true e = inl e
+    one-of false e = inr e
+
+    yes : (b : Bool) → values ≡ bit b ∷ [] → values ≡ 1 ∷ [] → b ≡ true
+    yes true e q = refl
+    yes false e q = let z : _≡_ {A = ℕ} 0 1 = cc (sym e ∙ q) in absurd (omega (arith, z))

@@ -7,9 +7,8 @@ use mathlib.Core.Bool.{Bool, true, cond}
 use mathlib.Core.Path.{_≡_, ap, sym, subst, _∙_}
 use mathlib.Core.Logic.{⊎-elim}
 use mathlib.Core.List.{List}
-use lib.ListN.{length, getD, set, length-set}
+use lib.ListN.{length, getD, length-set}
 use lib.Dec.{ltb, eqb}
-use Rattle.columns.specs.Tests.{all}
 use Rattle.columns.specs.Counting.{sum, many}
 use Rattle.columns.specs.Columns.{swapped}
 use Rattle.columns.specs.Inverse.{Inverse, inverseAt, inverseb, swappedInverse}

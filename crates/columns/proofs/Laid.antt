@@ -1,4 +1,4 @@
--- Lists laid one after the other: how long they are together, and who is a member.
+-- Lists laid one after the other: how long they are together, who is a member, and where each lies.
 use Prim.Native.Nat.{ℕ, zero, suc, _+_, _≤_, _<_}
 use native.Mathlib.Numerals.{add-one}
 use native.Mathlib.Omega.{arith}
@@ -6,10 +6,11 @@ use mathlib.Core.Path.{_≡_, refl, ap, ap₂, _∙_}
 use mathlib.Core.Logic.{⊎-elim}
 use mathlib.Core.List.{List, [], _++_, List·Memᴰ·not-nil, List·Memᴰ·append-cases, Memᴰ·append-left, Memᴰ·append-right}
 use lib.ListN.{length, length-append}
-use Rattle.columns.specs.Columns.{laid}
+use Rattle.columns.specs.Columns.{laid, listed}
 use Rattle.columns.specs.Counting.{sum}
 use Rattle.columns.specs.Sets.{Mem}
-use Rattle.columns.proofs.All.{top-or-below}
+use Rattle.columns.proofs.All.{top-or-below, lt-or-le}
+use Rattle.columns.proofs.Lists.{listed-left, listed-right}
 
 module _ {A : Type 0} (h : ℕ → List A) where
   pub laid-none : laid h 0 ≡ []
@@ -51,3 +52,18 @@ module _ {A : Type 0} (h : ℕ → List A) where
       ⊎-elim (λ (w : Mem p (laid h k)). let r = laid-out p k w in (r .0, omega (arith, r .1), r .2))
       (λ (w : Mem p (h k)). (k, omega arith, w))
       (List·Memᴰ·append-cases (laid h k) m)
+
+-- ---- of lists laid by index: those before, and each by itself
+module _ {A : Type 0} (h : ℕ → List A) (f : ℕ → A) where
+  laid-before : (n : ℕ) → listed (length (laid h n)) f ≡ laid h n → (s : ℕ) → s ≤ n → listed (length (laid h s)) f ≡ laid h s
+  unfolding laid
+  laid-before zero e s w = let z : s ≡ 0 = omega arith in rw z e
+  laid-before (suc n) e s w =
+      ⊎-elim (λ (l : s < suc n). laid-before n (listed-left (laid h n) (h n) f e) s (omega (arith, l)))
+      (λ (l : suc n ≤ s). let z : s ≡ suc n = omega (arith, l, w) in rw z e) (lt-or-le s (suc n))
+
+  pub laid-each :
+      (n : ℕ) → listed (length (laid h n)) f ≡ laid h n → (s : ℕ) → s < n
+      → listed (length (h s)) (λ k. f (length (laid h s) + k)) ≡ h s
+  unfolding laid
+  laid-each n e s w = listed-right (laid h s) (h s) f (laid-before n e (suc s) w)

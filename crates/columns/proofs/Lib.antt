@@ -35,3 +35,4 @@ pub mod Listing
 pub mod Owners
 pub mod ApartLists
 pub mod Chosen
+pub mod Theorems

@@ -1,4 +1,4 @@
--- Lists that a counting loop writes from the front. Assumes nothing.
+-- Lists that a counting loop writes from the front.
 use mathlib.Core.Path.{_≡_, refl, sym, ap, _∙_, ap₂}
 use mathlib.Core.Logic.{⊎-elim}
 use mathlib.Core.List.{List, [], _∷_, _++_, map, map-append, append-nil, append-assoc}
@@ -169,6 +169,41 @@ listed-split m (suc n) f =
     ∙ ap (λ t. t ++ (f (m + n) ∷ [])) (listed-split m n f)
     ∙ append-assoc (listed m f) (listed n (λ i. f (m + i))) (f (m + n) ∷ [])
 
+-- lists given by index are the same exactly if their values are
+pub listed-same : {A : Type 0} (f g : ℕ → A) (n : ℕ) → listed n f ≡ listed n g → (i : ℕ) → i < n → f i ≡ g i
+unfolding listed
+listed-same f g zero e i l = absurd (omega arith)
+listed-same {A} f g (suc n) e i l =
+    ⊎-elim
+    (λ (z : i ≡ n).
+    let d : _≡_ {A = List A} (f n ∷ []) (g n ∷ [])
+    = sym (drop-at (listed n f) (f n ∷ []) n (length-listed n f)) ∙ ap (drop n) e
+    ∙ drop-at (listed n g) (g n ∷ []) n (length-listed n g) in
+    let c : f n ≡ g n = cc in
+    rw z c)
+    (λ (w : i < n).
+    listed-same f g n
+    (sym (take-at (listed n f) (f n ∷ []) n (length-listed n f)) ∙ ap (take n) e
+    ∙ take-at (listed n g) (g n ∷ []) n (length-listed n g)) i w)
+    (top-or-below l)
+
+-- a list that is given by index, in two parts
+module _ {A : Type 0} (l m : List A) (f : ℕ → A) (e : listed (length (l ++ m)) f ≡ l ++ m) where
+  both : listed (length l) f ++ listed (length m) (λ k. f (length l + k)) ≡ l ++ m
+  both = sym (listed-split (length l) (length m) f) ∙ ap (λ (k : ℕ). listed k f) (sym (length-append l m)) ∙ e
+
+  pub listed-left : listed (length l) f ≡ l
+  listed-left =
+      sym (take-at (listed (length l) f) (listed (length m) (λ k. f (length l + k))) (length l) (length-listed (length l) f))
+      ∙ ap (take (length l)) both
+      ∙ take-at l m (length l) refl
+
+  pub listed-right : listed (length m) (λ k. f (length l + k)) ≡ m
+  listed-right =
+      sym (drop-at (listed (length l) f) (listed (length m) (λ k. f (length l + k))) (length l) (length-listed (length l) f))
+      ∙ ap (drop (length l)) both
+      ∙ drop-at l m (length l) refl
+
 listed-take : (n : ℕ) (l : List ℕ) → n ≤ length l → listed n (λ k. getD l k 0) ≡ take n l
 unfolding listed
 listed-take zero l h = refl
@@ -229,6 +264,9 @@ painted-rest f n l i x p =
 pub zeros-of : (l : List ℕ) → ((k : ℕ) → getD l k 0 ≡ 0) → l ≡ zeros (length l)
 zeros-of l h =
     ext-getD 0 l (zeros (length l)) (sym (length-replicate {A = ℕ} (length l) 0)) (λ k w. h k ∙ sym (getD-replicate (length l) k 0 0 w))
+
+pub still-zeros : (l : List ℕ) (n : ℕ) → l ≡ zeros n → l ≡ zeros (length l)
+still-zeros l n e = e ∙ ap zeros (sym (ap length e ∙ length-replicate {A = ℕ} n 0))
 
 pub zeros-at : (n k : ℕ) → getD (zeros n) k 0 ≡ 0
 zeros-at n k =

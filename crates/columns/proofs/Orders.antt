@@ -1,14 +1,12 @@
 -- Strict orders given by a Boolean test: the numbers, and pairs by the first field and then the second.
--- Assumes nothing.
-use mathlib.Core.Path.{_≡_, refl, sym, ap, _∙_, subst}
+use mathlib.Core.Path.{_≡_, refl, sym, _∙_}
 use mathlib.Core.Logic.{_⊎_, inl, inr}
 use mathlib.Core.Bool.{Bool, true, false, cond}
-use Prim.Native.Nat.{ℕ, _≤_, _<_}
 use native.Mathlib.Omega.{arith}
 use lib.Dec.{ltb}
-use Rattle.columns.specs.Sets.{lex, pairLt, rowLt, Pair, Row, pairEq}
+use Rattle.columns.specs.Sets.{lex, pairLt, rowLt}
 use borrow.Author.Tests.{ltb-true, lt-ltb, ltb-false}
-use Rattle.columns.proofs.Bools.{cases, contra, fails}
+use Rattle.columns.proofs.Bools.{contra, fails}
 
 pub record Order {A : Type 0} (lt : A → A → Bool) : Type 0 where
   pub irrefl : (x : A) → lt x x ≡ false

@@ -1,15 +1,15 @@
--- Rows in three columns: their order, test by test, and the set of the rows. Assumes nothing.
-use mathlib.Core.Path.{_≡_, refl, sym, ap, ap₂, _∙_}
-use mathlib.Core.Bool.{Bool, true, false, cond}
+-- Rows in three columns: their order, test by test, and the set of the rows.
+use mathlib.Core.Path.{_≡_, refl, sym, ap, _∙_}
+use mathlib.Core.Bool.{Bool, true, false}
 use mathlib.Core.List.{List, [], _∷_, _++_, map, map-map}
-use Prim.Native.Nat.{ℕ, zero, suc, _≤_, _<_}
+use Prim.Native.Nat.{ℕ, _≤_, _<_}
 use borrow.Author.Tests.{lt-ltb, le-ltb}
 use native.Mathlib.Omega.{arith}
 use lib.Dec.{ltb}
 use lib.ListN.{length, getD, take, drop, length-map, length-append, length-drop}
 use lib.Seq.{take-append-le, length-take-le, drop-at}
-use Rattle.columns.specs.Sets.{insert, collect, lex, pairLt, rowLt, Pair, Row}
-use Rattle.columns.specs.Sort.{sort, firsts}
+use Rattle.columns.specs.Sets.{insert, collect, lex, pairLt, rowLt, Row}
+use Rattle.columns.specs.Sort.{sort}
 use Rattle.columns.specs.Columns.{listed, cell, keyOf, comesBefore, sortBy}
 use Rattle.columns.specs.Rows.{firstsBy, pickRows, picked, rowsOf, rowSet, firstOf, secondOf, thirdOf}
 use Rattle.columns.proofs.Orders.{row-order}

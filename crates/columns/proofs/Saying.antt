@@ -1,10 +1,9 @@
 -- What an answer says determines it: two answers that say the same are equal.
-use mathlib.Core.Path.{_≡_, refl, ap, sym, _∙_}
+use mathlib.Core.Path.{_≡_, refl, ap, sym}
 use mathlib.Core.Bool.{Bool, true, false}
 use native.Mathlib.Omega.{arith}
 use Prim.Native.Nat.{ℕ}
-use lib.Dec.{eqb}
-use mathlib.Core.List.{List, [], _∷_}
+use mathlib.Core.List.{List}
 use borrow.Author.Tests.{eq-eqb, ne-eqb}
 use Rattle.columns.specs.declared.answers.Refusal.{Refusal}
 use Rattle.columns.specs.declared.answers.Outcome.{Outcome}

@@ -1,13 +1,14 @@
--- Ascending lists as sets: who is a member, and that a set has one list. Assumes nothing.
+-- Ascending lists as sets: who is a member, and that a set has one list.
 use mathlib.Core.Path.{_≡_, refl, sym, ap₂}
 use mathlib.Core.Logic.{_⊎_, inl, inr}
 use mathlib.Core.Bool.{Bool, true, false, cond, _||_}
-use mathlib.Core.List.{List, [], _∷_, List·Memᴰ, List·Memᴰ·head, List·Memᴰ·tail, List·Memᴰ·cases-cons, List·Memᴰ·not-nil}
+use mathlib.Core.List.{List, [], _∷_, List·Memᴰ·head, List·Memᴰ·tail, List·Memᴰ·cases-cons, List·Memᴰ·not-nil}
 use lib.Dec.{eqb}
-use Rattle.columns.specs.Sets.{Mem, among, insert, collect, addAll, gather, Ascending, same, Pair, pairEq}
+use Rattle.columns.specs.Sets.{Mem, among, insert, collect, addAll, gather, Ascending, same, Pair, pairEq, Row}
 use borrow.Author.Tests.{eqb-true, eq-eqb}
 use Rattle.columns.proofs.Bools.{contra, and-left, and-right, and-both, or-split, or-left, or-right}
 use Rattle.columns.proofs.Orders.{Order, asym}
+use Prim.Native.Nat.{ℕ}
 
 pub here : {A : Type 0} {x : A} {xs : List A} → Mem x (x ∷ xs)
 here = List·Memᴰ·head refl
@@ -255,6 +256,9 @@ pub same-refl : {A : Type 0} (eq : A → A → Bool) (r : (x : A) → eq x x ≡
 unfolding same
 same-refl eq r [] = refl
 same-refl eq r (x ∷ xs) = and-both (r x) (same-refl eq r xs)
+
+pub same-row : {a b c a′ b′ c′ : ℕ} → a ≡ a′ → b ≡ b′ → c ≡ c′ → _≡_ {A = Row} (a, (b, c)) (a′, (b′, c′))
+same-row p q r = cc
 
 pub pairEq-eq : (x y : Pair) → pairEq x y ≡ true → x ≡ y
 unfolding pairEq

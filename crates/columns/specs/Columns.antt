@@ -1,7 +1,8 @@
 -- Columns of numbers as lists.
 use mathlib.Core.Bool.{Bool}
 use mathlib.Core.List.{List, [], _∷_, _++_, map}
-use Prim.Native.Nat.{ℕ, zero, suc}
+use mathlib.Core.Path.{_≡_}
+use Prim.Native.Nat.{ℕ, zero, suc, _-_, _≤_}
 use lib.ListN.{length, getD, set, drop, replicate}
 use Rattle.columns.specs.Sets.{Row, rowLt}
 use Rattle.columns.specs.Sort.{sort}
@@ -28,14 +29,32 @@ written n f l = over (listed n f) l
 abbrev pub zeros : ℕ → List ℕ
 zeros n = replicate n 0
 
+-- a slice with every cell zero
+abbrev pub cleared : List ℕ → List ℕ
+cleared l = zeros (length l)
+
 -- slices with every cell zero
 abbrev pub zeroed : List (List ℕ) → List (List ℕ)
-zeroed slices = map (λ l. zeros (length l)) slices
+zeroed slices = map cleared slices
+
+-- every one of these slices has this many cells
+abbrev pub EachLong : ℕ → List (List ℕ) → Type 0
+EachLong cells [] = Unit {0}
+EachLong cells (l ∷ slices) = (cells ≤ length l) × EachLong cells slices
+
+-- every cell of every one is zero
+abbrev pub EachZero : List (List ℕ) → Type 0
+EachZero [] = Unit {0}
+EachZero (l ∷ slices) = (l ≡ cleared l) × EachZero slices
 
 -- the first n cells made zero
 unfoldable pub wiped : ℕ → List ℕ → List ℕ
 unfolding over
 wiped n l = over (zeros n) l
+
+-- the length of stretch b, from begin to before end
+unfoldable pub lengthIn : List ℕ → List ℕ → ℕ → ℕ
+lengthIn begin end b = getD end b 0 - getD begin b 0
 
 -- the cells i and j exchanged
 unfoldable pub swapped : ℕ → ℕ → List ℕ → List ℕ

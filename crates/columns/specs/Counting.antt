@@ -1,6 +1,6 @@
 -- Counting, adding up and storing over the numbers below a bound.
 use Prim.Native.Nat.{ℕ, zero, suc, _+_}
-use mathlib.Core.Bool.{Bool, cond}
+use mathlib.Core.Bool.{Bool, cond, true, _&&_}
 use mathlib.Core.List.{List, [], _∷_, _++_}
 use lib.Dec.{ltb}
 use lib.ListN.{set}
@@ -9,6 +9,11 @@ use lib.ListN.{set}
 unfoldable pub sum : (ℕ → ℕ) → ℕ → ℕ
 sum f zero = 0
 sum f (suc n) = sum f n + f n
+
+-- every number below n passes
+unfoldable pub all : ℕ → (ℕ → Bool) → Bool
+all zero f = true
+all (suc n) f = all n f && f n
 
 -- how many numbers below n pass
 unfoldable pub many : ℕ → (ℕ → Bool) → ℕ

@@ -5,7 +5,7 @@ use mathlib.Core.List.{List, [], _∷_}
 use lib.Dec.{ltb, leb, eqb}
 use Rattle.columns.specs.declared.answers.Refusal.{Refusal}
 use Rattle.columns.specs.Answers.{refusal, none}
-use Rattle.columns.specs.Limits.{maxLabels, maxStates, outOfRange, wrongLabels, wrongStates}
+use Rattle.columns.specs.Limits.{maxLabels, maxStates, outOfRange, wrongLabels, wrongStates, noRoom}
 
 -- whether it holds, and the refusal where it fails
 abbrev pub Test : Type 0
@@ -44,6 +44,10 @@ allLong cells (l ∷ lengths) = leb cells l && allLong cells lengths
 abbrev pub Roomy : ℕ → List ℕ → Type 0
 Roomy cells [] = Unit {0}
 Roomy cells (l ∷ lengths) = (cells ≤ l) × Roomy cells lengths
+
+-- 16 with the number needed
+abbrev pub roomTest : ℕ → ℕ → Test
+roomTest needed room = test (leb needed room) noRoom needed
 
 -- 8 for an index that is not below its bound
 abbrev pub indexTest : ℕ → ℕ → Test

@@ -5,7 +5,7 @@ use mathlib.Core.Bool.{Bool, _&&_}
 use mathlib.Core.List.{List}
 use lib.Dec.{ltb, eqb}
 use lib.ListN.{getD, set}
-use Rattle.columns.specs.Tests.{all}
+use Rattle.columns.specs.Counting.{all}
 
 -- b is a's inverse: each of a's first n cells is below n, and b has its place there
 pub record Inverse (a b : List ℕ) (n : ℕ) : Type 0 where

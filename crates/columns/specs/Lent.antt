@@ -2,10 +2,9 @@
 use Prim.Native.Nat.{ℕ}
 use mathlib.Core.List.{List}
 use mathlib.Core.Path.{_≡_}
-use lib.ListN.{length}
 use denote.Ref.{RefT, now}
 use denote.Triple.Both.{Both}
-use Rattle.columns.specs.Columns.{zeros}
+use Rattle.columns.specs.Columns.{cleared}
 
 -- a parameter that is a reference, as an `ensures` sees it
 abbrev pub Lent : Type 0 → Type 0
@@ -21,8 +20,8 @@ is x = now (x .exit)
 
 -- every cell is zero, as a `requires` sees it
 abbrev pub Clear : RefT (List ℕ) → Type 0
-Clear x = now x ≡ zeros (length (now x))
+Clear x = now x ≡ cleared (now x)
 
 -- every cell is zero at return
 abbrev pub Cleared : Lent (List ℕ) → Type 0
-Cleared x = is x ≡ zeros (length (was x))
+Cleared x = is x ≡ cleared (was x)

@@ -1,6 +1,5 @@
 pub mod Answers
 pub mod Determined
-pub mod Tests
 pub mod Counting
 pub mod Columns
 pub mod Inverse

@@ -24,28 +24,6 @@ pub fn clear(a: &mut [u16])
     }
 }
 
-// Every cell of seven columns becomes zero.
-pub fn clear_seven(
-    a: &mut [u16],
-    b: &mut [u16],
-    c: &mut [u16],
-    d: &mut [u16],
-    e: &mut [u16],
-    f: &mut [u16],
-    g: &mut [u16],
-)
-    ensures { λ _. ⌜ Cleared a × Cleared b × Cleared c × Cleared d ⌝ }
-    ensures { λ _. ⌜ Cleared e × Cleared f × Cleared g ⌝ }
-{
-    clear(a);
-    clear(b);
-    clear(c);
-    clear(d);
-    clear(e);
-    clear(f);
-    clear(g);
-}
-
 // The cells of `from` over the first ones of `to`.
 pub fn copy(from: &[u16], to: &mut [u16])
     requires { ⌜ length (now from) ≤ length (now to) ⌝ }

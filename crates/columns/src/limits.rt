@@ -1,4 +1,4 @@
-// The limits of document 01, and the numbers of its refusals: declared here and nowhere else.
+// The limits that document 01 sets to a table, and the numbers of its refusals, for all code.
 
 // How many states, labels and rows a table may have.
 pub const MAX_STATES: usize = 4096;

@@ -9,7 +9,7 @@ use lib.ListN.{length, length-append}
 use lib.Seq.{sets}
 use Rattle.columns.specs.declared.answers.Refusal.{Refusal}
 use Rattle.columns.specs.Columns.{over}
-use Rattle.columns.specs.Due.{statesTest}
+use Rattle.columns.specs.Due.{statesTest, roomTest}
 use Rattle.columns.specs.Limits.{maxStates}
 use Rattle.columns.proofs.Chains.{passed, parted}
 use Rattle.columns.proofs.Rooms.{range-of}
@@ -28,7 +28,6 @@ use Rattle.file.specs.Output.{
   outputContents,
   outputBytes,
   outputSize,
-  roomTest,
   writeRefusal,
 }
 use Rattle.file.proofs.Stores.{sets-then, sets-over, length-words, length-even}

@@ -18,7 +18,8 @@ use Rattle.columns.proofs.Chains.{Holds}
 use Rattle.columns.proofs.Lists.{listed-cong, listed-cells}
 use Rattle.columns.specs.Due.{Roomy}
 use Rattle.columns.proofs.Saying.{left-done}
-use Rattle.table.specs.Lts.{Lts, Valid, rowIn, rowAt}
+use Rattle.columns.specs.Rows.{rowIn}
+use Rattle.table.specs.Lts.{Lts, Valid, rowAt}
 use Rattle.table.specs.Tables.{Three, lengthsOf}
 use Rattle.file.specs.Bytes.{little, bytesOf, words}
 use Rattle.file.specs.Layout.{
@@ -329,7 +330,7 @@ module _ (t : Lts) (blocks r : List ℕ) where
       ∙ ap (λ (x : List ℕ). take tableSize x) (append-assoc (tableBytes t) (words blocks) r)
       ∙ take-at (tableBytes t) (words blocks ++ r) tableSize length-table
 
-  -- So what the writer writes reads back to the same table.
+  -- So header and rows of what the writer writes, with an input's contents before them, read back to the same table.
   pub written-back :
       Valid t → tableIn (inputContents (t .m) ++ take tableSize (drop outputHeader (outputBytes t blocks ++ r))) ≡ cutTo t
   unfolding inputBytes

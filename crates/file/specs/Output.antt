@@ -7,8 +7,7 @@ use lib.ListN.{length, getD, take}
 use Rattle.columns.specs.declared.answers.Refusal.{Refusal}
 use Rattle.columns.specs.Answers.{Said, leaving}
 use Rattle.columns.specs.Columns.{laid, over}
-use Rattle.columns.specs.Due.{Test, test, due, statesTest, Roomy}
-use Rattle.columns.specs.Limits.{noRoom}
+use Rattle.columns.specs.Due.{due, statesTest, Roomy, roomTest}
 use Rattle.table.specs.Lts.{Lts, Valid}
 use Rattle.table.specs.Checks.{rowsLong, badRow, tableTests}
 use Rattle.file.specs.Bytes.{bytesOf, words}
@@ -90,10 +89,6 @@ abbrev pub outputSize : ℕ → ℕ → ℕ
 outputSize m k = outputBlocks m + blockSize * k
 
 -- ---- writing
--- 16, with the number of bytes needed
-abbrev pub roomTest : ℕ → ℕ → Test
-roomTest needed room = test (leb needed room) noRoom needed
-
 -- 1 (for k as for n), 2, 3, 4, 7 (the blocks are a column of k cells), 5, 6 and 16; the blocks and the bytes by their lengths
 unfoldable pub writeRefusal : Lts → ℕ → ℕ → ℕ → Refusal
 unfolding due rowsLong badRow

@@ -1,5 +1,4 @@
-// What other crates call once a file or a table is checked: reading an input file, writing an output file. No entry points: each says what
-// it requires.
+// The work of the calls: reading the rows of an input file, writing an output file. No entry points: each says what it requires.
 ghost use mathlib.Core.Path.{_≡_};
 ghost use Prim.Native.Nat.{_+_, _*_, _≤_, _<_};
 ghost use lib.ListN.{length};
@@ -96,7 +95,7 @@ fn put_entry(kind: usize, offset: usize, size: usize, bytes: &mut [u8], at: usiz
     put_number(size, 4, bytes, at + 6);
 }
 
-// The contents of a file with m rows and k blocks.
+// The contents of an output file with m rows and k source states.
 fn put_contents(m: usize, k: usize, bytes: &mut [u8])
     requires { ⌜ (outputHeader ≤ length (now bytes)) × (m < 65536) × (k < 65536) ⌝ }
     ensures { λ _. ⌜ is bytes ≡ sets (was bytes) 0 (outputContents m k) ⌝ }

@@ -1,4 +1,4 @@
-// Where the parts of a file stand and how long they are, in bytes: declared here and nowhere else.
+// Where the parts of a file stand and how long they are, in bytes, for all code; specs/Layout has the same for the definitions.
 
 // The kinds of a body: the header of a table, its rows, the block of each source state.
 pub const HEADER_KIND: usize = 1;

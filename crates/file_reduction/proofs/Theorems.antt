@@ -10,7 +10,7 @@ use Rattle.bisimulation.specs.Bisimulation.{Match, Bisimilar}
 use Rattle.bisimulation.specs.Quotient.{Belongs}
 use Rattle.columns.specs.Answers.{done, none}
 use Rattle.columns.specs.Columns.{over}
-use Rattle.columns.specs.Due.{due}
+use Rattle.columns.specs.Due.{due, roomTest}
 use Rattle.columns.specs.declared.answers.Refusal.{Refusal}
 use Rattle.columns.proofs.Chains.{Holds, parted, passed-both, goes-on}
 use Rattle.columns.proofs.Doing.{leaving-done}
@@ -18,7 +18,7 @@ use Rattle.columns.proofs.Saying.{left-done}
 use Rattle.file.specs.Bytes.{little}
 use Rattle.file.specs.Input.{tableIn, contentsTests, fileTests, fileRefusal}
 use Rattle.file.specs.Layout.{blockSize}
-use Rattle.file.specs.Output.{FileOf, outputBlocks, outputBytes, roomTest}
+use Rattle.file.specs.Output.{FileOf, outputBlocks, outputBytes}
 use Rattle.file.proofs.Inputs.{accepted-of}
 use Rattle.file.proofs.Outputs.{length-output}
 use Rattle.file.proofs.RoundTrip.{block-back}
@@ -129,7 +129,7 @@ module _ (input output left values : List ℕ) (e : reduceFile input output ≡ 
   pub start-to-start : reduced .initial ≡ blockIn (source .initial)
   start-to-start = D.start-to-start source ∙ sym (block-written (source .initial) (valid .initial))
 
--- the same for a caller that takes the file out of what is left
+-- The bytes written fit the room, as a caller goes by it that takes the file out of what is left.
 pub bytes-fit :
     (input output left : List ℕ) (b : ℕ) (rest : List ℕ) → (done (b ∷ rest), left) ≡ reduceFile input output → b ≤ length left
 bytes-fit input output left b rest e = fits input output left (b ∷ rest) (sym e)

@@ -10,7 +10,7 @@ use lib.ListN.{length, length-append, length-map, getD, take, drop, List·getD-a
 use lib.Seq.{take-at}
 use Rattle.columns.specs.Answers.{refusal, none, leaving}
 use Rattle.columns.specs.Columns.{over}
-use Rattle.columns.specs.Due.{Test, due, allLong}
+use Rattle.columns.specs.Due.{Test, due, allLong, roomTest}
 use Rattle.columns.specs.Limits.{maxRows, maxStates, noRoom}
 use Rattle.columns.specs.Rows.{firstOf, secondOf, thirdOf}
 use Rattle.columns.specs.Sets.{Row}
@@ -20,18 +20,10 @@ use Rattle.columns.proofs.Lists.{over-front}
 use Rattle.columns.proofs.Rooms.{of-roomy}
 use Rattle.file.specs.Bytes.{words}
 use Rattle.file.specs.Input.{headerIn, tableIn, contentsTests, fileTests, fileRefusal}
-use Rattle.file.specs.Output.{headerBytes, rowBytes, rowsBytes, tableBytes, outputContents, outputBytes, outputSize, roomTest}
+use Rattle.file.specs.Output.{headerBytes, rowBytes, rowsBytes, tableBytes, outputContents, outputBytes, outputSize}
 use Rattle.file_reduction.specs.Reducing.{reducedBytes, reduceTable, putFile}
 use Rattle.reduction.proofs.Entries.{length-blocks}
-use Rattle.refinement_strong.specs.Reduction.{
-  strongBlocks,
-  strongBlock,
-  strongRounds,
-  strongCount,
-  strongRows,
-  quotientOf,
-  strongReduced,
-}
+use Rattle.refinement_strong.specs.Reduction.{strongBlocks, strongBlock, strongRounds, strongCount, strongRows, quotientOf, strongReduced}
 use Rattle.refinement_strong.proofs.Reductions.{reduced-valid}
 use Rattle.table.specs.Checks.{tableTests}
 use Rattle.table.specs.Lts.{Lts, lts, Valid}

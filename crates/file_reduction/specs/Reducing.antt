@@ -6,11 +6,11 @@ use lib.ListN.{length}
 use Rattle.bisimulation.specs.Quotient.{quotient}
 use Rattle.columns.specs.Answers.{Said, leaving}
 use Rattle.columns.specs.Columns.{over}
-use Rattle.columns.specs.Due.{Test, due}
+use Rattle.columns.specs.Due.{Test, due, roomTest}
 use Rattle.columns.specs.Rows.{rowsOf}
 use Rattle.file.specs.Bytes.{little}
 use Rattle.file.specs.Input.{headerIn, tableIn, fileTests}
-use Rattle.file.specs.Output.{outputBytes, outputSize, roomTest}
+use Rattle.file.specs.Output.{outputBytes, outputSize}
 use Rattle.refinement.specs.Blocks.{blockCount}
 use Rattle.refinement_strong.specs.Reduction.{strongBlocks, strongRounds, strongCount, strongRows, strongReduced}
 use Rattle.table.specs.Checks.{rowsLong, badRow}

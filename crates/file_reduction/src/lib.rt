@@ -5,12 +5,12 @@ ghost use mathlib.Core.List.{[], _∷_};
 ghost use Prim.Native.Nat.{_<_};
 ghost use lib.ListN.{length};
 ghost use Rattle.columns.specs.Lent.{was, is};
+ghost use Rattle.columns.specs.Columns.{EachLong};
 ghost use Rattle.file.specs.Input.{tableIn, namedEnd};
 ghost use Rattle.file_reduction.specs.Answers.{saidFile};
 ghost use Rattle.file_reduction.specs.Reducing.{putFile, reduceTable, reduceFile};
-ghost use Rattle.reduction.specs.Work.{AllLong};
 ghost use Rattle.refinement_strong.specs.Reduction.{strongBlocks, strongRounds, strongCount, strongRows};
-ghost use Rattle.table.specs.Lent.{ltsNow, ltsOf};
+ghost use Rattle.table.specs.Lent.{ltsNow, ltsOf, rowsWas, rowsAre};
 ghost use Rattle.table.specs.Lts.{RowsLong, Valid};
 ghost use Rattle.table.specs.Tables.{rowsOver};
 
@@ -35,26 +35,28 @@ use table::Table;
 // How many cells a work slice has for the largest table: n + m + 1.
 const WORK: usize = MAX_STATES + MAX_ROWS + 1;
 
-// The reduced rows over the first cells of x, y and z, and the number of each state's block in `block`, which has n cells. The ten work
-// slices are the call's own.
+// The reduced rows over the first cells of the result columns, and the number of each state's block in `block`, which has n cells. The
+// ten work slices are the call's own.
 fn reduce_rows(
     table: Table,
     source: &[u16],
     label: &[u16],
     target: &[u16],
-    x: &mut [u16],
-    y: &mut [u16],
-    z: &mut [u16],
+    result_source: &mut [u16],
+    result_label: &mut [u16],
+    result_target: &mut [u16],
     block: &mut [u16],
 ) -> Reduction
     requires { ⌜ Valid (ltsNow table source label target) × (length (now block) ≡ table .n) ⌝ }
-    requires { ⌜ AllLong (table .m) (now x ∷ now y ∷ now z ∷ []) ⌝ }
+    requires { ⌜ EachLong (table .m) (now «result_source» ∷ now «result_label» ∷ now «result_target» ∷ []) ⌝ }
     ensures { λ r.
         let system = ltsOf table source label target in
         ⌜ (r .count ≡ strongCount system) × (r .rows ≡ length (strongRows system)) × (r .rounds ≡ strongRounds system) ⌝ }
     ensures { λ _.
         let system = ltsOf table source label target in
-        ⌜ (is block ≡ strongBlocks system) × ((is x, (is y, is z)) ≡ rowsOver (strongRows system) (was x, (was y, was z))) ⌝ }
+        let out = rowsWas «result_source» «result_label» «result_target» in
+        let outLeft = rowsAre «result_source» «result_label» «result_target» in
+        ⌜ (is block ≡ strongBlocks system) × (outLeft ≡ rowsOver (strongRows system) out) ⌝ }
 {
     let mut elements = [0u16; WORK];
     let mut element_offset = [0u16; WORK];
@@ -71,9 +73,9 @@ fn reduce_rows(
         source,
         label,
         target,
-        x,
-        y,
-        z,
+        result_source,
+        result_label,
+        result_target,
         block,
         &mut elements,
         &mut element_offset,
@@ -133,9 +135,9 @@ fn reduce_table(
     requires { ⌜ Valid (ltsNow table source label target) ⌝ }
     ensures { λ r. ⌜ (saidFile r, is output) ≡ reduceTable (ltsOf table source label target) (was output) ⌝ }
 {
-    let mut x = [0u16; MAX_ROWS];
-    let mut y = [0u16; MAX_ROWS];
-    let mut z = [0u16; MAX_ROWS];
+    let mut result_source = [0u16; MAX_ROWS];
+    let mut result_label = [0u16; MAX_ROWS];
+    let mut result_target = [0u16; MAX_ROWS];
     let mut block = [0u16; MAX_STATES];
     let n = table.n as usize;
     let initial = table.initial as usize;
@@ -144,9 +146,9 @@ fn reduce_table(
         source,
         label,
         target,
-        &mut x,
-        &mut y,
-        &mut z,
+        &mut result_source,
+        &mut result_label,
+        &mut result_target,
         &mut block[..n],
     );
     let reduced = Table {
@@ -155,7 +157,16 @@ fn reduce_table(
         m: r.rows as u16,
         initial: block[initial],
     };
-    put_file(table, r.rounds, reduced, &x, &y, &z, &block[..n], output)
+    put_file(
+        table,
+        r.rounds,
+        reduced,
+        &result_source,
+        &result_label,
+        &result_target,
+        &block[..n],
+        output,
+    )
 }
 
 // Reads the rows of a file that is checked, and reduces its table.

@@ -2,18 +2,17 @@
 use mathlib.Core.Bool.{true}
 use mathlib.Core.Path.{_≡_, refl}
 use Rattle.columns.specs.Answers.{leaving}
-use Rattle.columns.specs.Counting.{many, first, stores}
+use Rattle.columns.specs.Counting.{many, first, stores, all}
 use Rattle.columns.specs.Due.{due, allLong}
 use Rattle.columns.specs.Inverse.{inverseb, inverseAt}
-use Rattle.columns.specs.Tests.{all}
-use Rattle.partition.specs.Partition.{withinb, blockAt, blocksb, insideb, lieAt, liesb, lengths, consistentb, longb}
+use Rattle.partition.specs.Partition.{withinb, blockAt, boundsb, insideb, lieAt, liesb, lengths, consistentb, longb}
 use Rattle.partition.specs.SwapBlocks.{swap}
 use Rattle.partition_division.specs.Marked.{markedFrom, markedIn, numbered, below, absent, missing, denseb, lenAt}
 use Rattle.partition_division.specs.Divide.{
   numberedBefore,
   start,
   position,
-  unmarkedIn,
+  hasUnmarkedAt,
   home,
   divided,
   largest,
@@ -25,7 +24,7 @@ use Rattle.partition_division.specs.Division.{roomb, refusalFor, divisionRefusa
 use Rattle.listed_cases.specs.Cases.{listedCases, allPass}
 
 pub table-p : allPass listedCases ≡ true
-unfolding allPass listedCases leaving due consistentb longb allLong inverseb inverseAt all blocksb blockAt withinb liesb lieAt
+unfolding allPass listedCases leaving due consistentb longb allLong inverseb inverseAt all boundsb blockAt withinb liesb lieAt
     insideb lengths stores many first swap markedFrom markedIn numbered below absent missing denseb lenAt numberedBefore start position
-    unmarkedIn home divided largest largestOf blockUnmarked partitionMarked divisionRefusal refusalFor roomb
+    hasUnmarkedAt home divided largest largestOf blockUnmarked partitionMarked divisionRefusal refusalFor roomb
 table-p = refl

@@ -50,9 +50,9 @@ answersRows r header left out =
     && (same eqb (r .1 .0 .0) (want .0) && (same eqb (r .1 .0 .1 .0) (want .1 .0) && same eqb (r .1 .0 .1 .1) (want .1 .1)))
 
 pub data Case : Type 0 where
-  -- `partition_marked_with` on block 0, by these numbers
+  -- `partition_marked_with` on block 0, by these numbers; the texts of the partition before and after
   divide : Partition → String → List ℕ → String → Case
-  -- `split_marked` on block 0, by these bytes
+  -- `split_marked` on block 0, by these bytes; the texts of the partition before and after
   split : Partition → String → List ℕ → String → Case
   -- `sort_topological` of a table with n states and these rows, over hidden rows only or not, reversed or not: each state's place
   order : ℕ → List Row → Bool → Bool → List ℕ → Case
@@ -66,6 +66,7 @@ pub data Case : Type 0 where
   -- `is_subset_of`: other in self, without the excluded pair: yes or no
   subset : List Pair → List Pair → Pair → Bool → Case
 
+-- the definitions answer the case as it is listed
 unfoldable pub passes : Case → Bool
 unfolding becomes says answersRows partitionMarkedWith splitMarked sortTopological isSubsetOf tableOf oneBlock quotientLtsNaive
     removeRedundantTransitions strongReduction
@@ -98,6 +99,7 @@ passes (reduction t answer blocks) =
 passes (subset self other excluded answer) =
     says (isSubsetOf (firstOf self) (lastOf self) (firstOf other) (lastOf other) excluded) (bit answer ∷ [])
 
+-- table P, in its order
 unfoldable pub listedCases : List Case
 unfolding oneBlock tableOf
 listedCases =
@@ -126,6 +128,7 @@ listedCases =
     ∷ subset ((1, 0) ∷ (2, 1) ∷ []) ((0, 3) ∷ (2, 1) ∷ []) (0, 2) false
     ∷ []
 
+-- every case passes
 unfoldable pub allPass : List Case → Bool
 unfolding passes
 allPass [] = true

@@ -20,7 +20,8 @@ use Rattle.columns.proofs.Counting.{first-law}
 use Rattle.columns.proofs.Firsts.{NoneBelow, first-hit, first-none, none-of, some-in, some-none}
 use Rattle.columns.proofs.Orders.{pair-order}
 use Rattle.columns.proofs.Risings.{rising-of, ascending-of, of-ascending}
-use Rattle.pairs.specs.Pairs.{endOf, pairAt, badPair, leastTest}
+use Rattle.columns.specs.Rows.{pairAt}
+use Rattle.pairs.specs.Pairs.{endOf, badPair, leastTest}
 use Rattle.pairs.specs.Lists.{startAt, listAt, badStart, badInLists, listsTests, listsRefusal, Starts, Lists}
 use Rattle.pairs.proofs.Refusals.{least-of, of-least, pair-before, pair-above, above-pair}
 

@@ -7,14 +7,14 @@ use mathlib.Core.Path.{_≡_, refl, ap, sym, _∙_}
 use mathlib.Core.List.{List, [], _∷_}
 use lib.Dec.{ltb, leb}
 use Rattle.columns.specs.Counting.{first}
-use Rattle.columns.specs.Rows.{pairsOf}
+use Rattle.columns.specs.Rows.{pairsOf, pairAt}
 use Rattle.columns.specs.Sets.{pairLt, Ascending}
 use Rattle.columns.proofs.Bools.{and-no-left, and-no-right}
 use Rattle.columns.proofs.Chains.{Holds}
 use Rattle.columns.proofs.Firsts.{NoneBelow, first-none, none-of}
 use Rattle.columns.proofs.Orders.{pair-order}
 use Rattle.columns.proofs.Risings.{rising-of, ascending-of, of-ascending}
-use Rattle.pairs.specs.Pairs.{shorter, endOf, pairAt, pairs, badPair, listTest}
+use Rattle.pairs.specs.Pairs.{shorter, endOf, pairs, badPair, listTest}
 
 pub shorter-left : (a b : ℕ) → shorter a b ≤ a
 unfolding shorter

@@ -7,16 +7,16 @@ use mathlib.Core.Logic.{_⊎_, inl, inr, _↔_}
 use mathlib.Core.List.{List, [], _∷_, _++_}
 use Rattle.columns.specs.Answers.{none}
 use Rattle.columns.specs.Due.{Test}
-use Rattle.columns.specs.Rows.{pairsOf}
+use Rattle.columns.specs.Rows.{pairsOf, pairAt}
 use Rattle.columns.specs.Sets.{Mem, Pair, pairLt, pairEq, Ascending}
-use Rattle.columns.specs.Tests.{all}
 use Rattle.columns.proofs.All.{all-at, all-of}
 use Rattle.columns.proofs.Bools.{or-split, or-left, or-right}
 use Rattle.columns.proofs.Chains.{passed-both, holds-both, none-due}
 use Rattle.columns.proofs.Firsts.{some-in, some-out}
 use Rattle.columns.proofs.Risings.{Rising, of-ascending, listed-in, listed-out}
 use Rattle.columns.proofs.Sets.{pairEq-eq, pairEq-refl}
-use Rattle.pairs.specs.Pairs.{endOf, pairAt, pairs, listTest}
+use Rattle.columns.specs.Counting.{all}
+use Rattle.pairs.specs.Pairs.{endOf, pairs, listTest}
 use Rattle.pairs.specs.Subset.{amongPairs, subsetb, subsetRefusal}
 use Rattle.pairs.proofs.Refusals.{list-of, of-list}
 use Rattle.pairs.proofs.Walking.{kept}

@@ -7,9 +7,8 @@ use mathlib.Core.Bool.{Bool, true, false, not, _&&_, _||_}
 use mathlib.Core.Path.{_≡_, ap, sym, _∙_}
 use mathlib.Core.Logic.{⊎-elim}
 use lib.Dec.{leb, ltb}
-use Rattle.columns.specs.Counting.{first, some}
+use Rattle.columns.specs.Counting.{first, some, all}
 use Rattle.columns.specs.Sets.{Pair, pairLt, pairEq}
-use Rattle.columns.specs.Tests.{all}
 use Rattle.columns.proofs.All.{all-none, all-more, all-fails, all-done, top-or-below, lt-or-le}
 use Rattle.columns.proofs.Bools.{contra, fails, and-left, and-right, and-no-left, and-both, or-left, or-right}
 use Rattle.columns.proofs.Counting.{first-law}

@@ -5,20 +5,19 @@ use mathlib.Core.List.{List, [], _∷_}
 use lib.Dec.{ltb}
 use lib.ListN.{getD}
 use Rattle.columns.specs.declared.answers.Refusal.{Refusal}
-use Rattle.columns.specs.Columns.{listed}
 use Rattle.columns.specs.Counting.{first, some}
 use Rattle.columns.specs.Due.{Test, due}
 use Rattle.columns.specs.Sets.{Pair, pairLt, Ascending}
-use Rattle.pairs.specs.Pairs.{shorter, endOf, pairAt, badPair, leastTest}
+use Rattle.columns.specs.Rows.{pairsBetween}
+use Rattle.pairs.specs.Pairs.{shorter, endOf, badPair, leastTest}
 
 abbrev pub startAt : List ℕ → ℕ → ℕ
 startAt starts u = getD starts u 0
 
 -- the pairs of list u, in order
 unfoldable pub listAt : List ℕ → List ℕ → List ℕ → ℕ → List Pair
-unfolding listed pairAt
-listAt starts labels blocks u =
-    listed (startAt starts (u + 1) - startAt starts u) (λ k. pairAt labels blocks (startAt starts u + k))
+unfolding pairsBetween
+listAt starts labels blocks u = pairsBetween labels blocks (startAt starts u) (startAt starts (u + 1))
 
 -- start u lies below the one before, or past the end
 unfoldable pub badStart : List ℕ → ℕ → ℕ → Bool

@@ -3,11 +3,11 @@ use Prim.Native.Nat.{ℕ, _-_}
 use mathlib.Core.Bool.{Bool, not, cond, _&&_}
 use mathlib.Core.List.{List}
 use lib.Dec.{ltb, leb}
-use lib.ListN.{length, getD}
+use lib.ListN.{length}
 use Rattle.columns.specs.Limits.{wrongList}
 use Rattle.columns.specs.Counting.{first}
 use Rattle.columns.specs.Due.{Test, test}
-use Rattle.columns.specs.Rows.{pairsOf}
+use Rattle.columns.specs.Rows.{pairAt, pairsOf}
 use Rattle.columns.specs.Sets.{Pair, pairLt}
 
 -- the shorter of two lengths
@@ -17,10 +17,6 @@ shorter a b = cond (ltb a b) a b
 -- where the list in two columns ends
 abbrev pub endOf : List ℕ → List ℕ → ℕ
 endOf labels blocks = shorter (length labels) (length blocks)
-
--- pair i
-unfoldable pub pairAt : List ℕ → List ℕ → ℕ → Pair
-pairAt labels blocks i = (getD labels i 0, getD blocks i 0)
 
 -- the pairs, in order
 abbrev pub pairs : List ℕ → List ℕ → List Pair

@@ -2,14 +2,14 @@
 use Prim.Native.Nat.{ℕ}
 use mathlib.Core.Bool.{Bool, not, _&&_, _||_}
 use mathlib.Core.List.{List, [], _∷_}
-use lib.Dec.{ltb, leb}
+use lib.Dec.{leb}
 use Rattle.columns.specs.declared.answers.Refusal.{Refusal}
 use Rattle.columns.specs.Answers.{Said, bit, answering}
-use Rattle.columns.specs.Counting.{first, some}
+use Rattle.columns.specs.Counting.{first, some, all}
 use Rattle.columns.specs.Due.{due}
 use Rattle.columns.specs.Sets.{Pair, pairLt, pairEq}
-use Rattle.columns.specs.Tests.{all}
-use Rattle.pairs.specs.Pairs.{shorter, endOf, pairAt, badPair, listTest}
+use Rattle.columns.specs.Rows.{pairAt}
+use Rattle.pairs.specs.Pairs.{shorter, endOf, badPair, listTest}
 
 -- a pair is in a list
 unfoldable pub amongPairs : List ℕ → List ℕ → Pair → Bool

@@ -13,3 +13,4 @@ pub mod Keeping
 pub mod Weaving
 pub mod Joins
 pub mod Examples
+pub mod Theorems

@@ -1,4 +1,4 @@
-// The merge of ascending lists of pairs.
+// The merge of ascending lists of pairs, and the union of two sets of them.
 pub mod heads;
 pub mod left;
 pub mod merge;

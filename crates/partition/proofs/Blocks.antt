@@ -11,14 +11,14 @@ use Rattle.columns.proofs.Chains.{passed}
 use Rattle.columns.proofs.Doing.{answering-done}
 use Rattle.partition.specs.declared.block.Block.{Block}
 use Rattle.partition.specs.Partition.{Within, withinb}
-use Rattle.partition.specs.Block.{blockValues, newBlock, soundb, brokenBlock, len, lenMarked}
+use Rattle.partition.specs.Block.{blockValues, newBlock, boundedb, brokenBlock, len, lenMarked}
 use Rattle.partition.proofs.Holds.{sound-of}
 
 -- a new block from begin to end: begin < end <= 4,096, marked_split from begin to end
 pub record NewBlock (begin end : ℕ) (b : Block) : Type 0 where
   pub begins : b .begin ≡ begin
   pub ends : b .end ≡ end
-  pub sound : soundb b ≡ true
+  pub sound : boundedb b ≡ true
   pub bounds : Within (b .begin) (b .«marked_split») (b .end) maxStates
 
 module _ (begin split end : ℕ) (b : Block) (e : done (blockValues b) ≡ newBlock begin split end) where
@@ -39,9 +39,9 @@ module _ (begin split end : ℕ) (b : Block) (e : done (blockValues b) ≡ newBl
   made-end = cc (given .1)
 
   made : NewBlock begin end b
-  unfolding soundb
+  unfolding boundedb
   made =
-      let t : soundb b ≡ true = rw (made-begin, made-split, made-end) (given .0) in
+      let t : boundedb b ≡ true = rw (made-begin, made-split, made-end) (given .0) in
       record { begins = made-begin; ends = made-end; sound = t; bounds = sound-of b t }
 
 -- `new`: every element is marked

@@ -1,14 +1,14 @@
 -- Laws of `fresh`: what the code writes, and that it is a partition.
-use Prim.Native.Nat.{ℕ, zero, suc, _+_, _-_, _≤_, _<_}
+use Prim.Native.Nat.{ℕ, _+_, _-_, _≤_, _<_}
 use native.Mathlib.Omega.{arith}
-use mathlib.Core.Path.{_≡_, refl, ap, sym, subst, _∙_}
+use mathlib.Core.Path.{_≡_, refl, ap, _∙_}
 use mathlib.Core.List.{List, _++_}
 use lib.ListN.{length, getD, set, take, drop, length-set, getD-replicate, length-replicate}
-use lib.Seq.{length-take-le, getD-set-same}
+use lib.Seq.{getD-set-same}
 use Rattle.columns.specs.Limits.{maxStates}
 use Rattle.columns.specs.Columns.{listed, over, written, wiped, zeros}
 use Rattle.columns.specs.Inverse.{Inverse}
-use Rattle.columns.proofs.Lists.{front-written, wiped-front, written-at, length-written, length-over, listed-const}
+use Rattle.columns.proofs.Lists.{front-written, wiped-front, written-at, length-written, length-over}
 use Rattle.partition.specs.Partition.{Partition, Consistent, Long, Sound, Within, Lies, lengths, parts}
 use Rattle.partition.specs.Fresh.{fresh}
 

@@ -1,15 +1,14 @@
 -- `consistentb` tests `Consistent`: each way.
-use Prim.Native.Nat.{ℕ, zero, suc, _+_, _-_, _≤_, _<_}
-use native.Mathlib.Omega.{arith}
+use Prim.Native.Nat.{ℕ, _-_}
 use borrow.Author.Tests.{ltb-true, leb-true, eqb-true, lt-ltb, le-leb, eq-eqb}
 use mathlib.Core.Bool.{Bool, true, _&&_}
-use mathlib.Core.Path.{_≡_, refl, ap, sym, _∙_}
+use mathlib.Core.Path.{_≡_}
 use mathlib.Core.List.{List, [], _∷_}
 use lib.ListN.{length, getD}
 use lib.Dec.{ltb, leb, eqb}
 use Rattle.columns.specs.Limits.{maxStates}
 use Rattle.partition.specs.declared.block.Block.{Block}
-use Rattle.partition.specs.Block.{soundb}
+use Rattle.partition.specs.Block.{boundedb}
 use Rattle.columns.specs.Inverse.{inverseb}
 use Rattle.columns.proofs.All.{all-at, all-of}
 use Rattle.columns.proofs.Bools.{and-left, and-right, and-both}
@@ -23,7 +22,7 @@ use Rattle.partition.specs.Partition.{
   Long,
   withinb,
   blockAt,
-  blocksb,
+  boundsb,
   insideb,
   lieAt,
   liesb,
@@ -74,7 +73,7 @@ module _ (p : Partition) where
   t-order = inverseb (p .elements) (p .element-offset) (p .n)
 
   t-blocks : Bool
-  t-blocks = blocksb (p .begin) (p .marked-split) (p .end) (p .n) (p .count)
+  t-blocks = boundsb (p .begin) (p .marked-split) (p .end) (p .n) (p .count)
 
   t-lies : Bool
   t-lies = liesb (p .element-offset) (p .element-to-block) (p .begin) (p .end) (p .n) (p .count)
@@ -83,7 +82,7 @@ module _ (p : Partition) where
   t-whole = eqb (lengths (p .begin) (p .end) (p .count)) (p .n)
 
   pub consistent-of : consistentb p ≡ true → Consistent p
-  unfolding consistentb blocksb liesb blockAt t-order t-blocks t-lies t-whole
+  unfolding consistentb boundsb liesb blockAt t-order t-blocks t-lies t-whole
   consistent-of t =
       let t1 = split (leb 1 (p .count)) (leb (p .count) (p .n) && (t-order && (t-blocks && (t-lies && t-whole)))) t in
       let t2 = split (leb (p .count) (p .n)) (t-order && (t-blocks && (t-lies && t-whole))) (t1 .right) in
@@ -103,7 +102,7 @@ module _ (p : Partition) where
       }
 
   pub of-consistent : Consistent p → consistentb p ≡ true
-  unfolding consistentb blocksb liesb blockAt
+  unfolding consistentb boundsb liesb blockAt
   of-consistent h =
       and-both (le-leb _ _ (h .some))
       (and-both (le-leb _ _ (h .most))
@@ -139,6 +138,6 @@ module _ (p : Partition) where
       (h .elements, (h .element-offset, (h .element-to-block, (h .begin, (h .marked-split, (h .end, tt))))))
 
 -- the bounds of a block given alone
-pub sound-of : (b : Block) → soundb b ≡ true → Within (b .begin) (b .«marked_split») (b .end) maxStates
-unfolding soundb
+pub sound-of : (b : Block) → boundedb b ≡ true → Within (b .begin) (b .«marked_split») (b .end) maxStates
+unfolding boundedb
 sound-of b t = within-of (b .begin) (b .«marked_split») (b .end) maxStates t

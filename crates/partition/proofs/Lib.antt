@@ -12,5 +12,6 @@ pub mod Freshness
 pub mod Stretches
 pub mod Sayings
 pub mod Blocks
+pub mod Readings
 pub mod Theorems
 pub mod Determined

@@ -1,6 +1,6 @@
 -- In a consistent partition the blocks' stretches do not overlap: each place of a block's stretch holds a state of that block.
 -- The states of a block lie in its stretch, so there are at most as many as it is long; both add up to n, so they are as many.
-use Prim.Native.Nat.{ℕ, zero, suc, _+_, _-_, _≤_, _<_}
+use Prim.Native.Nat.{ℕ, _-_, _≤_, _<_}
 use native.Mathlib.Omega.{arith}
 use mathlib.Core.Path.{_≡_, refl, ap, sym, _∙_}
 use mathlib.Core.Logic.{⊎-elim}
@@ -26,9 +26,8 @@ use Rattle.columns.proofs.Sums.{
 use Rattle.partition.specs.Partition.{Partition, Consistent, lengths}
 
 pub lengths-sum : (bg en : List ℕ) (m : ℕ) → lengths bg en m ≡ sum (λ b. getD en b 0 - getD bg b 0) m
-unfolding lengths sum
-lengths-sum bg en zero = refl
-lengths-sum bg en (suc m) = ap (λ (x : ℕ). x + (getD en m 0 - getD bg m 0)) (lengths-sum bg en m)
+unfolding lengths
+lengths-sum bg en m = refl
 
 module _ (p : Partition) (h : Consistent p) where
   -- the block of the state at place k

@@ -1,9 +1,6 @@
 -- What an answer that holds a block says determines it.
 use mathlib.Core.Path.{_≡_, ap, sym}
-use native.Mathlib.Omega.{arith}
-use Prim.Native.Nat.{ℕ}
-use mathlib.Core.List.{List, [], _∷_}
-use Rattle.columns.specs.Answers.{done, refused}
+use Rattle.columns.specs.Answers.{done}
 use Rattle.columns.proofs.Saying.{same-refusal, apart}
 use Rattle.partition.specs.declared.block.Block.{Block}
 use Rattle.partition.specs.declared.block.BlockAnswer.{BlockAnswer}

@@ -7,10 +7,10 @@ use mathlib.Core.Bool.{Bool, true, false, cond}
 use mathlib.Core.Logic.{_↔_}
 use mathlib.Core.Path.{_≡_, refl, sym, ap, subst, _∙_}
 use mathlib.Core.List.{List, [], _∷_}
-use lib.ListN.{length, getD, set, length-replicate}
+use lib.ListN.{length, getD, length-replicate}
 use lib.Seq.{getD-set-same}
 use Rattle.columns.specs.Answers.{done}
-use Rattle.columns.specs.Columns.{written, wiped, zeros}
+use Rattle.columns.specs.Columns.{wiped, zeros}
 use Rattle.columns.proofs.Doing.{leaving-done}
 use Rattle.columns.proofs.Lists.{over-front, written-at, zeros-at}
 use Rattle.partition.specs.Partition.{Partition, Consistent, Sound, consistentb}
@@ -26,6 +26,19 @@ use Rattle.partition.proofs.Refusals.{argument-ready, blocks-ready, new
 use Rattle.partition.proofs.SwapKeeps.{swap-block, swap-begin, swap-split, swap-end, swap-consistent, swap-long}
 -- What `new` and `new_unmarked` of a block make meets the bounds that a block given alone is held to, and is all marked, or not at all.
 pub use Rattle.partition.proofs.Blocks.{new-done, new-unmarked-done}
+-- What the readers say of one block, and of a partition.
+pub use Rattle.partition.proofs.Readings.{
+  len-done,
+  len-marked-done,
+  has-marked-done,
+  has-unmarked-done,
+  num-of-blocks-done,
+  len-of-done,
+  block-number-done,
+  is-element-marked-done,
+  read-block-done,
+  iter-block-refusal-done,
+}
 -- That blocks do not overlap follows from their lengths: a state that stands in the stretch of a block is of that block.
 pub use Rattle.partition.proofs.Owned.{owned}
 -- `iter_block` answers the empty part exactly where it is refused.

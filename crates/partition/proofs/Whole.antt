@@ -1,9 +1,8 @@
 -- Two counts of blocks: stretches that hold just their own states add up to n; and a long block leaves room for few others.
 use Prim.Native.Nat.{ℕ, zero, suc, _+_, _-_, _≤_, _<_}
 use native.Mathlib.Omega.{arith}
-use mathlib.Core.Path.{_≡_, refl, ap, sym, subst, _∙_}
-use mathlib.Core.Logic.{_⊎_, inl, inr, ⊎-elim}
-use mathlib.Core.List.{List}
+use mathlib.Core.Path.{_≡_, ap, sym, subst, _∙_}
+use mathlib.Core.Logic.{_⊎_, ⊎-elim}
 use lib.ListN.{getD}
 use Rattle.columns.specs.Counting.{sum}
 use Rattle.columns.specs.Inverse.{Inverse}

@@ -35,14 +35,14 @@ newBlock begin split end =
     answering (due (test (withinb begin split end maxStates) outOfRange end ∷ [])) (begin ∷ split ∷ end ∷ [])
 
 -- the bounds of a block given alone hold
-unfoldable pub soundb : Block → Bool
+unfoldable pub boundedb : Block → Bool
 unfolding withinb
-soundb b = withinb (b .begin) (b .«marked_split») (b .end) maxStates
+boundedb b = withinb (b .begin) (b .«marked_split») (b .end) maxStates
 
 -- 14 where they are broken
 unfoldable pub brokenBlock : Block → Refusal
-unfolding due soundb
-brokenBlock b = due (test (soundb b) inconsistent 0 ∷ [])
+unfolding due boundedb
+brokenBlock b = due (test (boundedb b) inconsistent 0 ∷ [])
 
 unfoldable pub len : Block → Said
 unfolding answering brokenBlock

@@ -23,7 +23,7 @@ unfoldable pub partitionRefusal : Partition → Refusal
 unfolding due longb consistentb
 partitionRefusal p = due (partitionTests p true)
 
--- with an argument as well, which is below a bound
+-- with an argument as well, which must be below a bound
 unfoldable pub argumentRefusal : Partition → ℕ → ℕ → Bool → Refusal
 unfolding due longb consistentb
 argumentRefusal p i bound room = due (partitionTests p room ++ (indexTest i bound ∷ []))

@@ -1,5 +1,5 @@
 -- When six columns hold a partition of n states into count blocks.
-use Prim.Native.Nat.{ℕ, zero, suc, _+_, _-_, _≤_, _<_}
+use Prim.Native.Nat.{ℕ, _-_, _≤_, _<_}
 use mathlib.Core.Bool.{Bool, _&&_}
 use mathlib.Core.List.{List, [], _∷_}
 use mathlib.Core.Path.{_≡_}
@@ -7,10 +7,11 @@ use lib.ListN.{length, getD}
 use lib.Dec.{ltb, leb, eqb}
 use Rattle.columns.specs.Limits.{maxStates}
 use Rattle.columns.specs.Due.{allLong}
-use Rattle.columns.specs.Tests.{all}
 use Rattle.columns.specs.Inverse.{Inverse, inverseb}
+use Rattle.columns.specs.Columns.{lengthIn}
+use Rattle.columns.specs.Counting.{sum, all}
 
--- Six columns, of which the first n cells hold states and the first count cells blocks.
+-- Six columns: the first n cells of the three that have a cell for each state count, and the first `count` cells of the three for blocks.
 pub record Partition : Type 0 where
   pub elements : List ℕ
   pub element-offset : List ℕ
@@ -40,8 +41,8 @@ pub record Lies (p : Partition) (s : ℕ) : Type 0 where
 
 -- the lengths of the first blocks, added up
 unfoldable pub lengths : List ℕ → List ℕ → ℕ → ℕ
-lengths begin end zero = 0
-lengths begin end (suc b) = lengths begin end b + (getD end b 0 - getD begin b 0)
+unfolding sum lengthIn
+lengths begin end count = sum (lengthIn begin end) count
 
 -- 1..n blocks; elements a permutation and offsets its inverse; each block's bounds; each state's position in its block; lengths
 -- that add up to n
@@ -76,8 +77,8 @@ withinb x m z n = ltb x z && (leb x m && (leb m z && leb z n))
 unfoldable pub blockAt : List ℕ → List ℕ → List ℕ → ℕ → ℕ → Bool
 blockAt begin split end n b = withinb (getD begin b 0) (getD split b 0) (getD end b 0) n
 
-unfoldable pub blocksb : List ℕ → List ℕ → List ℕ → ℕ → ℕ → Bool
-blocksb begin split end n count = all count (blockAt begin split end n)
+unfoldable pub boundsb : List ℕ → List ℕ → List ℕ → ℕ → ℕ → Bool
+boundsb begin split end n count = all count (blockAt begin split end n)
 
 unfoldable pub insideb : ℕ → ℕ → ℕ → Bool
 insideb x o z = leb x o && ltb o z
@@ -95,7 +96,7 @@ consistentb p =
     leb 1 (p .count)
     && (leb (p .count) (p .n)
     && (inverseb (p .elements) (p .element-offset) (p .n)
-    && (blocksb (p .begin) (p .marked-split) (p .end) (p .n) (p .count)
+    && (boundsb (p .begin) (p .marked-split) (p .end) (p .n) (p .count)
     && (liesb (p .element-offset) (p .element-to-block) (p .begin) (p .end) (p .n) (p .count)
     && eqb (lengths (p .begin) (p .end) (p .count)) (p .n)))))
 

@@ -1,7 +1,7 @@
 // One block, by value: the positions begin..end of the element list, of which marked_split..end are marked.
 ghost use mathlib.Core.Path.{_≡_};
 ghost use Rattle.columns.specs.Answers.{saidNumber, saidFlag};
-ghost use Rattle.partition.specs.Block.{saidBlock, newBlock, soundb, len, lenMarked, hasMarked, hasUnmarked};
+ghost use Rattle.partition.specs.Block.{saidBlock, newBlock, boundedb, len, lenMarked, hasMarked, hasUnmarked};
 use crate::checks::within;
 use columns::answers::FlagAnswer;
 use columns::answers::NumberAnswer;
@@ -73,7 +73,7 @@ impl Block {
 
     // Whether the bounds hold.
     fn sound(self) -> bool
-        ensures { λ r. ⌜ r ≡ soundb self ⌝ }
+        ensures { λ r. ⌜ r ≡ boundedb self ⌝ }
     {
         within(
             self.begin as usize,

@@ -5,7 +5,7 @@ ghost use Prim.Native.Nat.{_≤_, _<_};
 ghost use lib.ListN.{length};
 ghost use Rattle.columns.specs.Due.{due};
 ghost use Rattle.columns.specs.Inverse.{inverseb};
-ghost use Rattle.partition.specs.Partition.{withinb, insideb, blockAt, blocksb, lieAt, liesb, lengths, consistentb, longb};
+ghost use Rattle.partition.specs.Partition.{withinb, insideb, blockAt, boundsb, lieAt, liesb, lengths, consistentb, longb};
 ghost use Rattle.partition.specs.Checks.{sizeTests, partitionTests, argumentRefusal, blocksRefusal};
 ghost use Rattle.columns.specs.Lent.{was};
 ghost use Rattle.partition.specs.Lent.{before};
@@ -65,7 +65,7 @@ fn block_at(n: usize, begin: &[u16], marked_split: &[u16], end: &[u16], b: usize
 // Whether the bounds of the first count blocks hold.
 fn blocks_ok(n: usize, count: usize, begin: &[u16], marked_split: &[u16], end: &[u16]) -> bool
     requires { ⌜ (count ≤ length (now begin)) × (count ≤ length (now «marked_split»)) × (count ≤ length (now end)) ⌝ }
-    ensures { λ r. ⌜ r ≡ blocksb (was begin) (was «marked_split») (was end) n count ⌝ }
+    ensures { λ r. ⌜ r ≡ boundsb (was begin) (was «marked_split») (was end) n count ⌝ }
 {
     let mut b = 0;
     while b < count {

@@ -1,9 +1,7 @@
 -- What an answer that holds a partition says determines it.
 use mathlib.Core.Path.{_≡_, ap, sym}
-use native.Mathlib.Omega.{arith}
-use Prim.Native.Nat.{ℕ}
-use mathlib.Core.List.{List, [], _∷_}
-use Rattle.columns.specs.Answers.{done, refused}
+use mathlib.Core.List.{[], _∷_}
+use Rattle.columns.specs.Answers.{done}
 use Rattle.columns.proofs.Saying.{same-refusal, apart}
 use Rattle.partition_calls.specs.declared.BlockPartition.{BlockPartition}
 use Rattle.partition_calls.specs.declared.PartitionAnswer.{PartitionAnswer}

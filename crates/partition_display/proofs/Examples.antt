@@ -4,10 +4,10 @@ use mathlib.Core.Path.{_≡_, refl}
 use mathlib.Core.List.{[], _∷_}
 use lib.ListN.{replicate}
 use Rattle.columns.specs.Due.{allLong}
-use Rattle.columns.specs.Tests.{all}
 use Rattle.columns.specs.Inverse.{inverseAt, inverseb}
 use Rattle.columns.specs.Answers.{done, refused}
-use Rattle.partition.specs.Partition.{Partition, parts, withinb, blockAt, blocksb, insideb, lieAt, liesb, lengths}
+use Rattle.columns.specs.Counting.{all}
+use Rattle.partition.specs.Partition.{Partition, parts, withinb, blockAt, boundsb, insideb, lieAt, liesb, lengths}
 use Rattle.partition_display.specs.Display.{decimal, displayText, displayed}
 
 -- 0, 10, 907, 4095
@@ -42,5 +42,5 @@ calls :
     ∷ (done (5 ∷ []), 123 ∷ 123 ∷ 48 ∷ 125 ∷ 125 ∷ [])
     ∷ (refused 16 5, 7 ∷ 7 ∷ 7 ∷ 7 ∷ [])
     ∷ []
-unfolding displayed two one all inverseAt inverseb withinb blockAt blocksb insideb lieAt liesb lengths allLong
+unfolding displayed two one all inverseAt inverseb withinb blockAt boundsb insideb lieAt liesb lengths allLong
 calls = refl

@@ -7,12 +7,12 @@ use mathlib.Core.List.{List, [], _∷_}
 use mathlib.Core.Path.{_≡_, refl, ap, _∙_}
 use lib.ListN.{length}
 use Rattle.columns.specs.declared.answers.Refusal.{Refusal}
-use Rattle.columns.specs.Due.{due}
+use Rattle.columns.specs.Due.{due, roomTest}
 use Rattle.columns.proofs.Chains.{Holds, passed, passed-both, goes-on, ends}
 use Rattle.partition.specs.Checks.{partitionTests}
 use Rattle.partition.specs.Partition.{Partition, Sound}
 use Rattle.partition.proofs.Refusals.{checked-of}
-use Rattle.partition_display.specs.Display.{displayText, textTest, displayRefusal}
+use Rattle.partition_display.specs.Display.{displayText, displayRefusal}
 use Rattle.partition_display.specs.Writing.{Wrote, Readable}
 use Rattle.partition_display.proofs.Writes.{wrote-size}
 
@@ -28,9 +28,9 @@ readable-of p s =
 
 -- the call's checks have answered t
 module _ (p : Partition) (room : ℕ) (t : Refusal) (e : t ≡ displayRefusal p room) (z : t .number ≡ 0) where
-  held : Holds (partitionTests p true) × Holds (textTest (length (displayText p)) room ∷ [])
+  held : Holds (partitionTests p true) × Holds (roomTest (length (displayText p)) room ∷ [])
   unfolding displayRefusal
-  held = passed-both (partitionTests p true) (textTest (length (displayText p)) room ∷ []) refl t e z
+  held = passed-both (partitionTests p true) (roomTest (length (displayText p)) room ∷ []) refl t e z
 
   pub display-reads : Readable (p .elements) (p .begin) (p .marked-split) (p .end) (p .count)
   display-reads = readable-of p (checked-of p true (held .0) .sound)
@@ -42,14 +42,14 @@ module _ (p : Partition) (room : ℕ) (t : Refusal) (e : t ≡ displayRefusal p 
 module _ (p : Partition) (room : ℕ) (t : Refusal) (e : t ≡ due (partitionTests p true)) where
   pub display-out : (t .number ≡ 0 → ⊥) → t ≡ displayRefusal p room
   unfolding displayRefusal
-  display-out n = ends (partitionTests p true) (textTest (length (displayText p)) room ∷ []) refl t e n
+  display-out n = ends (partitionTests p true) (roomTest (length (displayText p)) room ∷ []) refl t e n
 
   module _ (z : t .number ≡ 0) where
     pub checked-reads : Readable (p .elements) (p .begin) (p .marked-split) (p .end) (p .count)
     checked-reads = readable-of p (checked-of p true (passed (partitionTests p true) refl t e z) .sound)
 
-    pub display-on : {l m : List ℕ} {next : ℕ} → Wrote l 0 (displayText p) m next → due (textTest next room ∷ []) ≡ displayRefusal p room
+    pub display-on : {l m : List ℕ} {next : ℕ} → Wrote l 0 (displayText p) m next → due (roomTest next room ∷ []) ≡ displayRefusal p room
     unfolding displayRefusal
     display-on w =
-        ap (λ (k : ℕ). due (textTest k room ∷ [])) (wrote-size w)
-        ∙ goes-on (partitionTests p true) (textTest (length (displayText p)) room ∷ []) refl t e z
+        ap (λ (k : ℕ). due (roomTest k room ∷ [])) (wrote-size w)
+        ∙ goes-on (partitionTests p true) (roomTest (length (displayText p)) room ∷ []) refl t e z

@@ -10,10 +10,11 @@ use Rattle.columns.specs.Columns.{over}
 use Rattle.columns.proofs.Chains.{passed-both}
 use Rattle.columns.proofs.Doing.{leaving-done}
 use Rattle.columns.proofs.Lists.{take-over}
+use Rattle.columns.specs.Due.{roomTest}
 use Rattle.partition.specs.Checks.{partitionTests}
 use Rattle.partition.specs.Partition.{Partition, Sound}
 use Rattle.partition.proofs.Refusals.{checked-of}
-use Rattle.partition_display.specs.Display.{displayText, textTest, displayRefusal, displayed}
+use Rattle.partition_display.specs.Display.{displayText, displayRefusal, displayed}
 -- No two numbers below 10,000 have the same digits.
 pub use Rattle.partition_display.proofs.Digits.{decimal-reads}
 
@@ -31,7 +32,7 @@ unfolding displayed displayRefusal
 display-done p text values left e =
     let r = displayRefusal p (length text) in
     let k = leaving-done r text left (over (displayText p) text) values (length (displayText p) ∷ []) e in
-    let h = passed-both (partitionTests p true) (textTest (length (displayText p)) (length text) ∷ []) refl r refl (k .0) in
+    let h = passed-both (partitionTests p true) (roomTest (length (displayText p)) (length text) ∷ []) refl r refl (k .0) in
     record {
       sound = checked-of p true (h .0) .sound;
       answer = k .1;

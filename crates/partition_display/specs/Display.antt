@@ -5,9 +5,8 @@ use mathlib.Core.Bool.{cond, true}
 use mathlib.Core.List.{List, [], _∷_, _++_}
 use lib.ListN.{length, getD}
 use lib.Dec.{ltb, leb, eqb}
-use Rattle.columns.specs.Limits.{noRoom}
 use Rattle.columns.specs.declared.answers.Refusal.{Refusal}
-use Rattle.columns.specs.Due.{Test, test, due}
+use Rattle.columns.specs.Due.{due, roomTest}
 use Rattle.columns.specs.Answers.{Said, leaving}
 use Rattle.columns.specs.Columns.{over}
 use Rattle.partition.specs.Partition.{Partition, longb, consistentb}
@@ -55,14 +54,10 @@ unfoldable pub displayText : Partition → List ℕ
 unfolding blocksText
 displayText p = blocksText (p .elements) (p .begin) (p .marked-split) (p .end) (p .count)
 
--- 16 with the number of bytes needed
-abbrev pub textTest : ℕ → ℕ → Test
-textTest needed room = test (leb needed room) noRoom needed
-
 -- 1, 7, 14, 16
 unfoldable pub displayRefusal : Partition → ℕ → Refusal
 unfolding due longb consistentb displayText
-displayRefusal p room = due (partitionTests p true ++ (textTest (length (displayText p)) room ∷ []))
+displayRefusal p room = due (partitionTests p true ++ (roomTest (length (displayText p)) room ∷ []))
 
 -- the text over the first bytes, and its length as the answer
 unfoldable pub displayed : Partition → List ℕ → Said × List ℕ

@@ -1,21 +1,21 @@
 -- What `divided` leaves, cell by cell; and it leaves a consistent partition.
 use Prim.Native.Nat.{ℕ, zero, suc, _+_, _-_, _≤_, _<_}
 use native.Mathlib.Omega.{arith}
-use borrow.Author.Tests.{eq-eqb, ne-eqb, eqb-true, eqb-false, lt-ltb, le-ltb, ltb-true, ltb-false}
-use mathlib.Core.Bool.{Bool, true, false, cond, _&&_}
+use borrow.Author.Tests.{eq-eqb, ne-eqb, lt-ltb, ltb-true}
+use mathlib.Core.Bool.{Bool, true, false}
 use mathlib.Core.Path.{_≡_, refl, ap, sym, subst, _∙_}
 use mathlib.Core.Logic.{_⊎_, inl, inr, ⊎-elim}
 use mathlib.Core.List.{List}
-use lib.ListN.{length, getD, set, length-set}
+use lib.ListN.{getD, set, length-set}
 use lib.Seq.{getD-set-same, getD-set-other}
-use lib.Dec.{eqb, ltb}
+use lib.Dec.{ltb}
 use Rattle.columns.specs.Inverse.{Inverse}
 use Rattle.columns.proofs.All.{same-or-not, lt-or-le}
 use Rattle.columns.proofs.Bools.{cases, contra}
 use Rattle.columns.proofs.Inverses.{other-way}
 use Rattle.columns.proofs.Stores.{stores-hit, stores-miss, length-stores}
 use Rattle.partition_passes.specs.Passes.{homeBy}
-use Rattle.partition_division.specs.Divide.{start, position, unmarkedIn, home, divided}
+use Rattle.partition_division.specs.Divide.{start, position, hasUnmarkedAt, home, divided}
 use Rattle.partition_division.specs.Marked.{markedIn, missing, denseb}
 use Rattle.partition.specs.Partition.{Partition, Consistent, Long, Within, Lies}
 use Rattle.partition_division.proofs.Marked.{
@@ -38,24 +38,24 @@ use Rattle.partition.proofs.Whole.{whole-of, room}
 
 -- ---- home, the block of a number
 module _ (p : Partition) (b k : ℕ) where
-  pub home-end : unmarkedIn p b ≡ true → home p b k ≡ p .count + k
+  pub home-end : hasUnmarkedAt p b ≡ true → home p b k ≡ p .count + k
   unfolding home homeBy
   home-end u = rw u
 
-  pub home-zero : unmarkedIn p b ≡ false → k ≡ 0 → home p b k ≡ b
+  pub home-zero : hasUnmarkedAt p b ≡ false → k ≡ 0 → home p b k ≡ b
   unfolding home homeBy
   home-zero u e = rw (u, eq-eqb k 0 e)
 
-  pub home-new : unmarkedIn p b ≡ false → (k ≡ 0 → ⊥) → home p b k ≡ p .count + k - 1
+  pub home-new : hasUnmarkedAt p b ≡ false → (k ≡ 0 → ⊥) → home p b k ≡ p .count + k - 1
   unfolding home homeBy
   home-new u e = rw (u, ne-eqb k 0 e)
 
-  pub home-where : 1 ≤ p .count → ((home p b k ≡ b) × ((unmarkedIn p b ≡ false) × (k ≡ 0))) ⊎ (p .count ≤ home p b k)
+  pub home-where : 1 ≤ p .count → ((home p b k ≡ b) × ((hasUnmarkedAt p b ≡ false) × (k ≡ 0))) ⊎ (p .count ≤ home p b k)
   home-where h =
       ⊎-elim (λ u. inr (omega (arith, home-end u)))
       (λ u.
       ⊎-elim (λ e. inl (home-zero u e, (u, e))) (λ m. inr (omega (arith, home-new u m, m))) (same-or-not k 0))
-      (cases (unmarkedIn p b))
+      (cases (hasUnmarkedAt p b))
 
 module _ (p : Partition) (b : ℕ) (h : 1 ≤ p .count) (hb : b < p .count) where
   pub home-only : (j k : ℕ) → home p b j ≡ home p b k → j ≡ k
@@ -70,7 +70,7 @@ module _ (p : Partition) (b : ℕ) (h : 1 ≤ p .count) (hb : b < p .count) wher
       ⊎-elim (λ (c : k ≡ 0). absurd (omega (arith, home-new p b j u a, home-zero p b k u c, e, a)))
       (λ (c : k ≡ 0 → ⊥). omega (arith, home-new p b j u a, home-new p b k u c, e, a, c)) (same-or-not k 0))
       (same-or-not j 0))
-      (cases (unmarkedIn p b))
+      (cases (hasUnmarkedAt p b))
 
   pub home-grows : (k m : ℕ) → k < m → home p b k < home p b m
   home-grows k m w =
@@ -78,7 +78,7 @@ module _ (p : Partition) (b : ℕ) (h : 1 ≤ p .count) (hb : b < p .count) wher
       (λ u.
       ⊎-elim (λ (a : k ≡ 0). omega (arith, home-zero p b k u a, home-new p b m u (λ q. omega (arith, w, q))))
       (λ (a : k ≡ 0 → ⊥). omega (arith, home-new p b k u a, home-new p b m u (λ q. omega (arith, w, q)), a)) (same-or-not k 0))
-      (cases (unmarkedIn p b))
+      (cases (hasUnmarkedAt p b))
 
 -- a block of the divided partition: that of a number, or one of old
 record Newly (p : Partition) (b : ℕ) (v : List ℕ) (j : ℕ) : Type 0 where
@@ -89,7 +89,7 @@ record Newly (p : Partition) (b : ℕ) (v : List ℕ) (j : ℕ) : Type 0 where
 record Still (p : Partition) (b : ℕ) (j : ℕ) : Type 0 where
   known : j < p .count
   apart : (k : ℕ) → home p b k ≡ j → ⊥
-  kept : j ≡ b → unmarkedIn p b ≡ true
+  kept : j ≡ b → hasUnmarkedAt p b ≡ true
 
 module _ (p : Partition) (b : ℕ) (v : List ℕ) (h : Consistent p) (g : Long p) (hb : b < p .count)
     (mk : getD (p .marked-split) b 0 < getD (p .end) b 0) (d : denseb p b v ≡ true) where
@@ -111,7 +111,7 @@ module _ (p : Partition) (b : ℕ) (v : List ℕ) (h : Consistent p) (g : Long p
 
   -- there is room for the new blocks
   pub count-most : home p b (missing p b v) ≤ p .n
-  unfolding unmarkedIn
+  unfolding hasUnmarkedAt
   count-most =
       let r = room p h b hb in
       let s = steps (missing p b v) (omega arith) in
@@ -154,10 +154,10 @@ module _ (p : Partition) (b : ℕ) (v : List ℕ) (h : Consistent p) (g : Long p
       ⊎-elim
       (λ (e : j ≡ b).
       ⊎-elim
-      (λ (u : unmarkedIn p b ≡ true).
+      (λ (u : hasUnmarkedAt p b ≡ true).
       inr (record { known = o; apart = λ k q. omega (arith, o, q, home-end p b k u); kept = λ _. u }))
-      (λ (u : unmarkedIn p b ≡ false). inl (record { number = 0; small = some-number; is = home-zero p b 0 u refl ∙ sym e }))
-      (cases (unmarkedIn p b)))
+      (λ (u : hasUnmarkedAt p b ≡ false). inl (record { number = 0; small = some-number; is = home-zero p b 0 u refl ∙ sym e }))
+      (cases (hasUnmarkedAt p b)))
       (λ (m : j ≡ b → ⊥).
       inr (record {
         known = o;
@@ -167,19 +167,19 @@ module _ (p : Partition) (b : ℕ) (v : List ℕ) (h : Consistent p) (g : Long p
       (same-or-not j b))
       (λ (o : p .count ≤ j).
       ⊎-elim
-      (λ (u : unmarkedIn p b ≡ true).
+      (λ (u : hasUnmarkedAt p b ≡ true).
       inl (record {
         number = j - p .count;
         small = omega (arith, w, o, home-end p b (missing p b v) u);
         is = home-end p b (j - p .count) u ∙ omega (arith, o);
       }))
-      (λ (u : unmarkedIn p b ≡ false).
+      (λ (u : hasUnmarkedAt p b ≡ false).
       inl (record {
         number = j - p .count + 1;
         small = omega (arith, w, o, home-new p b (missing p b v) u (λ q. omega (arith, some-number, q)));
         is = home-new p b (j - p .count + 1) u (λ q. omega arith) ∙ omega (arith, o);
       }))
-      (cases (unmarkedIn p b)))
+      (cases (hasUnmarkedAt p b)))
       (lt-or-le j (p .count))
 
   -- ---- the table's cells
@@ -310,7 +310,7 @@ module _ (p : Partition) (b : ℕ) (v : List ℕ) (h : Consistent p) (g : Long p
 
   still-bounds : (j : ℕ) → Still p b j
       → Within (getD (divided p b v .begin) j 0) (getD (divided p b v .marked-split) j 0) (getD (divided p b v .end) j 0) (p .n)
-  unfolding unmarkedIn
+  unfolding hasUnmarkedAt
   still-bounds j t =
       let x = begin-still j (t .apart) in
       let y = split-still j (t .apart) in
@@ -344,8 +344,8 @@ module _ (p : Partition) (b : ℕ) (v : List ℕ) (h : Consistent p) (g : Long p
   -- an unmarked state of block b
   pub unmarked-there : (s : ℕ) → s < p .n → markedIn p b s ≡ false → getD (p .element-to-block) s 0 ≡ b
       → (getD (p .begin) b 0 ≤ getD (p .element-offset) s 0) ×
-      ((getD (p .element-offset) s 0 < getD (p .marked-split) b 0) × (unmarkedIn p b ≡ true))
-  unfolding unmarkedIn
+      ((getD (p .element-offset) s 0 < getD (p .marked-split) b 0) × (hasUnmarkedAt p b ≡ true))
+  unfolding hasUnmarkedAt
   unmarked-there s w y e =
       let f : getD (p .begin) b 0 ≤ getD (p .element-offset) s 0 =
       subst (λ (x : ℕ). getD (p .begin) x 0 ≤ getD (p .element-offset) s 0) e (h .lies s w .from) in
@@ -363,7 +363,7 @@ module _ (p : Partition) (b : ℕ) (v : List ℕ) (h : Consistent p) (g : Long p
         kept = λ e. absurd (m e);
       }
 
-  left-still : unmarkedIn p b ≡ true → Still p b b
+  left-still : hasUnmarkedAt p b ≡ true → Still p b b
   left-still u = record { known = hb; apart = λ k q. omega (arith, hb, q, home-end p b k u); kept = λ _. u }
 
   lies : (s : ℕ) → s < p .n → Lies (divided p b v) s

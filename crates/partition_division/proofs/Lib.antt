@@ -8,6 +8,5 @@ pub mod PartitionMarked
 pub mod Others
 pub mod Unfit
 pub mod Theorems
-pub mod Examples
 pub mod Sayings
 pub mod Determined

@@ -2,11 +2,11 @@
 -- number of blocks grows by exactly the blocks made.
 use Prim.Native.Nat.{ℕ, _+_, _-_, _≤_, _<_}
 use native.Mathlib.Omega.{arith}
-use mathlib.Core.Bool.{Bool, true, false, cond}
+use mathlib.Core.Bool.{true, false}
 use mathlib.Core.Path.{_≡_, refl, ap, sym, subst, _∙_}
-use mathlib.Core.Logic.{_⊎_, inl, inr, ⊎-elim}
+use mathlib.Core.Logic.{_⊎_, ⊎-elim}
 use mathlib.Core.List.{List}
-use lib.ListN.{getD, set}
+use lib.ListN.{getD}
 use lib.Seq.{getD-set-other}
 use Rattle.columns.specs.Limits.{maxStates}
 use Rattle.columns.proofs.All.{same-or-not}
@@ -17,7 +17,7 @@ use Rattle.partition.proofs.SwapKeeps.{swap-begin, swap-split, swap-end}
 use Rattle.partition.proofs.SwapLaws.{exchange-other}
 use Rattle.partition_division.specs.Marked.{markedIn, missing, denseb, lenAt}
 use Rattle.partition_division.specs.Steps.{Dividable}
-use Rattle.partition_division.specs.Divide.{position, unmarkedIn, home, divided, largestOf, blockUnmarked, partitionMarked}
+use Rattle.partition_division.specs.Divide.{position, hasUnmarkedAt, home, divided, largestOf, blockUnmarked, partitionMarked}
 use Rattle.partition_division.proofs.Marked.{place-least, place-most}
 use Rattle.partition_division.proofs.Divided.{
   home-where,
@@ -128,11 +128,11 @@ module _ (p : Partition) (b : ℕ) (v : List ℕ) (y : Dividable p b v) where
   count-alone e = ap (λ (r : Partition). r .count) (by-one p b v y e)
 
   -- each number makes one where something is unmarked; where nothing is, number 0 keeps the index
-  pub count-marked : (lenAt p b ≡ 1 → ⊥) → unmarkedIn p b ≡ true → partitionMarked p b v .count ≡ p .count + missing p b v
+  pub count-marked : (lenAt p b ≡ 1 → ⊥) → hasUnmarkedAt p b ≡ true → partitionMarked p b v .count ≡ p .count + missing p b v
   unfolding divided swap
   count-marked m u = ap (λ (r : Partition). r .count) (by-more p b v y m) ∙ home-end p b (missing p b v) u
 
-  pub count-all : (lenAt p b ≡ 1 → ⊥) → unmarkedIn p b ≡ false → partitionMarked p b v .count ≡ p .count + missing p b v - 1
+  pub count-all : (lenAt p b ≡ 1 → ⊥) → hasUnmarkedAt p b ≡ false → partitionMarked p b v .count ≡ p .count + missing p b v - 1
   unfolding divided swap
   count-all m u =
       ap (λ (r : Partition). r .count) (by-more p b v y m)

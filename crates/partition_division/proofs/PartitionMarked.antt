@@ -1,20 +1,19 @@
 -- What `partitionMarked` promises to the crates above: consistency, each state's new block, and that the old index holds a largest result.
-use Prim.Native.Nat.{ℕ, zero, suc, _+_, _-_, _≤_, _<_}
+use Prim.Native.Nat.{ℕ, _+_, _-_, _≤_, _<_}
 use native.Mathlib.Omega.{arith}
-use borrow.Author.Tests.{eq-eqb, ne-eqb, eqb-true, eqb-false}
-use mathlib.Core.Bool.{Bool, true, false, cond, _&&_}
+use borrow.Author.Tests.{eq-eqb, ne-eqb}
+use mathlib.Core.Bool.{true, false}
 use mathlib.Core.Path.{_≡_, refl, ap, sym, subst, _∙_}
 use mathlib.Core.Logic.{_⊎_, inl, inr, ⊎-elim}
 use mathlib.Core.List.{List}
 use lib.ListN.{length, getD, set, length-set}
 use lib.Seq.{getD-set-same, getD-set-other}
-use lib.Dec.{eqb}
 use Rattle.columns.specs.Counting.{first}
-use Rattle.columns.specs.Tests.{all}
 use Rattle.columns.proofs.All.{same-or-not}
 use Rattle.columns.proofs.Bools.{cases, contra}
+use Rattle.columns.specs.Columns.{lengthIn}
 use Rattle.partition_division.specs.Divide.{home, divided, largest, largestOf, blockUnmarked, partitionMarked}
-use Rattle.partition_passes.specs.Passes.{largestIn, lengthIn}
+use Rattle.partition_passes.specs.Passes.{largestIn}
 use Rattle.partition_division.specs.Marked.{markedIn, missing, denseb, lenAt}
 use Rattle.partition_division.specs.Steps.{Dividable}
 use Rattle.partition.specs.Partition.{Partition, parts, Consistent, Long, Sound}

@@ -1,8 +1,5 @@
 -- What an answer of `partition_marked_with` says determines it.
 use mathlib.Core.Path.{_≡_, ap, sym}
-use Prim.Native.Nat.{ℕ}
-use mathlib.Core.List.{List, [], _∷_}
-use Rattle.columns.specs.Answers.{done}
 use Rattle.columns.proofs.Saying.{same-refusal, apart}
 use Rattle.partition_division.specs.declared.DivisionAnswer.{DivisionAnswer}
 use Rattle.partition_division.specs.declared.DivisionOutcome.{DivisionOutcome}

@@ -11,17 +11,16 @@ use Rattle.columns.specs.Limits.{notDense, nothingMarked}
 use Rattle.columns.specs.declared.answers.Refusal.{Refusal}
 use Rattle.columns.specs.Answers.{refusal, none}
 use Rattle.columns.specs.Due.{due, indexTest, allLong, Roomy}
-use Rattle.columns.specs.Counting.{first}
-use Rattle.columns.specs.Tests.{all}
+use Rattle.columns.specs.Counting.{first, all}
 use Rattle.columns.proofs.Bools.{and-left, and-right}
 use Rattle.columns.proofs.Chains.{passed-both}
 use Rattle.columns.proofs.Rooms.{roomy-of}
+use Rattle.columns.specs.Columns.{lengthIn}
 use Rattle.partition.specs.Partition.{Partition}
 use Rattle.partition.specs.Checks.{partitionTests}
 use Rattle.partition.proofs.Refusals.{checked-of}
 use Rattle.partition_division.specs.Marked.{markedFrom, markedIn, numbered, absent, missing, denseb, lenAt}
 use Rattle.partition_division.specs.Steps.{Dividable}
-use Rattle.partition_passes.specs.Passes.{lengthIn}
 use Rattle.partition_passes.specs.Invariants.{tallied}
 use Rattle.partition_division.specs.Division.{unfitTests, roomb, refusalFor}
 

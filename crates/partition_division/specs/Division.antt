@@ -8,7 +8,7 @@ use Rattle.columns.specs.Limits.{notDense, nothingMarked}
 use Rattle.columns.specs.declared.answers.Refusal.{Refusal}
 use Rattle.columns.specs.Answers.{Said, done, refused, leaving}
 use Rattle.columns.specs.Due.{Test, test, due, indexTest, allLong}
-use Rattle.columns.specs.Columns.{zeros}
+use Rattle.columns.specs.Columns.{cleared}
 use Rattle.partition.specs.Partition.{Partition}
 use Rattle.partition.specs.Checks.{partitionTests}
 use Rattle.partition_division.specs.Marked.{missing, denseb, lenAt}
@@ -54,7 +54,7 @@ unfoldable pub divisionRefusal : Partition → ℕ → List ℕ → Work → Ref
 divisionRefusal p b v w = refusalFor p b v (length (w .old-elements) ∷ length (w .block-sizes) ∷ length (w .spare) ∷ [])
 
 abbrev pub clearedWork : Work → Work
-clearedWork w = work (zeros (length (w .old-elements))) (zeros (length (w .block-sizes))) (zeros (length (w .spare)))
+clearedWork w = work (cleared (w .old-elements)) (cleared (w .block-sizes)) (cleared (w .spare))
 
 unfoldable pub partitionMarkedWith : Partition → ℕ → List ℕ → Work → Said × (Partition × Work)
 partitionMarkedWith p b v w =

@@ -4,10 +4,9 @@ use mathlib.Core.Bool.{Bool, true, _&&_, cond}
 use mathlib.Core.List.{List}
 use lib.ListN.{getD}
 use lib.Dec.{ltb, leb, eqb}
-use Rattle.columns.specs.Tests.{all}
-use Rattle.columns.specs.Counting.{many, first}
+use Rattle.columns.specs.Counting.{many, first, all}
+use Rattle.columns.specs.Columns.{lengthIn}
 use Rattle.partition.specs.Partition.{Partition}
-use Rattle.partition_passes.specs.Passes.{lengthIn}
 
 -- state s is a marked one of block b, whose marks begin at position m
 unfoldable pub markedFrom : List ℕ → List ℕ → ℕ → ℕ → ℕ → Bool

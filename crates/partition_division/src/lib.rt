@@ -2,7 +2,7 @@
 ghost use mathlib.Core.Path.{_≡_};
 ghost use Rattle.partition_division.specs.Division.{saidDivision, work, partitionMarkedWith};
 ghost use Rattle.partition_calls.specs.Saying.{countSaid};
-ghost use Rattle.columns.specs.Lent.{was, is, Cleared};
+ghost use Rattle.columns.specs.Lent.{was, is};
 ghost use Rattle.partition.specs.Lent.{before, after};
 
 pub mod checks;
@@ -10,7 +10,7 @@ pub mod core;
 
 use crate::checks::division_refusal;
 use columns::answers::Refusal;
-use columns::cells::clear;
+use columns::clearing::clear_three;
 use partition_calls::BlockPartition;
 
 // The outcome: the old index, and the run of new blocks from `first` to before `count`, the block count now.
@@ -21,15 +21,6 @@ pub enum DivisionOutcome {
 
 pub struct DivisionAnswer {
     pub outcome: DivisionOutcome,
-}
-
-// Every cell of the three work slices becomes zero.
-fn clear_work(old_elements: &mut [u16], block_sizes: &mut [u16], spare: &mut [u16])
-    ensures { λ _. ⌜ Cleared «old_elements» × Cleared «block_sizes» × Cleared spare ⌝ }
-{
-    clear(&mut *old_elements);
-    clear(&mut *block_sizes);
-    clear(&mut *spare);
 }
 
 // Partitions the marked states of a block by their numbers: each number gets a block, and the largest result the old index.
@@ -78,7 +69,7 @@ pub fn partition_marked_with(
             outcome: DivisionOutcome::Refused(t),
         };
     }
-    clear_work(&mut *old_elements, &mut *block_sizes, &mut *spare);
+    clear_three(&mut *old_elements, &mut *block_sizes, &mut *spare);
     let c = core::partition_marked_with(
         n,
         count,

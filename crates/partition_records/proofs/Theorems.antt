@@ -1,6 +1,5 @@
 -- The host forms in document 01's words: what `unmark_all` has done where it says done, and that the two forms of `swap_blocks` agree.
-use mathlib.Core.Path.{_≡_, refl, sym, ap, _∙_}
-use mathlib.Core.Bool.{true}
+use mathlib.Core.Path.{_≡_, refl, ap}
 use mathlib.Core.List.{List, [], _∷_}
 use Prim.Native.Nat.{ℕ}
 use Rattle.columns.specs.Answers.{done}
@@ -9,7 +8,7 @@ use Rattle.columns.specs.Limits.{inconsistent, maxStates}
 use Rattle.columns.proofs.Chains.{passed}
 use Rattle.columns.proofs.Doing.{leaving-done}
 use Rattle.partition.specs.declared.block.Block.{Block}
-use Rattle.partition.specs.Block.{soundb, brokenBlock}
+use Rattle.partition.specs.Block.{boundedb, brokenBlock}
 use Rattle.partition.specs.Partition.{Within}
 use Rattle.partition.proofs.Holds.{sound-of}
 use Rattle.partition_records.specs.Unmark.{unmarked, unmarkAll}
@@ -30,7 +29,7 @@ pub record UnmarkDone (b : Block) (values : List ℕ) (c : Block) : Type 0 where
 pub unmark-all-done : (b : Block) (values : List ℕ) (c : Block) → (done values, c) ≡ unmarkAll b → UnmarkDone b values c
 unfolding unmarkAll brokenBlock
 unmark-all-done b values c e =
-    let tests : List Test = test (soundb b) inconsistent 0 ∷ [] in
+    let tests : List Test = test (boundedb b) inconsistent 0 ∷ [] in
     let k = leaving-done (due tests) b c (unmarked b) values [] e in
     record {
       bounds = sound-of b (passed tests refl (due tests) refl (k .0) .0);

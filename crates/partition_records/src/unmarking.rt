@@ -19,7 +19,7 @@ pub struct Unmarked {
 }
 
 // The work, on a block by value: marked_split becomes end, and a broken block is 14.
-pub fn unmark(block: Block) -> Unmarked
+fn unmark(block: Block) -> Unmarked
     ensures { λ r. ⌜ (said (r .answer), r .block) ≡ unmarkAll block ⌝ }
 {
     let x = block.begin as usize;

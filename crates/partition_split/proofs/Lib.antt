@@ -8,5 +8,4 @@ pub mod Marking
 pub mod Steps
 pub mod Answering
 pub mod Theorems
-pub mod Examples
 pub mod Determined

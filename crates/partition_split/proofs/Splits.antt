@@ -14,7 +14,7 @@ use Rattle.columns.proofs.All.{not-below}
 use Rattle.columns.proofs.Bools.{cases, fails, and-left, and-right, and-both, and-no-left, and-no-right}
 use Rattle.partition.specs.Partition.{Partition, Sound}
 use Rattle.partition.proofs.Owned.{owned}
-use Rattle.partition_split.specs.Split.{siftedIn, reordered, cut, partsb, splitsb, split}
+use Rattle.partition_split.specs.Split.{siftedIn, reordered, cut, makesBlock, splitsb, split}
 use Rattle.partition_split.proofs.Cutting.{Unmarked, SameEntry, cut-sound, cut-new, cut-old, cut-other}
 use Rattle.partition_split.proofs.Reordering.{sieved, reordered-sound}
 use Rattle.partition_split.proofs.Sieves.{Sieved}
@@ -40,20 +40,22 @@ module _ (p : Partition) (b e : ℕ) where
   abbrev rest : Bool
   rest = not (eqb e (getD (p .begin) b 0))
 
-  pub parts-nothing : e ≡ getD (p .end) b 0 → partsb p b e ≡ false
-  unfolding partsb
+  pub parts-nothing : e ≡ getD (p .end) b 0 → makesBlock p b e ≡ false
+  unfolding makesBlock
   parts-nothing q = and-no-left some rest (ap not (eq-eqb _ _ q))
 
-  pub parts-all : e ≡ getD (p .begin) b 0 → partsb p b e ≡ false
-  unfolding partsb
+  pub parts-all : e ≡ getD (p .begin) b 0 → makesBlock p b e ≡ false
+  unfolding makesBlock
   parts-all q = and-no-right some rest (ap not (eq-eqb _ _ q))
 
-  pub parts-both : (e ≡ getD (p .end) b 0 → ⊥) → (e ≡ getD (p .begin) b 0 → ⊥) → partsb p b e ≡ true
-  unfolding partsb
+  pub parts-both : (e ≡ getD (p .end) b 0 → ⊥) → (e ≡ getD (p .begin) b 0 → ⊥) → makesBlock p b e ≡ true
+  unfolding makesBlock
   parts-both m m' = and-both (ap not (ne-eqb _ _ m)) (ap not (ne-eqb _ _ m'))
 
-  pub parts-of : partsb p b e ≡ true → getD (p .begin) b 0 ≤ e → e ≤ getD (p .end) b 0 → (getD (p .begin) b 0 < e) × (e < getD (p .end) b 0)
-  unfolding partsb
+  pub parts-of :
+      makesBlock p b e ≡ true → getD (p .begin) b 0 ≤ e → e ≤ getD (p .end) b 0
+      → (getD (p .begin) b 0 < e) × (e < getD (p .end) b 0)
+  unfolding makesBlock
   parts-of t f u =
       let nz = eqb-false e (getD (p .end) b 0) (not-true _ (and-left some rest t)) in
       let nx = eqb-false e (getD (p .begin) b 0) (not-true _ (and-right some rest t)) in

@@ -10,7 +10,7 @@ use lib.ListN.{length, getD, set}
 use lib.Seq.{set-getD}
 use Rattle.partition.specs.Partition.{Partition, parts, Sound}
 use Rattle.partition.specs.SwapBlocks.{renumbered}
-use Rattle.partition_split.specs.Split.{Sifted, sifting, sifted, siftedIn, reordered, cut, partsb, splitsb, split}
+use Rattle.partition_split.specs.Split.{Sifted, sifting, sifted, siftedIn, reordered, cut, makesBlock, splitsb, split}
 use Rattle.partition_split.proofs.Cutting.{room-for}
 use Rattle.partition_split.proofs.Reordering.{sieved, reordered-sound}
 use Rattle.partition_split.proofs.Splits.{parts-nothing, parts-all, parts-both, sifted-of, place-of, split-made, split-stays, apart}
@@ -36,11 +36,13 @@ module _ (p : Partition) (g : Sound p) (b : ℕ) (w : b < p .count) (c : List �
     place : e ≡ siftedIn p b c .first
     place = ap (λ (f : Sifted). f .first) same
 
-    made-at : partsb p b e ≡ splitsb p b c
+    made-at : makesBlock p b e ≡ splitsb p b c
     unfolding splitsb
-    made-at = ap (partsb p b) place
+    made-at = ap (makesBlock p b) place
 
-    unsplit : partsb p b e ≡ false → parts l o (p .element-to-block) (p .begin) (p .marked-split) (p .end) (p .n) (p .count) ≡ split p b c
+    unsplit :
+        makesBlock p b e ≡ false
+        → parts l o (p .element-to-block) (p .begin) (p .marked-split) (p .end) (p .n) (p .count) ≡ split p b c
     unfolding reordered
     unsplit t = ap (λ (f : Sifted). reordered p (f .elements) (f .element-offset)) same ∙ sym (split-stays p b c (sym made-at ∙ t))
 

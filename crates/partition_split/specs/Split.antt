@@ -69,12 +69,12 @@ cut p b e =
     }
 
 -- whether a block is made: the chosen, from position e on, are not nothing and not the whole block
-unfoldable pub partsb : Partition → ℕ → ℕ → Bool
-partsb p b e = not (eqb e (getD (p .end) b 0)) && not (eqb e (getD (p .begin) b 0))
+unfoldable pub makesBlock : Partition → ℕ → ℕ → Bool
+makesBlock p b e = not (eqb e (getD (p .end) b 0)) && not (eqb e (getD (p .begin) b 0))
 
 unfoldable pub splitsb : Partition → ℕ → List ℕ → Bool
-unfolding partsb siftedIn
-splitsb p b c = partsb p b (siftedIn p b c .first)
+unfolding makesBlock siftedIn
+splitsb p b c = makesBlock p b (siftedIn p b c .first)
 
 -- otherwise the table and its marks stay, and the swaps made stay too
 unfoldable pub split : Partition → ℕ → List ℕ → Partition

@@ -1,14 +1,13 @@
 -- What a call of `quotient_lts_naive` goes by that is not refused, and its two ways out.
 use Prim.Native.Nat.{ℕ, _+_}
-use mathlib.Core.Path.{_≡_, refl, ap, ap₂, _∙_}
+use mathlib.Core.Path.{_≡_, refl}
 use mathlib.Core.Bool.{Bool}
-use mathlib.Core.List.{List, [], _∷_, map}
+use mathlib.Core.List.{List, map}
 use lib.ListN.{length}
 use Rattle.columns.specs.declared.answers.Refusal.{Refusal}
 use Rattle.columns.specs.Answers.{Said, done, refused}
 use Rattle.columns.specs.Columns.{zeroed}
 use Rattle.columns.specs.Due.{allLong, Roomy}
-use Rattle.columns.specs.Sets.{Row}
 use Rattle.columns.proofs.Bools.{and-left, and-right}
 use Rattle.columns.proofs.Chains.{passed}
 use Rattle.columns.proofs.Rooms.{roomy-of}

@@ -1,14 +1,13 @@
 -- Where a call of `quotient_lts_naive` is done, the header that it says and the rows that it leaves are the quotient.
 use Prim.Native.Nat.{ℕ}
 use native.Mathlib.Omega.{arith}
-use mathlib.Core.Path.{_≡_, refl, sym, ap, subst}
+use mathlib.Core.Path.{_≡_, refl, ap, subst}
 use mathlib.Core.Bool.{Bool}
 use mathlib.Core.List.{List, [], _∷_}
 use lib.ListN.{length}
 use Rattle.bisimulation.specs.Quotient.{blockOf}
-use Rattle.columns.specs.Answers.{Said, done}
-use Rattle.columns.specs.Columns.{over, zeroed}
-use Rattle.columns.specs.Rows.{firstOf, secondOf, thirdOf}
+use Rattle.columns.specs.Answers.{done}
+use Rattle.columns.specs.Columns.{zeroed}
 use Rattle.columns.specs.Sets.{Row}
 use Rattle.partition.specs.Partition.{Partition}
 use Rattle.quotient.specs.Call.{quotientRefusal, rowsBetween, quotientLtsNaive}

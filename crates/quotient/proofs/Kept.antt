@@ -1,29 +1,16 @@
--- The rows between blocks of those rows that pass a test: where each comes from, and that they make a valid table.
-use mathlib.Core.Path.{_≡_, refl, sym, ap, subst, _∙_}
-use mathlib.Core.Bool.{Bool, true}
+-- The rows between blocks of those rows that pass a test make a valid table.
+use mathlib.Core.Path.{_≡_, refl}
+use mathlib.Core.Bool.{Bool}
 use mathlib.Core.List.{List}
 use Prim.Native.Nat.{ℕ, _≤_, _<_}
 use native.Mathlib.Omega.{arith}
 use lib.ListN.{length}
-use Rattle.bisimulation.specs.Bisimulation.{Step}
-use Rattle.bisimulation.specs.Quotient.{between}
-use Rattle.columns.specs.Sets.{Row, rowLt, collect, Ascending}
-use Rattle.columns.proofs.Orders.{row-order}
-use Rattle.columns.proofs.Sets.{collect-in, collect-out, collect-ascending}
-use Rattle.columns.proofs.Unions.{collect-few}
+use Rattle.bisimulation.proofs.Kept.{kept, kept-out, kept-ascending, kept-few}
+use Rattle.columns.specs.Sets.{Row}
 use Rattle.table.specs.Lts.{Lts, rows, Valid}
 use Rattle.table.specs.Tables.{tableOf}
 use Rattle.table.proofs.Rows.{step-fields}
 use Rattle.table.proofs.Tables.{InLimits, Inside, rows-length, tableOf-valid, laidTable, laid-rows, laid-valid}
-
--- a row of the source that passes, from a state of block b to one of block c
-pub record From (p : Row → Bool) (block : ℕ → ℕ) (rows : List Row) (b a c : ℕ) : Type 0 where
-  pub source : ℕ
-  pub target : ℕ
-  pub step : Step rows source a target
-  pub passes : p (source, (a, target)) ≡ true
-  pub from : block source ≡ b
-  pub to : block target ≡ c
 
 -- q is a valid table with these rows: as many states as blocks, the labels of t, and the block of its initial state
 pub record IsQuotient (t : Lts) (count : ℕ) (block : ℕ → ℕ) (kept : List Row) (q : Lts) : Type 0 where
@@ -33,34 +20,6 @@ pub record IsQuotient (t : Lts) (count : ℕ) (block : ℕ → ℕ) (kept : List
   pub labels : q .labels ≡ t .labels
   pub initial : q .initial ≡ block (t .initial)
   pub rows : rows q ≡ kept
-
-abbrev kept : (Row → Bool) → (ℕ → ℕ) → List Row → List Row
-kept p block rows = collect rowLt p (between block) rows
-
-module _ (p : Row → Bool) (block : ℕ → ℕ) (rows : List Row) where
-  pub kept-in : (s a u : ℕ) → Step rows s a u → p (s, (a, u)) ≡ true → Step (kept p block rows) (block s) a (block u)
-  unfolding between
-  kept-in s a u k e = collect-in rowLt row-order p (between block) rows (s, (a, u)) k e
-
-  pub kept-out : (b a c : ℕ) → Step (kept p block rows) b a c → From p block rows b a c
-  unfolding between
-  kept-out b a c k =
-      let f = collect-out rowLt row-order p (between block) rows (b, (a, c)) k in
-      let l : f .0 .1 .0 ≡ a = ap (λ (r : Row). r .1 .0) (sym (f .3)) in
-      record {
-        source = f .0 .0;
-        target = f .0 .1 .1;
-        step = subst (λ (x : ℕ). Step rows (f .0 .0) x (f .0 .1 .1)) l (f .1);
-        passes = subst (λ (x : ℕ). p (f .0 .0, (x, f .0 .1 .1)) ≡ true) l (f .2);
-        from = ap (λ (r : Row). r .0) (sym (f .3));
-        to = ap (λ (r : Row). r .1 .1) (sym (f .3));
-      }
-
-  pub kept-ascending : Ascending rowLt (kept p block rows)
-  kept-ascending = collect-ascending rowLt row-order p (between block) rows
-
-  pub kept-few : length (kept p block rows) ≤ length rows
-  kept-few = collect-few rowLt p (between block) rows
 
 -- ---- as a table
 module _ (t : Lts) (v : Valid t) (count : ℕ) (few : count ≤ t .n) (block : ℕ → ℕ) (below : (s : ℕ) → s < t .n → block s < count)

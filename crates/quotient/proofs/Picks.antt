@@ -5,13 +5,12 @@ use native.Mathlib.Omega.{arith}
 use mathlib.Core.Path.{_≡_, refl, ap, ap₂, sym, _∙_}
 use mathlib.Core.Bool.{Bool, true, false, cond}
 use mathlib.Core.List.{List, [], _∷_, _++_, append-nil}
-use lib.ListN.{length, getD, set, length-set}
+use lib.ListN.{length, set, length-set}
 use lib.Seq.{getD-set-same, getD-set-other}
 use Rattle.columns.specs.Columns.{listed}
-use Rattle.columns.specs.Rows.{rowsOf, rowSet}
+use Rattle.columns.specs.Rows.{rowsOf, rowSet, rowIn}
 use Rattle.columns.specs.Sets.{Row, rowLt, insert, collect}
 use Rattle.columns.proofs.Lists.{listed-cong}
-use Rattle.table.specs.Lts.{rowIn}
 
 -- `g r` for the members of a list that pass, in their order
 pub picks : {A B : Type 0} → (A → Bool) → (A → B) → List A → List B

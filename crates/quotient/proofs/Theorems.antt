@@ -10,10 +10,11 @@ use lib.Dec.{eqb}
 use lib.ListN.{length}
 use Rattle.bisimulation.specs.Bisimulation.{Step}
 use Rattle.bisimulation.specs.Quotient.{quotient}
+use Rattle.bisimulation.proofs.Kept.{From, kept-in, kept-out, kept-ascending, kept-few}
 use Rattle.columns.specs.Sets.{Row, rowLt, Ascending}
 use Rattle.columns.proofs.Bools.{and-left, and-right, contra, fails}
 use Rattle.quotient.specs.Naive.{inertStep, tauLoop, stays, naiveRows}
-use Rattle.quotient.proofs.Kept.{From, kept-in, kept-out, kept-ascending, kept-few, kept-valid}
+use Rattle.quotient.proofs.Kept.{kept-valid}
 use Rattle.table.specs.Lts.{Lts, rows, Valid}
 use Rattle.table.specs.Tables.{tableOf}
 

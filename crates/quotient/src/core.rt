@@ -5,13 +5,13 @@ ghost use Prim.Native.Nat.{_≤_, _<_};
 ghost use lib.ListN.{length, getD, set};
 ghost use Rattle.bisimulation.specs.Quotient.{blockOf};
 ghost use Rattle.columns.specs.Lent.{was, is, Cleared};
-ghost use Rattle.columns.specs.Rows.{rowSet};
+ghost use Rattle.columns.specs.Rows.{rowSet, rowIn};
 ghost use Rattle.quotient.specs.Naive.{stays, naiveRows};
-ghost use Rattle.table.specs.Lent.{ltsOf, ltsNow};
-ghost use Rattle.table.specs.Lts.{rowIn, rows, Valid};
+ghost use Rattle.table.specs.Lent.{ltsOf, ltsNow, rowsWas, rowsAre};
+ghost use Rattle.table.specs.Lts.{rows, Valid};
 ghost use Rattle.table.specs.Tables.{rowsOver};
 use columns::cells::at;
-use columns::cells::clear;
+use columns::clearing::clear_five;
 use columns::rows::row_set;
 use table::Table;
 
@@ -103,44 +103,45 @@ fn select_rows(
     d
 }
 
-// Every cell of five columns becomes zero.
-pub fn wipe(a: &mut [u16], b: &mut [u16], c: &mut [u16], order: &mut [u16], spare: &mut [u16])
-    ensures { λ _. ⌜ Cleared a × Cleared b × Cleared c × Cleared order × Cleared spare ⌝ }
-{
-    clear(a);
-    clear(b);
-    clear(c);
-    clear(order);
-    clear(spare);
-}
-
-// The first d rows of a, b and c as a set, ascending, over the first cells of x, y and z. Returns how many. The slices a, b, c, `order`
-// and `spare` are zero then.
+// The first d rows of a, b and c as a set, ascending, over the first cells of the result columns. Returns how many. The slices a, b, c,
+// `order` and `spare` are zero then.
 pub fn lay_rows(
     a: &mut [u16],
     b: &mut [u16],
     c: &mut [u16],
     d: usize,
-    x: &mut [u16],
-    y: &mut [u16],
-    z: &mut [u16],
+    result_source: &mut [u16],
+    result_label: &mut [u16],
+    result_target: &mut [u16],
     order: &mut [u16],
     spare: &mut [u16],
 ) -> usize
     requires { ⌜ (d ≤ length (now a)) × (d ≤ length (now b)) × (d ≤ length (now c)) × (d ≤ 65536) ⌝ }
-    requires { ⌜ (d ≤ length (now x)) × (d ≤ length (now y)) × (d ≤ length (now z)) ⌝ }
+    requires { ⌜ (d ≤ length (now «result_source»)) × (d ≤ length (now «result_label»)) × (d ≤ length (now «result_target»)) ⌝ }
     requires { ⌜ (d ≤ length (now order)) × (d ≤ length (now spare)) ⌝ }
     ensures { λ r.
         let kept = rowSet d (was a) (was b) (was c) in
-        ⌜ (r ≡ length kept) × ((is x, (is y, is z)) ≡ rowsOver kept (was x, (was y, was z))) ⌝ }
+        let out = rowsWas «result_source» «result_label» «result_target» in
+        let outLeft = rowsAre «result_source» «result_label» «result_target» in
+        ⌜ (r ≡ length kept) × (outLeft ≡ rowsOver kept out) ⌝ }
     ensures { λ _. ⌜ Cleared a × Cleared b × Cleared c × Cleared order × Cleared spare ⌝ }
 {
-    let r = row_set(&*a, &*b, &*c, d, x, y, z, &mut *order, &mut *spare);
-    wipe(a, b, c, order, spare);
+    let r = row_set(
+        &*a,
+        &*b,
+        &*c,
+        d,
+        result_source,
+        result_label,
+        result_target,
+        &mut *order,
+        &mut *spare,
+    );
+    clear_five(a, b, c, order, spare);
     r
 }
 
-// The naive quotient: the rows between blocks, as a set, ascending, over the first cells of x, y and z. Returns how many. The work
+// The naive quotient: the rows between blocks, as a set, ascending, over the first cells of the result columns. Returns how many. The work
 // slices a, b and c (the rows that stay), `order` and `spare` are zero then.
 pub fn quotient_rows(
     table: Table,
@@ -150,9 +151,9 @@ pub fn quotient_rows(
     home: &[u16],
     inerts: bool,
     loops: bool,
-    x: &mut [u16],
-    y: &mut [u16],
-    z: &mut [u16],
+    result_source: &mut [u16],
+    result_label: &mut [u16],
+    result_target: &mut [u16],
     a: &mut [u16],
     b: &mut [u16],
     c: &mut [u16],
@@ -160,12 +161,15 @@ pub fn quotient_rows(
     spare: &mut [u16],
 ) -> usize
     requires { ⌜ Valid (ltsNow table source label target) × (table .n ≤ length (now home)) ⌝ }
-    requires { ⌜ (table .m ≤ length (now x)) × (table .m ≤ length (now y)) × (table .m ≤ length (now z)) ⌝ }
+    requires { ⌜ (table .m ≤ length (now «result_source»)) × (table .m ≤ length (now «result_label»))
+        × (table .m ≤ length (now «result_target»)) ⌝ }
     requires { ⌜ (table .m ≤ length (now a)) × (table .m ≤ length (now b)) × (table .m ≤ length (now c)) ⌝ }
     requires { ⌜ (table .m ≤ length (now order)) × (table .m ≤ length (now spare)) ⌝ }
     ensures { λ r.
         let kept = naiveRows inerts loops (blockOf (was home)) (rows (ltsOf table source label target)) in
-        ⌜ (r ≡ length kept) × ((is x, (is y, is z)) ≡ rowsOver kept (was x, (was y, was z))) ⌝ }
+        let out = rowsWas «result_source» «result_label» «result_target» in
+        let outLeft = rowsAre «result_source» «result_label» «result_target» in
+        ⌜ (r ≡ length kept) × (outLeft ≡ rowsOver kept out) ⌝ }
     ensures { λ _. ⌜ Cleared a × Cleared b × Cleared c × Cleared order × Cleared spare ⌝ }
 {
     let d = select_rows(
@@ -180,5 +184,15 @@ pub fn quotient_rows(
         &mut *b,
         &mut *c,
     );
-    lay_rows(a, b, c, d, x, y, z, order, spare)
+    lay_rows(
+        a,
+        b,
+        c,
+        d,
+        result_source,
+        result_label,
+        result_target,
+        order,
+        spare,
+    )
 }

@@ -4,7 +4,7 @@ ghost use mathlib.Core.List.{[], _∷_};
 ghost use Rattle.columns.specs.Lent.{was, is};
 ghost use Rattle.partition.specs.Lent.{before};
 ghost use Rattle.quotient.specs.Call.{quotientLtsNaive};
-ghost use Rattle.table.specs.Lent.{ltsOf};
+ghost use Rattle.table.specs.Lent.{ltsOf, rowsWas, rowsAre};
 ghost use Rattle.table.specs.Tables.{saidTable};
 
 pub mod core;
@@ -17,9 +17,9 @@ use table::answers::table_of;
 use table::checks::room_for;
 use table_partition::check;
 
-// The rows between blocks, as a set, ascending, over the first cells of x, y and z. `eliminate_inert_taus` drops hidden steps inside a
-// block between different states, `eliminate_tau_loops` hidden self-loops of a state. Answers the header of the quotient. Work: the rows
-// before they are a set, and two columns for the sort.
+// The rows between blocks, as a set, ascending, over the first cells of the result columns. `eliminate_inert_taus` drops hidden steps
+// inside a block between different states, `eliminate_tau_loops` hidden self-loops of a state. Answers the header of the quotient. Work:
+// the rows before they are a set, and two columns for the sort.
 pub fn quotient_lts_naive(
     table: Table,
     source: &[u16],
@@ -34,9 +34,9 @@ pub fn quotient_lts_naive(
     end: &[u16],
     eliminate_inert_taus: bool,
     eliminate_tau_loops: bool,
-    x: &mut [u16],
-    y: &mut [u16],
-    z: &mut [u16],
+    result_source: &mut [u16],
+    result_label: &mut [u16],
+    result_target: &mut [u16],
     a: &mut [u16],
     b: &mut [u16],
     c: &mut [u16],
@@ -48,13 +48,15 @@ pub fn quotient_lts_naive(
         let given = before elements «element_offset» «element_to_block» begin «marked_split» end (table .n) count in
         let work = was a ∷ was b ∷ was c ∷ was order ∷ was spare ∷ [] in
         let workLeft = is a ∷ is b ∷ is c ∷ is order ∷ is spare ∷ [] in
-        ⌜ (saidTable r, ((is x, (is y, is z)), workLeft))
-        ≡ quotientLtsNaive «eliminate_inert_taus» «eliminate_tau_loops» system given (was x, (was y, was z)) work ⌝ }
+        let out = rowsWas «result_source» «result_label» «result_target» in
+        let outLeft = rowsAre «result_source» «result_label» «result_target» in
+        ⌜ (saidTable r, (outLeft, workLeft))
+        ≡ quotientLtsNaive «eliminate_inert_taus» «eliminate_tau_loops» system given out work ⌝ }
 {
     let room = room_for(
         table,
         table.m as usize,
-        &[x.len(), y.len(), z.len()],
+        &[result_source.len(), result_label.len(), result_target.len()],
         &[a.len(), b.len(), c.len(), order.len(), spare.len()],
     );
     let t = check(
@@ -84,9 +86,9 @@ pub fn quotient_lts_naive(
         element_to_block,
         eliminate_inert_taus,
         eliminate_tau_loops,
-        x,
-        y,
-        z,
+        result_source,
+        result_label,
+        result_target,
         a,
         b,
         c,

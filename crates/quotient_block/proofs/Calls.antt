@@ -1,13 +1,12 @@
 -- The two ways out of a call of `quotient_lts_block`; and where it is done, the header that it says and the rows that it leaves are the
 -- quotient.
-use Prim.Native.Nat.{ℕ, _<_}
+use Prim.Native.Nat.{ℕ}
 use native.Mathlib.Omega.{arith}
 use borrow.Author.Tests.{eqb-true, eq-eqb, ne-eqb}
-use mathlib.Core.Path.{_≡_, refl, sym, ap, ap₂, subst, _∙_}
+use mathlib.Core.Path.{_≡_, refl, sym, ap, subst}
 use mathlib.Core.Bool.{Bool, true, false, cond}
 use mathlib.Core.List.{List, [], _∷_}
 use lib.Dec.{eqb, ltb}
-use lib.ListN.{length}
 use Rattle.bisimulation.specs.Quotient.{blockOf}
 use Rattle.columns.specs.declared.answers.Refusal.{Refusal}
 use Rattle.columns.specs.Answers.{Said, done, refused}
@@ -33,12 +32,12 @@ module _ (branching loops : Bool) (t : Lts) (p : Partition) (out : Three) (work 
     unfolding quotientLtsBlock
     block-refused n f = rw (← e, ne-eqb (r .number) 0 n, f)
 
-    pub block-answered :
+    pub block-call-answered :
         r .number ≡ 0 → (left : Three)
         → (s, left) ≡ blockQuotient branching loops t (p .element-to-block) (p .elements) (p .begin) (p .count) out
         → (work₁ : List (List ℕ)) → work₁ ≡ zeroed work → (s, (left, work₁)) ≡ quotientLtsBlock branching loops t p out work
     unfolding quotientLtsBlock
-    block-answered z left q work₁ w = rw (← e, eq-eqb (r .number) 0 z) (λ i. (q i .0, (q i .1, w i)))
+    block-call-answered z left q work₁ w = rw (← e, eq-eqb (r .number) 0 z) (λ i. (q i .0, (q i .1, w i)))
 
   abbrev rowsLeft : List Row
   rowsLeft = blockRows branching loops t (p .element-to-block) (p .elements) (p .begin)

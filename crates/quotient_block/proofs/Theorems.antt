@@ -8,15 +8,14 @@ use mathlib.Core.Bool.{Bool, true, false, not, _&&_}
 use mathlib.Core.List.{List}
 use mathlib.Core.Logic.{_↔_}
 use lib.Dec.{eqb}
-use lib.ListN.{length}
 use Rattle.bisimulation.specs.Bisimulation.{Step}
 use Rattle.bisimulation.specs.Quotient.{blockOf}
+use Rattle.bisimulation.proofs.Kept.{kept-in, kept-out, kept-ascending}
 use Rattle.columns.specs.Sets.{Row, rowLt, Ascending}
 use Rattle.columns.proofs.Bools.{and-left, and-right, and-both, contra}
 use Rattle.columns.proofs.Counting.{first-law}
-use Rattle.columns.proofs.Firsts.{none-of}
 use Rattle.quotient.specs.Naive.{tauLoop}
-use Rattle.quotient.proofs.Kept.{kept-in, kept-out, kept-ascending, kept-valid}
+use Rattle.quotient.proofs.Kept.{kept-valid}
 use Rattle.quotient_block.specs.Bottom.{bottom}
 use Rattle.quotient_block.specs.Chosen.{firstState, choice, lacking, ofChosen, chosenRows, blockRows, Choosable}
 use Rattle.quotient_block.proofs.Returns.{Returning, lost-exactly}

@@ -24,7 +24,7 @@ unfoldable pub wayOn : Lts → List ℕ → ℕ → ℕ
 unfolding first leadsOn
 wayOn t home s = first (t .m) (leadsOn (t .source) (t .label) (t .target) home s)
 
--- there is none
+-- s is a bottom state: no row leads on from it
 unfoldable pub bottom : Lts → List ℕ → ℕ → Bool
 unfolding wayOn
 bottom t home s = leb (t .m) (wayOn t home s)

@@ -42,6 +42,7 @@ unfoldable pub chosenRows : Bool → (ℕ → ℕ) → (ℕ → ℕ) → List Ro
 unfolding collect rowLt between ofChosen
 chosenRows loops chosen block rows = collect rowLt (ofChosen loops chosen block) (between block) rows
 
+-- the rows of the states that are chosen in each block
 unfoldable pub blockRows : Bool → Bool → Lts → List ℕ → List ℕ → List ℕ → List Row
 unfolding chosenRows choice rowsOf
 blockRows branching loops t home elements begin = chosenRows loops (choice branching t home elements begin) (blockOf home) (rows t)

@@ -7,20 +7,20 @@ ghost use lib.ListN.{length, getD};
 ghost use Rattle.bisimulation.specs.Quotient.{blockOf};
 ghost use Rattle.columns.specs.Columns.{written};
 ghost use Rattle.columns.specs.Lent.{was, is, Cleared};
-ghost use Rattle.columns.specs.Rows.{rowSet};
+ghost use Rattle.columns.specs.Rows.{rowSet, rowIn};
 ghost use Rattle.quotient_block.specs.Bottom.{inward, wayOn, bottomFrom};
 ghost use Rattle.quotient_block.specs.Chosen.{choice, lacking, ofChosen, chosenRows, blockQuotient, Choosable};
-ghost use Rattle.table.specs.Lent.{ltsOf, ltsNow};
-ghost use Rattle.table.specs.Lts.{rowIn, rows, Valid};
+ghost use Rattle.table.specs.Lent.{ltsOf, ltsNow, rowsWas, rowsAre};
+ghost use Rattle.table.specs.Lts.{rows, Valid};
 ghost use Rattle.table.specs.Tables.{rowsOver, saidTable};
 use columns::answers::refuse;
 use columns::cells::at;
 use columns::cells::clear;
+use columns::clearing::clear_five;
 use columns::limits::NO_BOTTOM;
 use quotient::core::lay_rows;
 use quotient::core::push_row;
 use quotient::core::row_stays;
-use quotient::core::wipe;
 use table::Table;
 use table::answers::TableAnswer;
 use table::answers::refusing_table;
@@ -211,8 +211,8 @@ fn select_chosen(
     d
 }
 
-// The rows of the states chosen, between blocks, as a set, ascending, over the first cells of x, y and z. Returns how many. The work
-// slices a, b and c (the rows before they are a set), `order` and `spare` are zero then.
+// The rows of the states chosen, between blocks, as a set, ascending, over the first cells of the result columns. Returns how many. The
+// work slices a, b and c (the rows before they are a set), `order` and `spare` are zero then.
 fn chosen_rows(
     table: Table,
     source: &[u16],
@@ -221,9 +221,9 @@ fn chosen_rows(
     home: &[u16],
     chosen: &[u16],
     loops: bool,
-    x: &mut [u16],
-    y: &mut [u16],
-    z: &mut [u16],
+    result_source: &mut [u16],
+    result_label: &mut [u16],
+    result_target: &mut [u16],
     a: &mut [u16],
     b: &mut [u16],
     c: &mut [u16],
@@ -232,13 +232,16 @@ fn chosen_rows(
 ) -> usize
     requires { ⌜ Valid (ltsNow table source label target) × (table .n ≤ length (now home)) ⌝ }
     requires { ⌜ ((s : ℕ) → s < table .n → blockOf (now home) s < length (now chosen)) ⌝ }
-    requires { ⌜ (table .m ≤ length (now x)) × (table .m ≤ length (now y)) × (table .m ≤ length (now z)) ⌝ }
+    requires { ⌜ (table .m ≤ length (now «result_source»)) × (table .m ≤ length (now «result_label»))
+        × (table .m ≤ length (now «result_target»)) ⌝ }
     requires { ⌜ (table .m ≤ length (now a)) × (table .m ≤ length (now b)) × (table .m ≤ length (now c)) ⌝ }
     requires { ⌜ (table .m ≤ length (now order)) × (table .m ≤ length (now spare)) ⌝ }
     ensures { λ r.
         let system = ltsOf table source label target in
         let kept = chosenRows loops (λ b. getD (was chosen) b 0) (blockOf (was home)) (rows system) in
-        ⌜ (r ≡ length kept) × ((is x, (is y, is z)) ≡ rowsOver kept (was x, (was y, was z))) ⌝ }
+        let out = rowsWas «result_source» «result_label» «result_target» in
+        let outLeft = rowsAre «result_source» «result_label» «result_target» in
+        ⌜ (r ≡ length kept) × (outLeft ≡ rowsOver kept out) ⌝ }
     ensures { λ _. ⌜ Cleared a × Cleared b × Cleared c × Cleared order × Cleared spare ⌝ }
 {
     let d = select_chosen(
@@ -253,12 +256,22 @@ fn chosen_rows(
         &mut *b,
         &mut *c,
     );
-    lay_rows(a, b, c, d, x, y, z, order, spare)
+    lay_rows(
+        a,
+        b,
+        c,
+        d,
+        result_source,
+        result_label,
+        result_target,
+        order,
+        spare,
+    )
 }
 
-// The quotient by chosen states: their rows, between blocks, as a set, ascending, over the first cells of x, y and z, with the header; or
-// 12 at the lowest block that has no bottom state, and nothing written: all states are chosen first. The work slices a, b and c (the rows
-// before they are a set), `order`, `spare` and `chosen` are zero then.
+// The quotient by chosen states: their rows, between blocks, as a set, ascending, over the first cells of the result columns, with the
+// header; or 12 at the lowest block whose walk comes back to a state, and nothing written: all states are chosen first. The work slices
+// a, b and c (the rows before they are a set), `order`, `spare` and `chosen` are zero then.
 pub fn quotient_block(
     table: Table,
     source: &[u16],
@@ -270,9 +283,9 @@ pub fn quotient_block(
     begin: &[u16],
     branching: bool,
     loops: bool,
-    x: &mut [u16],
-    y: &mut [u16],
-    z: &mut [u16],
+    result_source: &mut [u16],
+    result_label: &mut [u16],
+    result_target: &mut [u16],
     a: &mut [u16],
     b: &mut [u16],
     c: &mut [u16],
@@ -282,13 +295,15 @@ pub fn quotient_block(
 ) -> TableAnswer
     requires { ⌜ Valid (ltsNow table source label target) ⌝ }
     requires { ⌜ Choosable (table .n) count (now elements) (now home) (now begin) × (count ≤ length (now chosen)) ⌝ }
-    requires { ⌜ (table .m ≤ length (now x)) × (table .m ≤ length (now y)) × (table .m ≤ length (now z)) ⌝ }
+    requires { ⌜ (table .m ≤ length (now «result_source»)) × (table .m ≤ length (now «result_label»))
+        × (table .m ≤ length (now «result_target»)) ⌝ }
     requires { ⌜ (table .m ≤ length (now a)) × (table .m ≤ length (now b)) × (table .m ≤ length (now c)) ⌝ }
     requires { ⌜ (table .m ≤ length (now order)) × (table .m ≤ length (now spare)) ⌝ }
     ensures { λ r.
         let system = ltsOf table source label target in
-        ⌜ (saidTable r, (is x, (is y, is z)))
-        ≡ blockQuotient branching loops system (was home) (was elements) (was begin) count (was x, (was y, was z)) ⌝ }
+        let out = rowsWas «result_source» «result_label» «result_target» in
+        let outLeft = rowsAre «result_source» «result_label» «result_target» in
+        ⌜ (saidTable r, outLeft) ≡ blockQuotient branching loops system (was home) (was elements) (was begin) count out ⌝ }
     ensures { λ _. ⌜ Cleared a × Cleared b × Cleared c × Cleared order × Cleared spare × Cleared chosen ⌝ }
 {
     let without = choose_all(
@@ -304,7 +319,7 @@ pub fn quotient_block(
         &mut *chosen,
     );
     if without < count {
-        wipe(a, b, c, order, spare);
+        clear_five(a, b, c, order, spare);
         clear(chosen);
         return refusing_table(refuse(NO_BOTTOM, without as u64));
     }
@@ -317,9 +332,9 @@ pub fn quotient_block(
         home,
         &*chosen,
         loops,
-        x,
-        y,
-        z,
+        result_source,
+        result_label,
+        result_target,
         a,
         b,
         c,

@@ -4,7 +4,7 @@ ghost use mathlib.Core.List.{[], _∷_};
 ghost use Rattle.columns.specs.Lent.{was, is};
 ghost use Rattle.partition.specs.Lent.{before};
 ghost use Rattle.quotient_block.specs.Call.{quotientLtsBlock};
-ghost use Rattle.table.specs.Lent.{ltsOf};
+ghost use Rattle.table.specs.Lent.{ltsOf, rowsWas, rowsAre};
 ghost use Rattle.table.specs.Tables.{saidTable};
 
 pub mod core;
@@ -17,8 +17,8 @@ use table_partition::check;
 
 // The rows of each block's first state in element order, or with `branching` of the state found by following the first hidden row to
 // another state of the block until none is left, 12 where that comes back to a state; between blocks, as a set, ascending, over the first
-// cells of x, y and z. `eliminate_tau_loops` drops the chosen state's hidden self-loop. Answers the header of the quotient. Work: the
-// rows before they are a set, two columns for the sort, and the states chosen.
+// cells of the result columns. `eliminate_tau_loops` drops the chosen state's hidden self-loop. Answers the header of the quotient. Work:
+// the rows before they are a set, two columns for the sort, and the states chosen.
 pub fn quotient_lts_block(
     table: Table,
     source: &[u16],
@@ -33,9 +33,9 @@ pub fn quotient_lts_block(
     end: &[u16],
     branching: bool,
     eliminate_tau_loops: bool,
-    x: &mut [u16],
-    y: &mut [u16],
-    z: &mut [u16],
+    result_source: &mut [u16],
+    result_label: &mut [u16],
+    result_target: &mut [u16],
     a: &mut [u16],
     b: &mut [u16],
     c: &mut [u16],
@@ -48,13 +48,14 @@ pub fn quotient_lts_block(
         let given = before elements «element_offset» «element_to_block» begin «marked_split» end (table .n) count in
         let work = was a ∷ was b ∷ was c ∷ was order ∷ was spare ∷ was chosen ∷ [] in
         let workLeft = is a ∷ is b ∷ is c ∷ is order ∷ is spare ∷ is chosen ∷ [] in
-        ⌜ (saidTable r, ((is x, (is y, is z)), workLeft))
-        ≡ quotientLtsBlock branching «eliminate_tau_loops» system given (was x, (was y, was z)) work ⌝ }
+        let out = rowsWas «result_source» «result_label» «result_target» in
+        let outLeft = rowsAre «result_source» «result_label» «result_target» in
+        ⌜ (saidTable r, (outLeft, workLeft)) ≡ quotientLtsBlock branching «eliminate_tau_loops» system given out work ⌝ }
 {
     let room = room_for(
         table,
         table.m as usize,
-        &[x.len(), y.len(), z.len()],
+        &[result_source.len(), result_label.len(), result_target.len()],
         &[
             a.len(),
             b.len(),
@@ -93,9 +94,9 @@ pub fn quotient_lts_block(
         begin,
         branching,
         eliminate_tau_loops,
-        x,
-        y,
-        z,
+        result_source,
+        result_label,
+        result_target,
         a,
         b,
         c,

@@ -4,8 +4,6 @@ use mathlib.Core.Path.{_≡_}
 use mathlib.Core.Logic.{_↔_}
 use mathlib.Core.Bool.{true}
 use Prim.Native.Nat.{ℕ, _≤_, _<_}
-use native.Mathlib.Omega.{arith}
-use Rattle.columns.specs.Counting.{many}
 use Rattle.columns.specs.Number.{least, leads, number}
 use Rattle.columns.proofs.Bools.{and-left, and-right, and-both}
 use Rattle.columns.proofs.Counting.{many-le, many-strict}

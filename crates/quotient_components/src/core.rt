@@ -12,7 +12,7 @@ ghost use Rattle.table.specs.Lent.{ltsOf, ltsNow};
 ghost use Rattle.table.specs.Lts.{Valid};
 ghost use Rattle.table.specs.Turned.{TurnedWithStarts};
 use columns::cells::at;
-use columns::cells::clear_seven;
+use columns::clearing::clear_seven;
 use table::Table;
 use table::core::reach;
 use table::core::reach_back;

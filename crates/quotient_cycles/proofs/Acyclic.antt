@@ -4,7 +4,6 @@ use mathlib.Core.Bool.{Bool, true}
 use Prim.Native.Nat.{ℕ}
 use borrow.Author.Tests.{eqb-true}
 use Rattle.quotient.specs.Naive.{stays, naiveRows}
-use Rattle.quotient.proofs.Kept.{From}
 use Rattle.quotient.proofs.Theorems.{naive-out, naive-valid}
 use Rattle.quotient_components.specs.Components.{components, component}
 use Rattle.quotient_components.proofs.Components.{component-exactly, component-below, components-few}
@@ -14,6 +13,7 @@ use Rattle.table.proofs.Tables.{tableOf-out}
 use Rattle.table.proofs.Walks.{joined, edge-step}
 use Rattle.table_order.specs.Promise.{LongCycle}
 use Rattle.quotient_cycles.specs.Reordered.{merged}
+use Rattle.bisimulation.proofs.Kept.{From}
 
 -- a hidden edge is a step under label 0
 pub hidden-step : (t : Lts) (s u : ℕ) → edge t true s u ≡ true → Step t s 0 u

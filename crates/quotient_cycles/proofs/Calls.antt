@@ -1,6 +1,6 @@
 -- What the call goes by once its checks have passed.
 use mathlib.Core.Path.{_≡_, refl}
-use mathlib.Core.List.{List, [], _∷_, _++_}
+use mathlib.Core.List.{List, [], _∷_}
 use Prim.Native.Nat.{ℕ, _+_, _<_}
 use borrow.Author.Tests.{ltb-true}
 use Rattle.columns.specs.declared.answers.Refusal.{Refusal}

@@ -11,7 +11,7 @@ use Rattle.columns.specs.Sets.{rowLt}
 use Rattle.columns.proofs.Bools.{bool-ext}
 use Rattle.columns.proofs.Orders.{row-order}
 use Rattle.columns.proofs.Sets.{ascending-unique, collect-alike}
-use Rattle.quotient.specs.Naive.{inertStep, tauLoop, stays, naiveRows}
+use Rattle.quotient.specs.Naive.{inertStep, stays, naiveRows}
 use Rattle.quotient.proofs.Theorems.{naive-in, naive-out, naive-ascending}
 use Rattle.table.specs.Lts.{Lts, rows, Step, Valid}
 use Rattle.table.proofs.Rows.{step-fields}

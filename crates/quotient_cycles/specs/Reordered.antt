@@ -1,5 +1,5 @@
 -- Hidden cycles taken out: states that reach each other by hidden steps become one, and the new states are numbered in the reversed
--- hidden order, so that hidden rows lead to smaller numbers.
+-- hidden order, so that hidden rows to another state lead to smaller numbers.
 use mathlib.Core.Bool.{Bool, true}
 use mathlib.Core.List.{List}
 use Prim.Native.Nat.{ℕ}

@@ -6,7 +6,7 @@ ghost use Rattle.columns.specs.Columns.{written};
 ghost use Rattle.columns.specs.Lent.{was, is, Cleared};
 ghost use Rattle.quotient_components.specs.Components.{components, component};
 ghost use Rattle.quotient_cycles.specs.Reordered.{newNumber, newRows};
-ghost use Rattle.table.specs.Lent.{ltsOf, ltsNow};
+ghost use Rattle.table.specs.Lent.{ltsOf, ltsNow, rowsWas, rowsAre};
 ghost use Rattle.table.specs.Lts.{Valid};
 ghost use Rattle.table.specs.Tables.{rowsOver};
 use columns::cells::at;
@@ -38,7 +38,7 @@ fn order_components(
     label: &[u16],
     target: &[u16],
     count: usize,
-    eliminate: bool,
+    eliminate_tau_selfloops: bool,
     numbers: &mut [u16],
     mid_source: &mut [u16],
     mid_label: &mut [u16],
@@ -55,7 +55,9 @@ fn order_components(
     requires { ⌜ (table .m ≤ length (now «mid_target»)) × (table .n + table .m + 1 ≤ length (now a)) ⌝ }
     requires { ⌜ (table .n + table .m + 1 ≤ length (now b)) × (table .n + table .m + 1 ≤ length (now c)) ⌝ }
     requires { ⌜ (table .m ≤ length (now order)) × (table .m ≤ length (now spare)) ⌝ }
-    ensures { λ _. ⌜ is numbers ≡ written (table .n) (newNumber (ltsOf table source label target) eliminate) (was numbers) ⌝ }
+    ensures { λ _.
+        let number = newNumber (ltsOf table source label target) «eliminate_tau_selfloops» in
+        ⌜ is numbers ≡ written (table .n) number (was numbers) ⌝ }
 {
     let initial = numbers[table.initial as usize];
     let m = quotient_rows(
@@ -64,8 +66,8 @@ fn order_components(
         label,
         target,
         &*numbers,
-        eliminate,
-        eliminate,
+        eliminate_tau_selfloops,
+        eliminate_tau_selfloops,
         &mut *mid_source,
         &mut *mid_label,
         &mut *mid_target,
@@ -101,7 +103,7 @@ fn find_numbers(
     source: &[u16],
     label: &[u16],
     target: &[u16],
-    eliminate: bool,
+    eliminate_tau_selfloops: bool,
     numbers: &mut [u16],
     mid_source: &mut [u16],
     mid_label: &mut [u16],
@@ -118,7 +120,9 @@ fn find_numbers(
     requires { ⌜ (table .n + table .m + 1 ≤ length (now b)) × (table .n + table .m + 1 ≤ length (now c)) ⌝ }
     requires { ⌜ (table .m ≤ length (now order)) × (table .m ≤ length (now spare)) ⌝ }
     ensures { λ r. ⌜ r ≡ components (ltsOf table source label target) ⌝ }
-    ensures { λ _. ⌜ is numbers ≡ written (table .n) (newNumber (ltsOf table source label target) eliminate) (was numbers) ⌝ }
+    ensures { λ _.
+        let number = newNumber (ltsOf table source label target) «eliminate_tau_selfloops» in
+        ⌜ is numbers ≡ written (table .n) number (was numbers) ⌝ }
 {
     let count = tau_scc_decomposition(
         table,
@@ -140,7 +144,7 @@ fn find_numbers(
         label,
         target,
         count,
-        eliminate,
+        eliminate_tau_selfloops,
         numbers,
         mid_source,
         mid_label,
@@ -162,18 +166,18 @@ pub struct Reordered {
     pub state: usize,
 }
 
-// The naive quotient by components, renumbered in the reversed hidden order, over the first cells of x, y and z. The nine work slices may
-// hold anything, and are zero then.
+// The naive quotient by components, renumbered in the reversed hidden order, over the first cells of the result columns. The nine work
+// slices may hold anything, and are zero then.
 pub fn tau_cycle_elimination_and_reorder(
     table: Table,
     source: &[u16],
     label: &[u16],
     target: &[u16],
     state: usize,
-    eliminate: bool,
-    x: &mut [u16],
-    y: &mut [u16],
-    z: &mut [u16],
+    eliminate_tau_selfloops: bool,
+    result_source: &mut [u16],
+    result_label: &mut [u16],
+    result_target: &mut [u16],
     numbers: &mut [u16],
     mid_source: &mut [u16],
     mid_label: &mut [u16],
@@ -185,18 +189,24 @@ pub fn tau_cycle_elimination_and_reorder(
     spare: &mut [u16],
 ) -> Reordered
     requires { ⌜ Valid (ltsNow table source label target) × (state < table .n) × (table .n ≤ length (now numbers)) ⌝ }
-    requires { ⌜ (table .m ≤ length (now x)) × (table .m ≤ length (now y)) × (table .m ≤ length (now z)) ⌝ }
+    requires { ⌜ (table .m ≤ length (now «result_source»)) × (table .m ≤ length (now «result_label»))
+        × (table .m ≤ length (now «result_target»)) ⌝ }
     requires { ⌜ (table .m ≤ length (now «mid_source»)) × (table .m ≤ length (now «mid_label»)) ⌝ }
     requires { ⌜ (table .m ≤ length (now «mid_target»)) × (table .n + table .m + 1 ≤ length (now a)) ⌝ }
     requires { ⌜ (table .n + table .m + 1 ≤ length (now b)) × (table .n + table .m + 1 ≤ length (now c)) ⌝ }
     requires { ⌜ (table .m ≤ length (now order)) × (table .m ≤ length (now spare)) ⌝ }
     ensures { λ r.
         let system = ltsOf table source label target in
-        ⌜ (r .n ≡ components system) × (r .m ≡ length (newRows system eliminate)) ⌝ }
+        ⌜ (r .n ≡ components system) × (r .m ≡ length (newRows system «eliminate_tau_selfloops»)) ⌝ }
     ensures { λ r.
         let system = ltsOf table source label target in
-        ⌜ (r .initial ≡ newNumber system eliminate (table .initial)) × (r .state ≡ newNumber system eliminate state) ⌝ }
-    ensures { λ _. ⌜ (is x, (is y, is z)) ≡ rowsOver (newRows (ltsOf table source label target) eliminate) (was x, (was y, was z)) ⌝ }
+        let number = newNumber system «eliminate_tau_selfloops» in
+        ⌜ (r .initial ≡ number (table .initial)) × (r .state ≡ number state) ⌝ }
+    ensures { λ _.
+        let kept = newRows (ltsOf table source label target) «eliminate_tau_selfloops» in
+        let out = rowsWas «result_source» «result_label» «result_target» in
+        let outLeft = rowsAre «result_source» «result_label» «result_target» in
+        ⌜ outLeft ≡ rowsOver kept out ⌝ }
     ensures { λ _. ⌜ Cleared numbers × Cleared «mid_source» × Cleared «mid_label» × Cleared «mid_target» ⌝ }
     ensures { λ _. ⌜ Cleared a × Cleared b × Cleared c × Cleared order × Cleared spare ⌝ }
 {
@@ -205,7 +215,7 @@ pub fn tau_cycle_elimination_and_reorder(
         source,
         label,
         target,
-        eliminate,
+        eliminate_tau_selfloops,
         &mut *numbers,
         &mut *mid_source,
         &mut *mid_label,
@@ -222,11 +232,11 @@ pub fn tau_cycle_elimination_and_reorder(
         label,
         target,
         &*numbers,
-        eliminate,
-        eliminate,
-        x,
-        y,
-        z,
+        eliminate_tau_selfloops,
+        eliminate_tau_selfloops,
+        result_source,
+        result_label,
+        result_target,
         a,
         b,
         c,

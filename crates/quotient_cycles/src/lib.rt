@@ -3,7 +3,7 @@ ghost use mathlib.Core.Path.{_≡_};
 ghost use mathlib.Core.List.{[], _∷_};
 ghost use Rattle.columns.specs.Lent.{was, is};
 ghost use Rattle.quotient_cycles.specs.Call.{saidReordered, tauCycleEliminationAndReorder};
-ghost use Rattle.table.specs.Lent.{ltsOf};
+ghost use Rattle.table.specs.Lent.{ltsOf, rowsWas, rowsAre};
 
 pub mod core;
 
@@ -28,19 +28,20 @@ pub struct ReorderedAnswer {
     pub outcome: ReorderedOutcome,
 }
 
-// States that reach each other by hidden steps become one, and the rows between these, as a set, are written over the first cells of x, y
-// and z: `eliminate` drops those hidden rows that would be self-loops. The new states are numbered in the reversed hidden order, so that
-// each hidden row to another state leads to a smaller number. Answers the header of what comes out, and the state's new number.
+// States that reach each other by hidden steps become one, and the rows between these, as a set, are written over the first cells of the
+// result columns: `eliminate_tau_selfloops` drops those hidden rows that would be self-loops. The new states are numbered in the reversed
+// hidden order, so that each hidden row to another state leads to a smaller number. Answers the header of what comes out, and the state's
+// new number.
 pub fn tau_cycle_elimination_and_reorder(
     table: Table,
     source: &[u16],
     label: &[u16],
     target: &[u16],
     state: u16,
-    eliminate: bool,
-    x: &mut [u16],
-    y: &mut [u16],
-    z: &mut [u16],
+    eliminate_tau_selfloops: bool,
+    result_source: &mut [u16],
+    result_label: &mut [u16],
+    result_target: &mut [u16],
     numbers: &mut [u16],
     mid_source: &mut [u16],
     mid_label: &mut [u16],
@@ -56,14 +57,15 @@ pub fn tau_cycle_elimination_and_reorder(
         let left = is numbers ∷ is «mid_source» ∷ is «mid_label» ∷ is «mid_target» ∷ is a ∷ is b ∷ is c ∷ is order ∷ is spare ∷ [] in
         let rest = was a ∷ was b ∷ was c ∷ was order ∷ was spare ∷ [] in
         let work = was numbers ∷ was «mid_source» ∷ was «mid_label» ∷ was «mid_target» ∷ rest in
-        ⌜ (saidReordered r, ((is x, (is y, is z)), left))
-        ≡ tauCycleEliminationAndReorder system state eliminate (was x, (was y, was z)) work ⌝ }
+        let out = rowsWas «result_source» «result_label» «result_target» in
+        let outLeft = rowsAre «result_source» «result_label» «result_target» in
+        ⌜ (saidReordered r, (outLeft, left)) ≡ tauCycleEliminationAndReorder system state «eliminate_tau_selfloops» out work ⌝ }
 {
     let s = state as usize;
     let room = room_for(
         table,
         table.m as usize,
-        &[x.len(), y.len(), z.len()],
+        &[result_source.len(), result_label.len(), result_target.len()],
         &[
             numbers.len(),
             mid_source.len(),
@@ -89,10 +91,10 @@ pub fn tau_cycle_elimination_and_reorder(
         label,
         target,
         s,
-        eliminate,
-        x,
-        y,
-        z,
+        eliminate_tau_selfloops,
+        result_source,
+        result_label,
+        result_target,
         numbers,
         mid_source,
         mid_label,

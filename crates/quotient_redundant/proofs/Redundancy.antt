@@ -10,7 +10,7 @@ use lib.Dec.{eqb, ltb}
 use lib.ListN.{length, length-map, getD}
 use Rattle.columns.specs.Columns.{over, cell}
 use Rattle.columns.specs.Counting.{many, members}
-use Rattle.columns.specs.Rows.{firstOf, secondOf, thirdOf}
+use Rattle.columns.specs.Rows.{firstOf, secondOf, thirdOf, rowIn}
 use Rattle.columns.specs.Sets.{Mem, Row, rowLt, Ascending}
 use Rattle.columns.proofs.All.{lt-or-le}
 use Rattle.columns.proofs.Bools.{contra, fails, and-left, and-right, and-both}
@@ -19,16 +19,13 @@ use Rattle.columns.proofs.Lists.{getD-any}
 use Rattle.columns.proofs.Maps.{map-in, map-out, map-ascending, map-alike}
 use Rattle.columns.proofs.Members.{length-members, members-in, members-out, members-ascending}
 use Rattle.columns.proofs.Orders.{row-order}
-use Rattle.columns.proofs.Sets.{ascending-unique}
-use Rattle.table.specs.Lts.{Lts, rowIn, rowAt, Step, Valid}
+use Rattle.columns.proofs.Sets.{ascending-unique, same-row}
+use Rattle.table.specs.Lts.{Lts, rowAt, Step, Valid}
 use Rattle.table.specs.Reach.{reaches}
 use Rattle.table.specs.Tables.{rowsOver}
 use Rattle.table.proofs.Rows.{row-step, step-row}
 use Rattle.table.proofs.Walks.{reaches-walk}
 use Rattle.quotient_redundant.specs.Redundant.{Redundant, moves, rival, witness, redundant, remains, remainingRows}
-
-same-row : {s a u s′ a′ u′ : ℕ} → s ≡ s′ → a ≡ a′ → u ≡ u′ → _≡_ {A = Row} (s, (a, u)) (s′, (a′, u′))
-same-row p q r = cc
 
 passes-not : (b : Bool) → b ≡ false → not b ≡ true
 passes-not b e = ap not e

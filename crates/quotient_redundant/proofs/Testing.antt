@@ -1,12 +1,11 @@
 -- A witness, by the marks.
-use mathlib.Core.Path.{_≡_, refl, sym, ap, ap₂, _∙_}
+use mathlib.Core.Path.{_≡_, refl, ap, ap₂, _∙_}
 use mathlib.Core.Bool.{Bool, true, false, not, _&&_}
 use mathlib.Core.List.{List}
 use Prim.Native.Nat.{ℕ, _<_}
 use lib.Dec.{eqb}
 use lib.ListN.{length, getD}
 use Rattle.columns.specs.Answers.{bit}
-use Rattle.columns.proofs.Bools.{and-no-left}
 use Rattle.columns.proofs.Lists.{length-listed, listed-at}
 use Rattle.table.specs.Lts.{Lts, Valid}
 use Rattle.table.specs.Reach.{reaches}

@@ -1,11 +1,11 @@
 -- What `remove_redundant_transitions` has done where it says done, in document 01's words. t is the table that is lent; `out` and `work`
 -- are what the result columns and the work slices held, `left` and `work₁` what they hold at return.
-use mathlib.Core.Path.{_≡_, refl, ap, _∙_}
+use mathlib.Core.Path.{_≡_, refl, ap}
 use mathlib.Core.Logic.{_↔_}
 use mathlib.Core.List.{List, [], _∷_, map}
 use Prim.Native.Nat.{ℕ}
 use native.Mathlib.Omega.{arith}
-use lib.ListN.{length, getD}
+use lib.ListN.{length}
 use Rattle.columns.specs.Answers.{done}
 use Rattle.columns.specs.Columns.{zeroed}
 use Rattle.columns.specs.Sets.{Mem, Row, rowLt, Ascending}

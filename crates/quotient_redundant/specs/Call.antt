@@ -16,7 +16,7 @@ unfoldable pub removeRefusal : Lts → Three → List (List ℕ) → Refusal
 unfolding due rowsLong badRow allLong
 removeRefusal t out work = due (tableTests t (callRoom t (t .m) (lengthsOf out) (map length work)))
 
--- the header but for the number of rows, the rows that stay over the first cells of the result columns, and the work zero
+-- the table's header with the number of rows that stay, these over the first cells of the result columns, and the work zero
 unfoldable pub removeRedundantTransitions : Lts → Three → List (List ℕ) → Said × (Three × List (List ℕ))
 unfolding leaving removeRefusal remainingRows rowsOver
 removeRedundantTransitions t out work =

@@ -7,7 +7,8 @@ use lib.Dec.{eqb}
 use lib.ListN.{getD}
 use Rattle.columns.specs.Counting.{some, members}
 use Rattle.columns.specs.Sets.{Row}
-use Rattle.table.specs.Lts.{Lts, rowIn, rowAt, Step}
+use Rattle.columns.specs.Rows.{rowIn}
+use Rattle.table.specs.Lts.{Lts, rowAt, Step}
 use Rattle.table.specs.Reach.{Walk, edge, reaches}
 
 -- document 01's words: s reaches `from` by hidden steps, there is a row (from, a, to), and `to` reaches u by hidden steps; it is not

@@ -6,14 +6,14 @@ ghost use lib.ListN.{length, getD, take};
 ghost use Rattle.columns.specs.Counting.{many, members};
 ghost use Rattle.columns.specs.Lent.{was, is, Cleared};
 ghost use Rattle.quotient_redundant.specs.Redundant.{rival, witness, redundant, remains, remainingRows};
-ghost use Rattle.table.specs.Lent.{ltsOf, ltsNow};
+ghost use Rattle.table.specs.Lent.{ltsOf, ltsNow, rowsWas, rowsAre};
 ghost use Rattle.table.specs.Lts.{Valid};
 ghost use Rattle.table.specs.Marks.{marksFrom, marksInto};
 ghost use Rattle.table.specs.Stretch.{StartsOf};
 ghost use Rattle.table.specs.Tables.{rowsOver};
 ghost use Rattle.table.specs.Turned.{TurnedWithStarts};
 use columns::cells::at;
-use columns::cells::clear_seven;
+use columns::clearing::clear_seven;
 use columns::rows::write_rows;
 use table::Table;
 use table::core::reach;
@@ -277,16 +277,16 @@ fn find_remaining(
     )
 }
 
-// The rows that stay, in their order, over the first cells of x, y and z. Returns how many. The seven work slices may hold anything, and
-// are zero then.
+// The rows that stay, in their order, over the first cells of the result columns. Returns how many. The seven work slices may hold
+// anything, and are zero then.
 pub fn remove_redundant_transitions(
     table: Table,
     source: &[u16],
     label: &[u16],
     target: &[u16],
-    x: &mut [u16],
-    y: &mut [u16],
-    z: &mut [u16],
+    result_source: &mut [u16],
+    result_label: &mut [u16],
+    result_target: &mut [u16],
     order: &mut [u16],
     back_source: &mut [u16],
     back_label: &mut [u16],
@@ -296,13 +296,18 @@ pub fn remove_redundant_transitions(
     queue: &mut [u16],
 ) -> usize
     requires { ⌜ Valid (ltsNow table source label target) ⌝ }
-    requires { ⌜ (table .m ≤ length (now x)) × (table .m ≤ length (now y)) × (table .m ≤ length (now z)) ⌝ }
+    requires { ⌜ (table .m ≤ length (now «result_source»)) × (table .m ≤ length (now «result_label»))
+        × (table .m ≤ length (now «result_target»)) ⌝ }
     requires { ⌜ (table .m ≤ length (now order)) × (table .m ≤ length (now «back_source»)) ⌝ }
     requires { ⌜ (table .m ≤ length (now «back_label»)) × (table .m ≤ length (now «back_target»)) ⌝ }
     requires { ⌜ (table .n ≤ length (now forward)) × (table .n ≤ length (now backward)) ⌝ }
     requires { ⌜ (table .n ≤ length (now queue)) × (table .m ≤ 2 * length (now queue) + 1) ⌝ }
     ensures { λ r. ⌜ r ≡ length (remainingRows (ltsOf table source label target)) ⌝ }
-    ensures { λ _. ⌜ (is x, (is y, is z)) ≡ rowsOver (remainingRows (ltsOf table source label target)) (was x, (was y, was z)) ⌝ }
+    ensures { λ _.
+        let system = ltsOf table source label target in
+        let out = rowsWas «result_source» «result_label» «result_target» in
+        let outLeft = rowsAre «result_source» «result_label» «result_target» in
+        ⌜ outLeft ≡ rowsOver (remainingRows system) out ⌝ }
     ensures { λ _. ⌜ Cleared order × Cleared «back_source» × Cleared «back_label» × Cleared «back_target» ⌝ }
     ensures { λ _. ⌜ Cleared forward × Cleared backward × Cleared queue ⌝ }
 {
@@ -319,7 +324,15 @@ pub fn remove_redundant_transitions(
         &mut *backward,
         &mut *queue,
     );
-    write_rows(source, label, target, &order[..r], x, y, z);
+    write_rows(
+        source,
+        label,
+        target,
+        &order[..r],
+        result_source,
+        result_label,
+        result_target,
+    );
     clear_seven(
         order,
         back_source,

@@ -4,7 +4,7 @@ ghost use mathlib.Core.Path.{_≡_};
 ghost use mathlib.Core.List.{[], _∷_};
 ghost use Rattle.columns.specs.Lent.{was, is};
 ghost use Rattle.quotient_redundant.specs.Call.{removeRedundantTransitions};
-ghost use Rattle.table.specs.Lent.{ltsOf};
+ghost use Rattle.table.specs.Lent.{ltsOf, rowsWas, rowsAre};
 ghost use Rattle.table.specs.Tables.{saidTable};
 
 pub mod core;
@@ -16,17 +16,17 @@ use table::answers::table_of;
 use table::checks::check;
 use table::checks::room_for;
 
-// The rows that are not redundant, over the first cells of x, y and z. A row (s, a, u) goes if s reaches t by hidden steps, some other
-// row (t, a, v) that is no hidden self-loop exists, and v reaches u by hidden steps. Every test is against the whole table. Answers the
-// header of what is left.
+// The rows that are not redundant, over the first cells of the result columns. A row (s, a, u) goes if s reaches t by hidden steps, some
+// other row (t, a, v) that is no hidden self-loop exists, and v reaches u by hidden steps. Every test is against the whole table. Answers
+// the header of what is left.
 pub fn remove_redundant_transitions(
     table: Table,
     source: &[u16],
     label: &[u16],
     target: &[u16],
-    x: &mut [u16],
-    y: &mut [u16],
-    z: &mut [u16],
+    result_source: &mut [u16],
+    result_label: &mut [u16],
+    result_target: &mut [u16],
     order: &mut [u16],
     back_source: &mut [u16],
     back_label: &mut [u16],
@@ -39,12 +39,14 @@ pub fn remove_redundant_transitions(
         let system = ltsOf table source label target in
         let left = is order ∷ is «back_source» ∷ is «back_label» ∷ is «back_target» ∷ is forward ∷ is backward ∷ is queue ∷ [] in
         let work = was order ∷ was «back_source» ∷ was «back_label» ∷ was «back_target» ∷ was forward ∷ was backward ∷ was queue ∷ [] in
-        ⌜ (saidTable r, ((is x, (is y, is z)), left)) ≡ removeRedundantTransitions system (was x, (was y, was z)) work ⌝ }
+        let out = rowsWas «result_source» «result_label» «result_target» in
+        let outLeft = rowsAre «result_source» «result_label» «result_target» in
+        ⌜ (saidTable r, (outLeft, left)) ≡ removeRedundantTransitions system out work ⌝ }
 {
     let room = room_for(
         table,
         table.m as usize,
-        &[x.len(), y.len(), z.len()],
+        &[result_source.len(), result_label.len(), result_target.len()],
         &[
             order.len(),
             back_source.len(),
@@ -65,9 +67,9 @@ pub fn remove_redundant_transitions(
         source,
         label,
         target,
-        x,
-        y,
-        z,
+        result_source,
+        result_label,
+        result_target,
         order,
         back_source,
         back_label,

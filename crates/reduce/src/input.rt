@@ -5,7 +5,7 @@ ghost use Rattle.io.specs.Counts.{Counts};
 use libc::STDIN_FILENO;
 
 // One byte more than the longest file whose fields agree, one with 65,535 rows. So whether 3 or 13 is due is known for every file, and of
-// longer input no more is read: it is 13 at the end that it names.
+// longer input no more is read: it is 13 at a wrong field, or else at the end that it names.
 pub const INPUT: usize = 393241;
 
 // How many bytes were read, and whether no read failed.

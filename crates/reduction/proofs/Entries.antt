@@ -1,32 +1,25 @@
 -- What a call goes by that has passed the checks; and a call that is lent a right table and the room is never refused.
 use mathlib.Core.Bool.{_&&_}
 use mathlib.Core.List.{List, _++_}
-use mathlib.Core.Path.{_≡_, refl, sym, ap, _∙_}
-use Prim.Native.Nat.{ℕ, _+_, _≤_}
+use mathlib.Core.Path.{_≡_, refl}
+use Prim.Native.Nat.{ℕ, _+_}
 use borrow.Author.Tests.{leb-true, le-leb}
 use lib.Dec.{leb}
 use lib.ListN.{length, drop}
 use Rattle.columns.specs.Answers.{none}
 use Rattle.columns.specs.Columns.{over}
-use Rattle.columns.specs.Due.{allLong, Roomy}
+use Rattle.columns.specs.Due.{allLong}
 use Rattle.columns.specs.declared.answers.Refusal.{Refusal}
 use Rattle.columns.proofs.Bools.{and-left, and-right, and-both}
 use Rattle.columns.proofs.Chains.{passed, none-due}
 use Rattle.columns.proofs.Rooms.{roomy-of, of-roomy}
-use Rattle.reduction.specs.Reducing.{reductionRefusal}
+use Rattle.reduction.specs.Reducing.{reductionRefusal, Ready}
 use Rattle.refinement.proofs.Rounds.{final-length}
 use Rattle.refinement_strong.specs.Reduction.{strongBlocks}
 use Rattle.signatures.specs.Strong.{strongSignature}
 use Rattle.table.specs.Checks.{worksLong, tableTests}
-use Rattle.table.specs.Lts.{Lts, Valid}
+use Rattle.table.specs.Lts.{Lts}
 use Rattle.table.proofs.Refusals.{checked-of, of-checked}
-
--- a right table, and room in the result columns, in the block column and in the work slices
-pub record Ready (t : Lts) (results : List ℕ) (block : ℕ) (works : List ℕ) : Type 0 where
-  pub valid : Valid t
-  pub fits : Roomy (t .m) results
-  pub long : t .n ≤ block
-  pub wide : Roomy (t .n + t .m + 1) works
 
 module _ (t : Lts) (results : List ℕ) (block : ℕ) (works : List ℕ) where
   pub ready-of : (r : Refusal) → r ≡ reductionRefusal t results block works → r .number ≡ 0 → Ready t results block works

@@ -1,9 +1,10 @@
 -- What a call of `strong_reduction` that is done has answered and left, sentence by sentence; and that it is never refused for a right
--- table and the room. A step is a row, a bisimulation is Park's and Milner's (specs/Bisimulation of `bisimulation`, a short file). Every
--- label is an ordinary one, the hidden one too, and states that are not reachable stay.
+-- table and the room. A step is a row (specs/Lts of `table`), a bisimulation is Park's and Milner's (specs/Bisimulation of
+-- `bisimulation`, a short file), and the room is `Ready` of specs/Reducing. Every label is an ordinary one, the hidden one too, and
+-- states that are not reachable stay.
 use mathlib.Core.Path.{_≡_, refl, sym, ap, subst, _∙_}
 use mathlib.Core.Logic.{_↔_}
-use mathlib.Core.List.{List, [], _∷_, map}
+use mathlib.Core.List.{List, map}
 use Prim.Native.Nat.{ℕ, _-_, _≤_, _<_}
 use native.Mathlib.Omega.{arith}
 use lib.ListN.{length, getD}
@@ -12,35 +13,28 @@ use Rattle.bisimulation.specs.Bisimulation.{Match, Bisimulation, Bisimilar}
 use Rattle.bisimulation.specs.Quotient.{blockOf, Belongs}
 use Rattle.bisimulation.proofs.Quotients.{quotient-in, quotient-ascending}
 use Rattle.columns.specs.Answers.{done}
-use Rattle.columns.specs.Columns.{listed, over}
+use Rattle.columns.specs.Columns.{listed}
 use Rattle.columns.specs.Sets.{Row}
 use Rattle.columns.proofs.Lists.{over-front}
 use Rattle.columns.proofs.Saying.{left-done}
-use Rattle.reduction.specs.Reducing.{Slices, reductionRefusal, reductionNumbers, reductionLeft, strongReduction, answeredTable}
-use Rattle.reduction.proofs.Entries.{Ready, ready-of, ready-none, length-blocks}
-use Rattle.refinement_strong.specs.Reduction.{
-  strongBlocks,
-  strongBlock,
-  strongRounds,
-  strongCount,
-  strongRows,
-  quotientOf,
-  strongReduced,
-}
+use Rattle.reduction.specs.Reducing.{Slices, reductionRefusal, reductionNumbers, reductionLeft, strongReduction, answeredTable, Ready}
+use Rattle.reduction.proofs.Entries.{ready-of, ready-none, length-blocks}
+use Rattle.refinement_strong.specs.Reduction.{strongBlocks, strongBlock, strongRounds, strongCount, strongRows, quotientOf, strongReduced}
 use Rattle.refinement_strong.proofs.Again.{AllApart, own-blocks, own-rows}
 use Rattle.refinement_strong.proofs.Bisimulations.{valid-range}
 use Rattle.refinement_strong.proofs.Quotients.{quotientOf-rows}
+use Rattle.refinement_strong.proofs.Reductions as R
 use Rattle.refinement_strong.proofs.Reductions.{reduced-valid}
 use Rattle.refinement_strong.proofs.Theorems as D
 use Rattle.table.specs.Lts.{Lts, rows, Step, Valid}
-use Rattle.table.specs.Tables.{tableOf, rowsOver}
+use Rattle.table.specs.Tables.{tableOf, rowsOver, lengthsOf}
 use Rattle.table.proofs.Rows.{step-fields}
 use Rattle.table.proofs.Sayings.{left-said}
 use Rattle.table.proofs.Tables.{laid-rows, laid-valid}
 
 -- the lengths that the checks go by
 abbrev pub resultLengths : Slices → List ℕ
-resultLengths lent = length (lent .0 .0) ∷ length (lent .0 .1 .0) ∷ length (lent .0 .1 .1) ∷ []
+resultLengths lent = lengthsOf (lent .0)
 
 abbrev pub workLengths : Slices → List ℕ
 workLengths lent = map (λ l. length l) (lent .1 .1)
@@ -152,6 +146,25 @@ module _ (t : Lts) (given left : Slices) (values : List ℕ) (e : strongReductio
   pub state-and-block : (s : ℕ) → s < t .n → Bisimilar (rows t) (rows result) s (block s)
   state-and-block s h =
       record { relation = In; bisimulation = states-and-blocks; related = record { state = h; home = refl } }
+
+  -- The two starts are bisimilar.
+  pub starts-bisimilar : Bisimilar (rows t) (rows result) (t .initial) (result .initial)
+  starts-bisimilar =
+      subst (λ (b : ℕ). Bisimilar (rows t) (rows result) (t .initial) b) (sym start-to-start) (state-and-block (t .initial) (valid .initial))
+
+  -- The blocks are the states of what is answered: each state has one of them, and each of them a state. The labels are as they were.
+  pub block-below : (s : ℕ) → s < t .n → block s < result .n
+  unfolding strongReduced quotientOf tableOf
+  block-below s h = omega (arith, block-defined s h, R.block-below t valid s h, number 0)
+
+  pub block-member : (b : ℕ) → b < result .n → (s : ℕ) × In s b
+  unfolding strongReduced quotientOf tableOf
+  block-member b h =
+      let f = R.block-member t valid b (omega (arith, h, number 0)) in
+      (f .state, from-defined (f .state) b record { state = f .below; home = f .home })
+
+  pub labels-kept : result .labels ≡ t .labels
+  labels-kept = sym (number 1)
 
   -- The number of rounds is that of the defined rounds that split something, at most n - 1.
   pub rounds-defined : getD values 4 0 ≡ strongRounds t

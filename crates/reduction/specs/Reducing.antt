@@ -1,19 +1,19 @@
 -- What `strong_reduction` refuses, answers and leaves.
 use mathlib.Core.Bool.{_&&_}
 use mathlib.Core.List.{List, [], _∷_, map}
-use Prim.Native.Nat.{ℕ}
+use Prim.Native.Nat.{ℕ, _≤_, _+_}
 use lib.Dec.{leb}
 use lib.ListN.{length, getD}
 use Rattle.bisimulation.specs.Quotient.{quotient}
 use Rattle.columns.specs.Answers.{Said, leaving}
 use Rattle.columns.specs.Columns.{over, zeroed}
-use Rattle.columns.specs.Due.{due, allLong}
+use Rattle.columns.specs.Due.{due, allLong, Roomy}
 use Rattle.columns.specs.Rows.{rowsOf}
 use Rattle.columns.specs.declared.answers.Refusal.{Refusal}
 use Rattle.refinement.specs.Blocks.{blockCount}
 use Rattle.refinement_strong.specs.Reduction.{strongBlocks, strongBlock, strongRounds, strongCount, strongRows}
 use Rattle.table.specs.Checks.{worksLong, rowsLong, badRow, tableTests}
-use Rattle.table.specs.Lts.{Lts}
+use Rattle.table.specs.Lts.{Lts, Valid}
 use Rattle.table.specs.Tables.{Three, lengthsOf, rowsOver}
 
 -- 1, 2, 3, 4, 7, 5 and 6, and nothing else; the result columns, the block column and the work slices by their lengths
@@ -55,3 +55,10 @@ answeredTable values left =
       label = left .0 .1 .0;
       target = left .0 .1 .1;
     }
+
+-- a right table, and room in the result columns, in the block column and in the work slices
+pub record Ready (t : Lts) (results : List ℕ) (block : ℕ) (works : List ℕ) : Type 0 where
+  pub valid : Valid t
+  pub fits : Roomy (t .m) results
+  pub long : t .n ≤ block
+  pub wide : Roomy (t .n + t .m + 1) works

@@ -1,22 +1,22 @@
 // The strong reduction, on columns that are checked already. No entry points: each says what it requires.
 ghost use mathlib.Core.Path.{_≡_};
 ghost use mathlib.Core.List.{[], _∷_};
-ghost use Prim.Native.Nat.{_+_, _≤_};
+ghost use Prim.Native.Nat.{_+_};
 ghost use lib.ListN.{length};
-ghost use Rattle.columns.specs.Lent.{was, is, Cleared};
+ghost use Rattle.columns.specs.Lent.{is, Cleared};
+ghost use Rattle.columns.specs.Columns.{EachLong};
 ghost use Rattle.partition.specs.Lent.{after, partsNow};
 ghost use Rattle.partition.specs.Partition.{Long};
-ghost use Rattle.reduction.specs.Work.{AllLong};
 ghost use Rattle.refinement_rounds.specs.Rooms.{RoomNow, RoomIs};
 ghost use Rattle.refinement_rounds.specs.Splitting.{Ended};
 ghost use Rattle.refinement_strong.specs.Reduction.{strongBlocks, strongRounds, strongCount, strongRows};
 ghost use Rattle.signatures.specs.Strong.{strongSignature};
-ghost use Rattle.table.specs.Lent.{ltsNow, ltsOf};
+ghost use Rattle.table.specs.Lent.{ltsNow, ltsOf, rowsWas, rowsAre};
 ghost use Rattle.table.specs.Lts.{Valid};
 ghost use Rattle.table.specs.Tables.{rowsOver};
-use columns::cells::clear;
+use columns::clearing::clear_five;
+use columns::clearing::clear_three;
 use quotient::core::quotient_rows;
-use quotient::core::wipe;
 use refinement_numbers::hand_out;
 use refinement_rounds::running::RunEnd;
 use refinement_rounds::running::run;
@@ -78,15 +78,6 @@ fn refine(
     )
 }
 
-// Every cell of three columns becomes zero.
-fn clear_three(a: &mut [u16], b: &mut [u16], c: &mut [u16])
-    ensures { λ _. ⌜ Cleared a × Cleared b × Cleared c ⌝ }
-{
-    clear(a);
-    clear(b);
-    clear(c);
-}
-
 // The number of each state's final block, by least member, in `block`, which has n cells. Answers how many rounds split something, and
 // how many blocks there are.
 fn strong_blocks(
@@ -108,8 +99,8 @@ fn strong_blocks(
 ) -> RunEnd
     requires { ⌜ Valid (ltsNow table source label target) × (length (now block) ≡ table .n) ⌝ }
     requires { let columns = now elements ∷ now «element_offset» ∷ now «element_to_block» ∷ now begin ∷ now «marked_split» ∷ now end ∷ [] in
-        ⌜ AllLong (table .n + table .m + 1) columns ⌝ }
-    requires { ⌜ AllLong (table .n + table .m + 1) (now numbers ∷ now labels ∷ now blocks ∷ now spare ∷ []) ⌝ }
+        ⌜ EachLong (table .n + table .m + 1) columns ⌝ }
+    requires { ⌜ EachLong (table .n + table .m + 1) (now numbers ∷ now labels ∷ now blocks ∷ now spare ∷ []) ⌝ }
     ensures { λ r.
         let system = ltsOf table source label target in
         ⌜ (r .rounds ≡ strongRounds system) × (r .count ≡ strongCount system) × (is block ≡ strongBlocks system) ⌝ }
@@ -145,16 +136,16 @@ pub struct Reduction {
     pub rounds: usize,
 }
 
-// The reduced rows over the first cells of x, y and z, and the number of each state's block in `block`, which has n cells. Every cell of
-// the ten work slices, of n + m + 1 cells or more, is zero then.
+// The reduced rows over the first cells of the result columns, and the number of each state's block in `block`, which has n cells. Every
+// cell of the ten work slices, of n + m + 1 cells or more, is zero then.
 pub fn reduce(
     table: Table,
     source: &[u16],
     label: &[u16],
     target: &[u16],
-    x: &mut [u16],
-    y: &mut [u16],
-    z: &mut [u16],
+    result_source: &mut [u16],
+    result_label: &mut [u16],
+    result_target: &mut [u16],
     block: &mut [u16],
     elements: &mut [u16],
     element_offset: &mut [u16],
@@ -168,16 +159,18 @@ pub fn reduce(
     spare: &mut [u16],
 ) -> Reduction
     requires { ⌜ Valid (ltsNow table source label target) × (length (now block) ≡ table .n) ⌝ }
-    requires { ⌜ AllLong (table .m) (now x ∷ now y ∷ now z ∷ []) ⌝ }
+    requires { ⌜ EachLong (table .m) (now «result_source» ∷ now «result_label» ∷ now «result_target» ∷ []) ⌝ }
     requires { let columns = now elements ∷ now «element_offset» ∷ now «element_to_block» ∷ now begin ∷ now «marked_split» ∷ now end ∷ [] in
-        ⌜ AllLong (table .n + table .m + 1) columns ⌝ }
-    requires { ⌜ AllLong (table .n + table .m + 1) (now numbers ∷ now labels ∷ now blocks ∷ now spare ∷ []) ⌝ }
+        ⌜ EachLong (table .n + table .m + 1) columns ⌝ }
+    requires { ⌜ EachLong (table .n + table .m + 1) (now numbers ∷ now labels ∷ now blocks ∷ now spare ∷ []) ⌝ }
     ensures { λ r.
         let system = ltsOf table source label target in
         ⌜ (r .count ≡ strongCount system) × (r .rows ≡ length (strongRows system)) × (r .rounds ≡ strongRounds system) ⌝ }
     ensures { λ _.
         let system = ltsOf table source label target in
-        ⌜ (is block ≡ strongBlocks system) × ((is x, (is y, is z)) ≡ rowsOver (strongRows system) (was x, (was y, was z))) ⌝ }
+        let out = rowsWas «result_source» «result_label» «result_target» in
+        let outLeft = rowsAre «result_source» «result_label» «result_target» in
+        ⌜ (is block ≡ strongBlocks system) × (outLeft ≡ rowsOver (strongRows system) out) ⌝ }
     ensures { λ _. ⌜ Cleared elements × Cleared «element_offset» × Cleared «element_to_block» × Cleared begin × Cleared «marked_split» ⌝ }
     ensures { λ _. ⌜ Cleared end × Cleared numbers × Cleared labels × Cleared blocks × Cleared spare ⌝ }
 {
@@ -206,16 +199,16 @@ pub fn reduce(
         &*block,
         false,
         false,
-        x,
-        y,
-        z,
+        result_source,
+        result_label,
+        result_target,
         elements,
         element_offset,
         element_to_block,
         begin,
         marked_split,
     );
-    wipe(end, numbers, labels, blocks, spare);
+    clear_five(end, numbers, labels, blocks, spare);
     Reduction {
         count: r.count,
         rows,

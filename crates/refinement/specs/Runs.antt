@@ -7,7 +7,7 @@ use Rattle.bisimulation.specs.Quotient.{blockOf}
 use Rattle.refinement.specs.Blocks.{Finer, byLeast}
 use Rattle.refinement.specs.Rounds.{Signature, splittingRounds, final}
 
--- q is p with the blocks numbered below b split by signature under p; `count` is above the numbers of p
+-- q is p with the blocks numbered below b split by signature under p; `count` is meant to be the block count of p
 pub record RefinedBelow (n : ℕ) (sig : Signature) (p : List ℕ) (count b : ℕ) (q : List ℕ) : Type 0 where
   pub block : Finer n q p
   pub signature : (s t : ℕ) → s < n → t < n → blockOf q s ≡ blockOf q t → blockOf p s < b → sig p s ≡ sig p t

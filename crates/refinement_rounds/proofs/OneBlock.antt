@@ -6,19 +6,18 @@ use mathlib.Core.List.{List}
 use Prim.Native.Nat.{ℕ, _+_, _-_, _≤_, _<_}
 use native.Mathlib.Omega.{arith}
 use borrow.Author.Tests.{eq-eqb, ne-eqb, lt-ltb}
-use lib.Dec.{eqb, ltb}
+use lib.Dec.{ltb}
 use lib.ListN.{length, getD, set, length-set}
 use lib.Seq.{getD-set-same, getD-set-other}
 use Rattle.bisimulation.specs.Quotient.{blockOf}
-use Rattle.columns.specs.Counting.{many, first}
+use Rattle.columns.specs.Counting.{many}
 use Rattle.columns.specs.Limits.{maxStates}
 use Rattle.columns.specs.Number.{leads, number}
-use Rattle.columns.specs.Tests.{all}
 use Rattle.columns.proofs.All.{all-of, same-or-not, lt-or-le}
-use Rattle.columns.proofs.Bools.{and-both, contra, cases}
+use Rattle.columns.proofs.Bools.{and-both, contra}
 use Rattle.columns.proofs.Counting.{first-law, many-le, many-strict}
 use Rattle.columns.proofs.Numbering.{Equivalence, number-same, number-differ, number-bound, number-onto}
-use Rattle.partition_division.specs.Divide.{home, divided, largestOf, blockUnmarked, partitionMarked}
+use Rattle.partition_division.specs.Divide.{home, divided, blockUnmarked, partitionMarked}
 use Rattle.partition_division.specs.Marked.{markedIn, numbered, absent, missing, denseb, lenAt}
 use Rattle.partition_division.specs.Steps.{Dividable}
 use Rattle.partition_division.proofs.Divided.{count-more}

@@ -10,7 +10,7 @@ use Rattle.columns.specs.Columns.{zeros}
 use Rattle.columns.proofs.Parts.{part-end, put-end}
 use Rattle.partition.specs.Partition.{Partition, parts, Sound}
 use Rattle.refinement_rounds.specs.Rooms.{ClearFront, storeBehind}
-use Rattle.refinement_signing.specs.Stored.{Store, store}
+use Rattle.refinement_signing.specs.Stored.{store}
 
 -- ---- the front lent, and zero again
 module _ (n : ℕ) (l : List ℕ) (z : ClearFront n l) where
@@ -73,10 +73,6 @@ pub lent-store :
     → store n x y d begins ≡ storeBehind n (lent n m l x w) (lent n m b y v) d begins
 lent-store n m l b x y d begins w v =
     ap₂ (λ (s t : List ℕ). store n s t d begins) (sym (lent-behind n m l x w)) (sym (lent-behind n m b y v))
-
--- a column that is zero
-pub zero-again : (l : List ℕ) (n : ℕ) → l ≡ zeros n → l ≡ zeros (length l)
-zero-again l n e = e ∙ ap zeros (sym (ap length e ∙ length-replicate {A = ℕ} n 0))
 
 -- ---- a partition with other cells behind its states
 pub sound-front :

@@ -6,7 +6,7 @@ use mathlib.Core.List.{List}
 use Prim.Native.Nat.{ℕ, _+_, _≤_, _<_}
 use denote.Ref.{RefT, now}
 use lib.ListN.{length, take, drop}
-use Rattle.columns.specs.Columns.{zeros}
+use Rattle.columns.specs.Columns.{zeros, cleared}
 use Rattle.columns.specs.Lent.{Lent, was, is}
 use Rattle.refinement_signing.specs.Stored.{Store, store}
 
@@ -36,7 +36,7 @@ pub record Room (n m : ℕ) (elements offset begins numbers labels blocks spare 
   pub of-spare : n + m < length spare
   pub labels-zero : ClearFront n labels
   pub blocks-zero : ClearFront n blocks
-  pub spare-zero : spare ≡ zeros (length spare)
+  pub spare-zero : spare ≡ cleared spare
 
 -- the same as a `requires` and an `ensures` see it
 abbrev pub RoomNow :

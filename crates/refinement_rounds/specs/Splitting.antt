@@ -11,13 +11,14 @@ use Rattle.refinement_signing.specs.Stored.{Store, stored}
 abbrev pub storedSignature : Store → Signature
 storedSignature σ = λ _ s. stored σ s
 
--- block b is wholly marked
+-- p with block b wholly marked
 abbrev pub wholly : Partition → ℕ → Partition
 wholly p b =
     let marked = set (p .marked-split) b (getD (p .begin) b 0) in
     parts (p .elements) (p .element-offset) (p .element-to-block) (p .begin) marked (p .end) (p .n) (p .count)
 
--- q is p with block b divided by signature: the next turn of a round that began with the block column `home`
+-- q comes of p when block b is divided by signature: it is sound, has no fewer blocks, and is the next turn of any round that began with
+-- the block column `home` and has come to b
 pub record Split (sig : Signature) (p : Partition) (b : ℕ) (q : Partition) : Type 0 where
   pub sound : Sound q
   pub more : p .count ≤ q .count

@@ -1,7 +1,5 @@
 // A round, and the rounds until nothing splits. No entry points: each says what it requires.
-ghost use mathlib.Core.Path.{_≡_};
-ghost use Prim.Native.Nat.{ℕ, _≤_, _<_};
-ghost use lib.ListN.{length};
+ghost use Prim.Native.Nat.{_<_};
 ghost use Rattle.partition.specs.Lent.{before, after, partsNow};
 ghost use Rattle.partition.specs.Partition.{Sound};
 ghost use Rattle.refinement_rounds.specs.Rooms.{RoomNow, RoomIs};

@@ -1,6 +1,6 @@
 // The blocks of a partition divided by the signatures that are stored. No entry points: each says what it requires.
 ghost use mathlib.Core.Path.{_≡_};
-ghost use Prim.Native.Nat.{ℕ, _≤_, _<_};
+ghost use Prim.Native.Nat.{_≤_, _<_};
 ghost use lib.ListN.{length, getD, set};
 ghost use Rattle.columns.specs.Lent.{was, is, Clear};
 ghost use Rattle.partition.specs.Lent.{before, after, partsNow};

@@ -1,48 +1,30 @@
 -- Two stored signatures are one exactly if they have as many pairs, and the same ones.
-use mathlib.Core.Path.{_≡_, refl, sym, ap, _∙_}
-use mathlib.Core.Logic.{⊎-elim}
+use mathlib.Core.Path.{_≡_, sym, ap, _∙_}
 use mathlib.Core.Bool.{Bool, true, false, cond}
-use mathlib.Core.List.{List, [], _∷_, _++_}
-use Prim.Native.Nat.{ℕ, zero, suc, _+_, _-_, _≤_, _<_}
+use mathlib.Core.List.{List}
+use Prim.Native.Nat.{ℕ, _+_, _-_, _≤_, _<_}
 use native.Mathlib.Omega.{arith}
 use borrow.Author.Tests.{lt-ltb, le-ltb, eq-eqb, ne-eqb}
 use lib.Dec.{eqb}
-use lib.ListN.{length, getD, take, drop}
-use lib.Seq.{take-at, drop-at}
+use lib.ListN.{length, getD}
 use Rattle.columns.specs.Columns.{listed}
 use Rattle.columns.specs.Sets.{Pair, pairEq, same}
-use Rattle.columns.specs.Tests.{all}
-use Rattle.columns.proofs.All.{top-or-below, all-at, all-of}
+use Rattle.columns.proofs.All.{all-at, all-of}
 use Rattle.columns.proofs.Bools.{fails, bool-ext, and-no-left}
-use Rattle.columns.proofs.Lists.{length-listed, listed-cong}
+use Rattle.columns.proofs.Lists.{length-listed, listed-cong, listed-same}
 use Rattle.columns.proofs.Sets.{same-eq, same-refl, pairEq-eq, pairEq-refl}
-use Rattle.refinement_signing.specs.Stored.{Store, piece, startOf, endIn, storedEnd, stored, alike, pairSame}
+use Rattle.columns.specs.Rows.{pairsBetween}
+use Rattle.columns.specs.Counting.{all}
+use Rattle.refinement_signing.specs.Stored.{Store, startOf, endIn, storedEnd, stored, alike, pairSame}
 
 -- ---- lists given by index
 module _ (f g : ℕ → Pair) where
-  listed-same : (k : ℕ) → listed k f ≡ listed k g → (i : ℕ) → i < k → f i ≡ g i
-  unfolding listed
-  listed-same zero e i l = absurd (omega arith)
-  listed-same (suc k) e i l =
-      ⊎-elim
-      (λ (z : i ≡ k).
-      let d : _≡_ {A = List Pair} (f k ∷ []) (g k ∷ [])
-      = sym (drop-at (listed k f) (f k ∷ []) k (length-listed k f)) ∙ ap (drop k) e
-      ∙ drop-at (listed k g) (g k ∷ []) k (length-listed k g) in
-      let c : f k ≡ g k = cc in
-      rw z c)
-      (λ (w : i < k).
-      listed-same k
-      (sym (take-at (listed k f) (f k ∷ []) k (length-listed k f)) ∙ ap (take k) e
-      ∙ take-at (listed k g) (g k ∷ []) k (length-listed k g)) i w)
-      (top-or-below l)
-
   pub same-listed : (k : ℕ) → same pairEq (listed k f) (listed k g) ≡ all k (λ i. pairEq (f i) (g i))
   same-listed k =
       bool-ext (same pairEq (listed k f) (listed k g)) (all k (λ i. pairEq (f i) (g i)))
       (λ e.
       all-of (λ i. pairEq (f i) (g i)) k
-      (λ i l. rw (listed-same k (same-eq pairEq pairEq-eq (listed k f) (listed k g) e) i l) (pairEq-refl (g i))))
+      (λ i l. rw (listed-same f g k (same-eq pairEq pairEq-eq (listed k f) (listed k g) e) i l) (pairEq-refl (g i))))
       (λ e.
       rw (listed-cong k f g (λ i l. pairEq-eq (f i) (g i) (all-at (λ i. pairEq (f i) (g i)) k i e l)))
       (same-refl pairEq pairEq-refl (listed k g)))
@@ -58,7 +40,7 @@ module _ (σ : Store) where
   alike-out s u e = same-eq pairEq pairEq-eq (stored σ s) (stored σ u) e
 
   length-stored : (s : ℕ) → length (stored σ s) ≡ storedEnd σ s - startOf σ s
-  unfolding stored piece
+  unfolding stored pairsBetween
   length-stored s =
       length-listed (storedEnd σ s - startOf σ s) (λ k. (getD (σ .labels) (startOf σ s + k) 0, getD (σ .blocks) (startOf σ s + k) 0))
 
@@ -71,7 +53,7 @@ module _ (σ : Store) where
         lengths e = sym (length-stored s) ∙ ap length (alike-out s u e) ∙ length-stored u
 
     pub alike-pairs : w - v ≡ z - x → all (z - x) (λ i. pairSame (σ .labels) (σ .blocks) (x + i) (v + i)) ≡ alike σ s u
-    unfolding alike stored piece pairSame
+    unfolding alike stored pairsBetween pairSame
     alike-pairs h =
         sym (same-listed (pairFrom x) (pairFrom v) (z - x))
         ∙ ap (λ (k : ℕ). same pairEq (listed (z - x) (pairFrom x)) (listed k (pairFrom v))) (sym h)

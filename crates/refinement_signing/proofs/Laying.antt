@@ -1,76 +1,20 @@
 -- Signatures laid one behind the other: how the columns stand between two states, and that each is found again by where it begins.
-use mathlib.Core.Path.{_≡_, refl, sym, ap, ap₂, _∙_}
+use mathlib.Core.Path.{_≡_, sym, ap, _∙_}
 use mathlib.Core.Logic.{⊎-elim}
-use mathlib.Core.Bool.{Bool, true, false, cond}
-use mathlib.Core.List.{List, [], _∷_, _++_}
-use Prim.Native.Nat.{ℕ, zero, suc, _+_, _-_, _≤_, _<_}
-use native.Mathlib.Numerals.{add-one}
+use mathlib.Core.Bool.{Bool, cond}
+use mathlib.Core.List.{List, _++_}
+use Prim.Native.Nat.{ℕ, _+_, _-_, _≤_, _<_}
 use native.Mathlib.Omega.{arith}
 use borrow.Author.Tests.{lt-ltb, le-ltb}
-use lib.Dec.{ltb}
-use lib.ListN.{length, getD, set, take, drop, length-append, List·getD-append}
-use lib.Seq.{take-at, drop-at, getD-append-add, getD-take, getD-set-same, getD-set-other, length-take-le}
-use Rattle.columns.specs.Columns.{listed, laid, over}
-use Rattle.columns.specs.Rows.{pairsOf, firstOf, lastOf}
+use lib.ListN.{length, getD, set, length-append}
+use lib.Seq.{getD-set-same, getD-set-other}
+use Rattle.columns.specs.Columns.{listed, laid}
+use Rattle.columns.specs.Rows.{pairsOf, pairsBetween}
 use Rattle.columns.specs.Sets.{Pair}
 use Rattle.columns.proofs.All.{top-or-below, lt-or-le}
-use Rattle.columns.proofs.Laid.{laid-none, laid-more, laid-up}
-use Rattle.columns.proofs.Lists.{length-listed, listed-cong, listed-split}
-use Rattle.columns.proofs.TwoColumns.{length-pairs, pairs-none, pairs-over}
-use Rattle.refinement_signing.specs.Stored.{piece, endIn, stored, AllSigned, store}
-
--- ---- pairs written behind the first d
-pub pairs-behind :
-    (d : ℕ) (w : List Pair) (a b x y : List ℕ) → d ≤ length a → d ≤ length b
-    → pairsOf (d + length w) (take d a ++ over (firstOf w) x) (take d b ++ over (lastOf w) y) ≡ pairsOf d a b ++ w
-unfolding pairsOf
-pairs-behind d w a b x y ha hb =
-    listed-split d (length w) (λ i. (getD (take d a ++ over (firstOf w) x) i 0, getD (take d b ++ over (lastOf w) y) i 0))
-    ∙ ap₂ (λ (l m : List Pair). l ++ m)
-    (listed-cong {A = Pair} d _ _
-    (λ i l. ap₂ (λ (j k : ℕ). (j, k)) (front d a (over (firstOf w) x) i ha l) (front d b (over (lastOf w) y) i hb l)))
-    (listed-cong {A = Pair} (length w) _ _
-    (λ i l. ap₂ (λ (j k : ℕ). (j, k)) (back d a (over (firstOf w) x) i ha) (back d b (over (lastOf w) y) i hb))
-    ∙ pairs-over w x y)
-  where
-    front : (d : ℕ) (a z : List ℕ) (i : ℕ) → d ≤ length a → i < d → getD (take d a ++ z) i 0 ≡ getD a i 0
-    front d a z i h l = List·getD-append (take d a) z 0 i (rw (length-take-le d a h) l) ∙ getD-take d a i 0 l
-
-    back : (d : ℕ) (a z : List ℕ) (i : ℕ) → d ≤ length a → getD (take d a ++ z) (d + i) 0 ≡ getD z i 0
-    back d a z i h =
-        ap (λ (k : ℕ). getD (take d a ++ z) (k + i) 0) (sym (length-take-le d a h)) ∙ getD-append-add (take d a) z i 0
-
--- ---- a list that is given by index, in two parts
-module _ {A : Type 0} (l m : List A) (f : ℕ → A) (e : listed (length (l ++ m)) f ≡ l ++ m) where
-  both : listed (length l) f ++ listed (length m) (λ k. f (length l + k)) ≡ l ++ m
-  both = sym (listed-split (length l) (length m) f) ∙ ap (λ (k : ℕ). listed k f) (sym (length-append l m)) ∙ e
-
-  listed-left : listed (length l) f ≡ l
-  listed-left =
-      sym (take-at (listed (length l) f) (listed (length m) (λ k. f (length l + k))) (length l) (length-listed (length l) f))
-      ∙ ap (take (length l)) both
-      ∙ take-at l m (length l) refl
-
-  listed-right : listed (length m) (λ k. f (length l + k)) ≡ m
-  listed-right =
-      sym (drop-at (listed (length l) f) (listed (length m) (λ k. f (length l + k))) (length l) (length-listed (length l) f))
-      ∙ ap (drop (length l)) both
-      ∙ drop-at l m (length l) refl
-
--- ---- lists laid one behind the other: those before, and each by itself
-module _ {A : Type 0} (h : ℕ → List A) (f : ℕ → A) where
-  laid-before : (n : ℕ) → listed (length (laid h n)) f ≡ laid h n → (s : ℕ) → s ≤ n → listed (length (laid h s)) f ≡ laid h s
-  unfolding laid
-  laid-before zero e s w = let z : s ≡ 0 = omega arith in rw z e
-  laid-before (suc n) e s w =
-      ⊎-elim (λ (l : s < suc n). laid-before n (listed-left (laid h n) (h n) f e) s (omega (arith, l)))
-      (λ (l : suc n ≤ s). let z : s ≡ suc n = omega (arith, l, w) in rw z e) (lt-or-le s (suc n))
-
-  pub laid-each :
-      (n : ℕ) → listed (length (laid h n)) f ≡ laid h n → (s : ℕ) → s < n
-      → listed (length (h s)) (λ k. f (length (laid h s) + k)) ≡ h s
-  unfolding laid
-  laid-each n e s w = listed-right (laid h s) (h s) f (laid-before n e (suc s) w)
+use Rattle.columns.proofs.Laid.{laid-none, laid-more, laid-up, laid-each}
+use Rattle.columns.proofs.TwoColumns.{length-pairs, pairs-none}
+use Rattle.refinement_signing.specs.Stored.{endIn, stored, AllSigned, store}
 
 -- ---- the states below s are signed
 pub record Laying (sig : ℕ → List Pair) (s : ℕ) (labels blocks : List ℕ) (d : ℕ) (begins : List ℕ) : Type 0 where
@@ -113,7 +57,7 @@ module _ (sig : ℕ → List Pair) where
     next-length u = ap length (laid-more sig u) ∙ length-append (laid sig u) (sig u)
 
     pub lay-done : d ≤ length labels → d ≤ length blocks → s ≤ length begins → AllSigned (store s labels blocks d begins) sig
-    unfolding stored piece pairsOf
+    unfolding stored pairsBetween pairsOf
     lay-done ha hb hc = record {
       held = record {
         left = ha;

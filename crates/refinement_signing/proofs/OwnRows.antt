@@ -2,11 +2,10 @@
 use mathlib.Core.Path.{_≡_, refl, sym, ap, ap₂, _∙_}
 use mathlib.Core.Logic.{⊎-elim}
 use mathlib.Core.Bool.{Bool, true, false}
-use mathlib.Core.List.{List, [], _∷_, _++_, map, append-nil, map-append}
+use mathlib.Core.List.{List, [], _∷_, _++_, map}
 use Prim.Native.Nat.{ℕ, zero, suc, _+_, _-_, _≤_, _<_, _*_, _/_}
 use native.Mathlib.Numerals.{add-one}
 use native.Mathlib.Omega.{arith}
-use lib.Dec.{eqb}
 use lib.ListN.{length, getD, set, take, length-set}
 use borrow.Rule.Slice.PartMut.{putMid}
 use Rattle.columns.specs.Columns.{listed, over, wiped, zeros}
@@ -17,13 +16,12 @@ use Rattle.columns.proofs.All.{top-or-below, lt-or-le, not-below}
 use Rattle.columns.proofs.Lists.{map-listed, wiped-zeros}
 use Rattle.columns.proofs.Members.{members-hit, members-rest, members-none}
 use Rattle.columns.proofs.Parts.{put-end}
-use Rattle.columns.proofs.TwoColumns.{length-pairs, pairs-none, pairs-more}
+use Rattle.columns.proofs.TwoColumns.{length-pairs, pairs-none, pairs-more, pairs-behind}
 use Rattle.refinement_signing.specs.Stored.{rowPairs}
-use Rattle.refinement_signing.proofs.Laying.{pairs-behind}
 use Rattle.signatures.specs.Pairs.{Columns, signature, pairsOver}
 use Rattle.signatures.proofs.Sigs.{sig-few}
 use Rattle.signatures.specs.Strong.{ownRows, rowPair, strongPushed}
-use Rattle.table.specs.Lts.{Lts, NeverFalls, Valid}
+use Rattle.table.specs.Lts.{Lts, NeverFalls}
 use Rattle.table.specs.Stretch.{firstRow}
 use Rattle.table.proofs.RowsOf.{ownRow, RowsFrom, first-row-is, first-row-most, before-row, from-row}
 

@@ -8,6 +8,7 @@ use lib.Dec.{ltb}
 use lib.ListN.{length, getD}
 use Rattle.columns.specs.Columns.{listed}
 use Rattle.columns.specs.Sets.{Pair, pairEq, same}
+use Rattle.columns.specs.Rows.{pairsBetween, pairAt}
 
 -- the signatures of n states
 pub record Store : Type 0 where
@@ -19,11 +20,6 @@ pub record Store : Type 0 where
 
 abbrev pub store : ℕ → List ℕ → List ℕ → ℕ → List ℕ → Store
 store n labels blocks total begins = record { n = n; labels = labels; blocks = blocks; total = total; begins = begins }
-
--- the pairs from x to before z
-unfoldable pub piece : List ℕ → List ℕ → ℕ → ℕ → List Pair
-unfolding listed
-piece labels blocks x z = listed (z - x) (λ k. (getD labels (x + k) 0, getD blocks (x + k) 0))
 
 -- where the signature of state s ends
 unfoldable pub endIn : ℕ → ℕ → List ℕ → ℕ → ℕ
@@ -38,8 +34,8 @@ module _ (σ : Store) where
 
   -- the signature that is stored for state s
   unfoldable pub stored : ℕ → List Pair
-  unfolding piece endIn
-  stored s = piece (σ .labels) (σ .blocks) (startOf s) (storedEnd s)
+  unfolding pairsBetween endIn
+  stored s = pairsBetween (σ .labels) (σ .blocks) (startOf s) (storedEnd s)
 
   -- two states have one signature
   unfoldable pub alike : ℕ → ℕ → Bool
@@ -66,5 +62,5 @@ rowPairs label target home first end = listed (end - first) (λ k. (getD label (
 
 -- the pairs at i and at j are the same
 unfoldable pub pairSame : List ℕ → List ℕ → ℕ → ℕ → Bool
-unfolding pairEq
-pairSame labels blocks i j = pairEq (getD labels i 0, getD blocks i 0) (getD labels j 0, getD blocks j 0)
+unfolding pairEq pairAt
+pairSame labels blocks i j = pairEq (pairAt labels blocks i) (pairAt labels blocks j)

@@ -3,7 +3,7 @@ ghost use mathlib.Core.Path.{_≡_};
 ghost use Prim.Native.Nat.{_+_, _≤_, _<_};
 ghost use lib.ListN.{length};
 ghost use Rattle.columns.specs.Lent.{was};
-ghost use Rattle.columns.specs.Tests.{all};
+ghost use Rattle.columns.specs.Counting.{all};
 ghost use Rattle.refinement_signing.specs.Lent.{storeNow, storeWas};
 ghost use Rattle.refinement_signing.specs.Stored.{endIn, Held, alike, pairSame};
 use columns::cells::at;

@@ -1,5 +1,6 @@
--- What is proved of the strong reduction, sentence by sentence. A step is a row (specs/Bisimulation of `bisimulation`), the reduction is
--- defined in specs/Reduction. Every label is an ordinary one, the hidden one too, and states that are not reachable stay.
+-- What is proved of the strong reduction, sentence by sentence. A step is a row (specs/Lts of `table`), a bisimulation is defined in
+-- specs/Bisimulation of `bisimulation`, the reduction in specs/Reduction.
+-- Every label is an ordinary one, the hidden one too, and states that are not reachable stay.
 use mathlib.Core.Path.{_≡_, sym, _∙_}
 use mathlib.Core.Logic.{_↔_}
 use mathlib.Core.List.{List}

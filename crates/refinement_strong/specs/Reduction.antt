@@ -41,6 +41,7 @@ strongCount t = blockCount (t .n) (strongBlocks t)
 abbrev pub strongRows : Lts → List Row
 strongRows t = quotient (strongBlock t) (rows t)
 
+-- the reduced table
 unfoldable pub strongReduced : Lts → Lts
 unfolding quotientOf strongBlocks blockCount
 strongReduced t = quotientOf t (strongCount t) (strongBlocks t)

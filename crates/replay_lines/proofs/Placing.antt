@@ -3,12 +3,12 @@ use Prim.Native.Nat.{ℕ, _+_, _<_, _≤_}
 use mathlib.Core.Bool.{Bool, true, false, cond, not}
 use mathlib.Core.List.{List}
 use mathlib.Core.Path.{_≡_, refl, ap, sym, _∙_}
-use native.Mathlib.Omega.{arith}
 use lib.Dec.{ltb, eqb}
 use lib.ListN.{getD}
 use borrow.Author.Tests.{lt-ltb, le-ltb, eq-eqb, ne-eqb}
 use Rattle.replay_lines.specs.declared.input.Input as input
 use Rattle.replay_lines.specs.Places.{inLine, filled, stepped, held, Next, Read, ReadHere}
+use Rattle.columns.proofs.Bools.{contra}
 
 pub newline : (byte : ℕ) → byte ≡ 10 → false ≡ inLine byte
 unfolding inLine
@@ -52,20 +52,17 @@ held-true : (i : input.Input) → i .at < i .end → i .at < 65536 → held i �
 unfolding held
 held-true i h k = rw (lt-ltb (i .at) (i .end) h, lt-ltb (i .at) 65536 k)
 
-apart : {b : Bool} → b ≡ true → b ≡ false → ⊥
-apart p q = let z : _≡_ {A = ℕ} 0 1 = cc in omega arith
-
 pub next-within : (i : input.Input) (buffer : List ℕ) (byte : ℕ) → i .at < i .end → i .at < 65536 → byte ≡ getD buffer (i .at) 0
     → Next i buffer (record { at = i .at + 1; end = i .end; byte = byte; good = i .good }) buffer
 unfolding stepped
 next-within i buffer byte h k e =
-    record { within = λ q. (rw e, refl); beyond = λ q. absurd (apart (held-true i h k) q); good = refl }
+    record { within = λ q. (rw e, refl); beyond = λ q. absurd (contra (held-true i h k) q); good = refl }
 
 pub next-beyond : (i after : input.Input) (buffer left : List ℕ) → held i ≡ false → after ≡ filled (i .good) left (after .end)
     → Next i buffer after left
 next-beyond i after buffer left h e =
     record {
-      within = λ q. absurd (apart q h);
+      within = λ q. absurd (contra q h);
       beyond = λ q. e;
       good = ap (λ (p : input.Input). p .good) e ∙ filled-good (i .good) left (after .end);
     }
@@ -77,13 +74,13 @@ not-false false e = sym e
 
 pub read-none : (i j : input.Input) (value : ℕ) → j .good ≡ false → value ≡ 0 → Read i j value
 read-none i j value h e =
-    record { good = λ q. absurd (apart q h); blank = λ q. absurd (apart q h); nothing = λ q. e }
+    record { good = λ q. absurd (contra q h); blank = λ q. absurd (contra q h); nothing = λ q. e }
 
 pub here-none : (i j : input.Input) (value : ℕ) → j .good ≡ false → value ≡ 0 → ReadHere i j value
-here-none i j value h e = record { good = λ q. absurd (apart q h); nothing = λ g q. e }
+here-none i j value h e = record { good = λ q. absurd (contra q h); nothing = λ g q. e }
 
 pub here-some : (i j : input.Input) (value : ℕ) → j .good ≡ i .good → ReadHere i j value
-here-some i j value h = record { good = λ q. sym h ∙ q; nothing = λ g q. absurd (apart (h ∙ g) q) }
+here-some i j value h = record { good = λ q. sym h ∙ q; nothing = λ g q. absurd (contra (h ∙ g) q) }
 
 -- a blank, and a number from the place after it on
 pub read-next : (i n j : input.Input) (value : ℕ) → i .good ≡ true → i .byte ≡ 32 → n .good ≡ i .good → ReadHere n j value → Read i j value

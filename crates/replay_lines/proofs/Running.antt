@@ -11,16 +11,16 @@ use lib.Dec.{eqb}
 use borrow.Author.Tests.{eqb-true, eq-eqb, ne-eqb}
 use Rattle.columns.proofs.Bools.{and-left, and-right, or-split}
 use Rattle.replay_lines.specs.declared.runs.Run.{Run}
-use Rattle.replay_lines.specs.Runs.{lastOf, cellsFrom, spread, alone, longer, repeats, ascends, runsFrom, runs}
+use Rattle.replay_lines.specs.Runs.{lastCell, cellsFrom, spread, alone, longer, repeats, ascends, runsFrom, runs}
 
 -- the last cell of equal cells, of ascending ones, and of one cell
-pub last-equal : (r : Run) (largest : ℕ) → r .step ≡ 0 → r .first ≤ largest → lastOf r ≤ largest
-unfolding lastOf
+pub last-equal : (r : Run) (largest : ℕ) → r .step ≡ 0 → r .first ≤ largest → lastCell r ≤ largest
+unfolding lastCell
 last-equal r largest e h = rw (e, mul-zero) (omega arith)
 
 pub last-ascending : (r : Run) (most largest : ℕ) → r .step ≡ 1 → r .count ≤ most → r .first + most ≤ largest + 1 → r .first ≤ largest
-    → lastOf r ≤ largest
-unfolding lastOf
+    → lastCell r ≤ largest
+unfolding lastCell
 last-ascending r most largest e h k g = rw (e, mul-one) (omega arith)
 
 -- of a run without its first cell it is the same
@@ -30,8 +30,8 @@ less-one count step h = let e : suc (count - 1 - 1) ≡ count - 1 = omega arith 
 pub last-rest : (first count step : ℕ) → 1 < count → first + step + (count - 1 - 1) * step ≡ first + (count - 1) * step
 last-rest first count step h = omega (arith, less-one count step h)
 
-pub second-last : (r : Run) (largest : ℕ) → 1 < r .count → lastOf r ≤ largest → r .first + r .step ≤ largest
-unfolding lastOf
+pub second-last : (r : Run) (largest : ℕ) → 1 < r .count → lastCell r ≤ largest → r .first + r .step ≤ largest
+unfolding lastCell
 second-last r largest h k = omega (arith, less-one (r .count) (r .step) h)
 
 -- whether a cell goes on with ascending cells

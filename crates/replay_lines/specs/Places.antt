@@ -11,6 +11,11 @@ use Rattle.replay_lines.specs.declared.input.Input as input
 unfoldable pub inLine : ℕ → Bool
 inLine byte = cond (eqb byte 10) false (not (eqb byte 256))
 
+-- whether a byte belongs to a word
+unfoldable pub inWord : ℕ → Bool
+unfolding inLine
+inWord byte = cond (eqb byte 32) false (inLine byte)
+
 -- the first place of a buffer into which `end` bytes are read: the input has ended where there are none
 unfoldable pub filled : Bool → List ℕ → ℕ → input.Input
 filled good buffer end =

@@ -6,8 +6,8 @@ use lib.Dec.{eqb}
 use Rattle.replay_lines.specs.declared.runs.Run.{Run}
 
 -- the last cell of a run
-unfoldable pub lastOf : Run → ℕ
-lastOf r = r .first + (r .count - 1) * r .step
+unfoldable pub lastCell : Run → ℕ
+lastCell r = r .first + (r .count - 1) * r .step
 
 -- so many cells, from the first on
 unfoldable pub cellsFrom : ℕ → ℕ → ℕ → List ℕ
@@ -30,6 +30,10 @@ alone x = record { first = x; count = 1; step = 0 }
 -- a run with a cell more, each now so much more than the one before
 abbrev pub longer : Run → ℕ → Run
 longer r step = record { first = r .first; count = r .count + 1; step = step }
+
+-- a run without its first cell
+abbrev pub rest : Run → Run
+rest r = record { first = r .first + r .step; count = r .count - 1; step = r .step }
 
 -- whether a cell goes on with a run of equal cells, or of one cell: it equals the one before
 unfoldable pub repeats : Run → ℕ → Bool

@@ -1,5 +1,5 @@
 -- What the numbers of an answer say.
-use mathlib.Core.Bool.{Bool, cond}
+use mathlib.Core.Bool.{cond}
 use lib.ListN.{getD, take}
 use Rattle.columns.specs.Answers.{Said, done, refused}
 use Rattle.replay_lines.specs.declared.answers.Said as lines

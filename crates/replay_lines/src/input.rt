@@ -120,7 +120,7 @@ impl Input {
 }
 
 // Whether a byte is within a line.
-fn in_line(byte: u16) -> bool
+pub fn in_line(byte: u16) -> bool
     ensures { λ r. ⌜ r ≡ inLine byte ⌝ }
 {
     if byte == NEWLINE {

@@ -2,14 +2,15 @@
 ghost use mathlib.Core.Path.{_≡_};
 ghost use Prim.Native.Nat.{_≤_};
 ghost use lib.ListN.{length};
+ghost use Rattle.replay_lines.specs.Places.{inWord};
 ghost use Rattle.replay_lines.specs.Text.{putByte, puts};
 ghost use Rattle.replay_lines.specs.Spelling.{badText};
 use crate::input::BLANK;
 use crate::input::Buffer;
-use crate::input::END;
 use crate::input::Input;
 use crate::input::NEWLINE;
 use crate::input::TURNS;
+use crate::input::in_line;
 use crate::numbers::Cells;
 use crate::output::byte;
 use crate::output::number;
@@ -45,13 +46,13 @@ pub fn skip_silent(first: Input, buffer: &mut Buffer) -> Input
 }
 
 // Whether a byte belongs to a word.
-pub fn in_word(byte: u16) -> bool {
-    match byte {
-        BLANK => false,
-        NEWLINE => false,
-        END => false,
-        _ => true,
+pub fn in_word(byte: u16) -> bool
+    ensures { λ r. ⌜ r ≡ inWord byte ⌝ }
+{
+    if byte == BLANK {
+        return false;
     }
+    in_line(byte)
 }
 
 // The word that starts here, or as much of it as `into` has room for.

@@ -1,7 +1,7 @@
 // Cells in runs: equal ones, or each one more than the one before.
 ghost use mathlib.Core.Path.{_≡_};
 ghost use Prim.Native.Nat.{_+_, _<_, _≤_};
-ghost use Rattle.replay_lines.specs.Runs.{none, alone, longer, repeats, ascends, lastOf};
+ghost use Rattle.replay_lines.specs.Runs.{none, alone, longer, rest, repeats, ascends, lastCell};
 use crate::input::Buffer;
 use crate::input::Input;
 
@@ -53,8 +53,8 @@ impl Run {
 
     // The run without its first cell.
     pub fn rest(self) -> Run
-        requires { ⌜ (1 < self .count) × (lastOf self ≤ 4294967295) ⌝ }
-        ensures { λ r. ⌜ lastOf r ≡ lastOf self ⌝ }
+        requires { ⌜ (1 < self .count) × (lastCell self ≤ 4294967295) ⌝ }
+        ensures { λ r. ⌜ (r ≡ rest self) × (lastCell r ≡ lastCell self) ⌝ }
     {
         Run {
             first: self.first + self.step,
@@ -133,7 +133,7 @@ impl Input {
     // A blank, and a number or a run of at most `room` cells, of which none is above `largest`.
     pub fn word(self, largest: u64, room: u64, buffer: &mut Buffer) -> Word
         requires { ⌜ largest ≤ 4294967295 ⌝ }
-        ensures { λ r. ⌜ lastOf (r .run) ≤ largest ⌝ }
+        ensures { λ r. ⌜ lastCell (r .run) ≤ largest ⌝ }
     {
         let read = self.number(buffer, largest);
         let input = read.input;

@@ -12,9 +12,9 @@ use replay_slots::held::show;
 use replay_slots::held::show_three;
 
 pub fn cycles(case: Case, cells: &[u16], out: &mut Buffer, used: usize) -> usize {
-    let mut x = [0u16; HELD_ROOM];
-    let mut y = [0u16; HELD_ROOM];
-    let mut z = [0u16; HELD_ROOM];
+    let mut result_source = [0u16; HELD_ROOM];
+    let mut result_label = [0u16; HELD_ROOM];
+    let mut result_target = [0u16; HELD_ROOM];
     let mut numbers = [0u16; HELD_ROOM];
     let mut mid_source = [0u16; HELD_ROOM];
     let mut mid_label = [0u16; HELD_ROOM];
@@ -31,9 +31,9 @@ pub fn cycles(case: Case, cells: &[u16], out: &mut Buffer, used: usize) -> usize
         column(cells, case, 2),
         case.number(4),
         case.flag(5),
-        lend(case, cells, 0, &mut x),
-        lend(case, cells, 1, &mut y),
-        lend(case, cells, 2, &mut z),
+        lend(case, cells, 0, &mut result_source),
+        lend(case, cells, 1, &mut result_label),
+        lend(case, cells, 2, &mut result_target),
         lend(case, cells, 3, &mut numbers),
         lend(case, cells, 4, &mut mid_source),
         lend(case, cells, 5, &mut mid_label),
@@ -45,7 +45,15 @@ pub fn cycles(case: Case, cells: &[u16], out: &mut Buffer, used: usize) -> usize
         lend(case, cells, 11, &mut spare),
     );
     let mut at = said(reordered(answer), out, used);
-    at = show_three(case, 0, &x, &y, &z, out, at);
+    at = show_three(
+        case,
+        0,
+        &result_source,
+        &result_label,
+        &result_target,
+        out,
+        at,
+    );
     at = show(case, 3, &numbers, out, at);
     at = show_three(case, 4, &mid_source, &mid_label, &mid_target, out, at);
     at = show_three(case, 7, &a, &b, &c, out, at);

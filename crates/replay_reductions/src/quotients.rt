@@ -13,9 +13,9 @@ use replay_slots::held::show;
 use replay_slots::held::show_three;
 
 pub fn naive(case: Case, cells: &[u16], out: &mut Buffer, used: usize) -> usize {
-    let mut x = [0u16; HELD_ROOM];
-    let mut y = [0u16; HELD_ROOM];
-    let mut z = [0u16; HELD_ROOM];
+    let mut result_source = [0u16; HELD_ROOM];
+    let mut result_label = [0u16; HELD_ROOM];
+    let mut result_target = [0u16; HELD_ROOM];
     let mut a = [0u16; HELD_ROOM];
     let mut b = [0u16; HELD_ROOM];
     let mut c = [0u16; HELD_ROOM];
@@ -35,9 +35,9 @@ pub fn naive(case: Case, cells: &[u16], out: &mut Buffer, used: usize) -> usize 
         column(cells, case, 8),
         case.flag(5),
         case.flag(6),
-        lend(case, cells, 0, &mut x),
-        lend(case, cells, 1, &mut y),
-        lend(case, cells, 2, &mut z),
+        lend(case, cells, 0, &mut result_source),
+        lend(case, cells, 1, &mut result_label),
+        lend(case, cells, 2, &mut result_target),
         lend(case, cells, 3, &mut a),
         lend(case, cells, 4, &mut b),
         lend(case, cells, 5, &mut c),
@@ -45,16 +45,24 @@ pub fn naive(case: Case, cells: &[u16], out: &mut Buffer, used: usize) -> usize 
         lend(case, cells, 7, &mut spare),
     );
     let mut at = said(header(answer), out, used);
-    at = show_three(case, 0, &x, &y, &z, out, at);
+    at = show_three(
+        case,
+        0,
+        &result_source,
+        &result_label,
+        &result_target,
+        out,
+        at,
+    );
     at = show_three(case, 3, &a, &b, &c, out, at);
     at = show(case, 6, &order, out, at);
     show(case, 7, &spare, out, at)
 }
 
 pub fn block(case: Case, cells: &[u16], out: &mut Buffer, used: usize) -> usize {
-    let mut x = [0u16; HELD_ROOM];
-    let mut y = [0u16; HELD_ROOM];
-    let mut z = [0u16; HELD_ROOM];
+    let mut result_source = [0u16; HELD_ROOM];
+    let mut result_label = [0u16; HELD_ROOM];
+    let mut result_target = [0u16; HELD_ROOM];
     let mut a = [0u16; HELD_ROOM];
     let mut b = [0u16; HELD_ROOM];
     let mut c = [0u16; HELD_ROOM];
@@ -75,9 +83,9 @@ pub fn block(case: Case, cells: &[u16], out: &mut Buffer, used: usize) -> usize 
         column(cells, case, 8),
         case.flag(5),
         case.flag(6),
-        lend(case, cells, 0, &mut x),
-        lend(case, cells, 1, &mut y),
-        lend(case, cells, 2, &mut z),
+        lend(case, cells, 0, &mut result_source),
+        lend(case, cells, 1, &mut result_label),
+        lend(case, cells, 2, &mut result_target),
         lend(case, cells, 3, &mut a),
         lend(case, cells, 4, &mut b),
         lend(case, cells, 5, &mut c),
@@ -86,7 +94,15 @@ pub fn block(case: Case, cells: &[u16], out: &mut Buffer, used: usize) -> usize 
         lend(case, cells, 8, &mut chosen),
     );
     let mut at = said(header(answer), out, used);
-    at = show_three(case, 0, &x, &y, &z, out, at);
+    at = show_three(
+        case,
+        0,
+        &result_source,
+        &result_label,
+        &result_target,
+        out,
+        at,
+    );
     at = show_three(case, 3, &a, &b, &c, out, at);
     show_three(case, 6, &order, &spare, &chosen, out, at)
 }

@@ -12,9 +12,9 @@ use replay_slots::held::show;
 use replay_slots::held::show_three;
 
 pub fn redundant(case: Case, cells: &[u16], out: &mut Buffer, used: usize) -> usize {
-    let mut x = [0u16; HELD_ROOM];
-    let mut y = [0u16; HELD_ROOM];
-    let mut z = [0u16; HELD_ROOM];
+    let mut result_source = [0u16; HELD_ROOM];
+    let mut result_label = [0u16; HELD_ROOM];
+    let mut result_target = [0u16; HELD_ROOM];
     let mut order = [0u16; HELD_ROOM];
     let mut back_source = [0u16; HELD_ROOM];
     let mut back_label = [0u16; HELD_ROOM];
@@ -27,9 +27,9 @@ pub fn redundant(case: Case, cells: &[u16], out: &mut Buffer, used: usize) -> us
         column(cells, case, 0),
         column(cells, case, 1),
         column(cells, case, 2),
-        lend(case, cells, 0, &mut x),
-        lend(case, cells, 1, &mut y),
-        lend(case, cells, 2, &mut z),
+        lend(case, cells, 0, &mut result_source),
+        lend(case, cells, 1, &mut result_label),
+        lend(case, cells, 2, &mut result_target),
         lend(case, cells, 3, &mut order),
         lend(case, cells, 4, &mut back_source),
         lend(case, cells, 5, &mut back_label),
@@ -39,7 +39,15 @@ pub fn redundant(case: Case, cells: &[u16], out: &mut Buffer, used: usize) -> us
         lend(case, cells, 9, &mut queue),
     );
     let mut at = said(header(answer), out, used);
-    at = show_three(case, 0, &x, &y, &z, out, at);
+    at = show_three(
+        case,
+        0,
+        &result_source,
+        &result_label,
+        &result_target,
+        out,
+        at,
+    );
     at = show(case, 3, &order, out, at);
     at = show_three(case, 4, &back_source, &back_label, &back_target, out, at);
     show_three(case, 7, &forward, &backward, &queue, out, at)

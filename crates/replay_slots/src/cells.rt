@@ -1,6 +1,6 @@
 // The cells of slices, read word by word up to the first word that is wrong.
 ghost use Prim.Native.Nat.{_≤_};
-ghost use Rattle.replay_lines.specs.Runs.{lastOf};
+ghost use Rattle.replay_lines.specs.Runs.{lastCell};
 use crate::case::BYTE;
 use crate::case::Bytes;
 use crate::case::NARROW;
@@ -42,7 +42,7 @@ pub struct Feed {
 impl Feed {
     // Nothing is read.
     fn new(input: Input) -> Feed
-        ensures { λ r. ⌜ lastOf (r .run) ≤ 0 ⌝ }
+        ensures { λ r. ⌜ lastCell (r .run) ≤ 0 ⌝ }
     {
         let run = Run::none();
         Feed {
@@ -56,7 +56,7 @@ impl Feed {
     // With a word more, unless it is wrong.
     fn word(self, largest: u64, room: u64, buffer: &mut Buffer) -> Feed
         requires { ⌜ largest ≤ 4294967295 ⌝ }
-        ensures { λ r. ⌜ lastOf (r .run) ≤ largest ⌝ }
+        ensures { λ r. ⌜ lastCell (r .run) ≤ largest ⌝ }
     {
         let word = self.input.word(largest, room, buffer);
         let input = whole(word.input);
@@ -79,8 +79,8 @@ impl Feed {
 
     // With a cell more, of at most `largest`, where `room` are missing.
     fn cell(self, largest: u64, room: u64, buffer: &mut Buffer) -> Feed
-        requires { ⌜ (largest ≤ 4294967295) × (lastOf (self .run) ≤ largest) ⌝ }
-        ensures { λ r. ⌜ lastOf (r .run) ≤ largest ⌝ }
+        requires { ⌜ (largest ≤ 4294967295) × (lastCell (self .run) ≤ largest) ⌝ }
+        ensures { λ r. ⌜ lastCell (r .run) ≤ largest ⌝ }
     {
         let last = self.run;
         if last.count <= 1 {

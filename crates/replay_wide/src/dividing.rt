@@ -1,5 +1,8 @@
 // `partition_marked_with`.
+ghost use mathlib.Core.Path.{_≡_};
 ghost use Rattle.io.specs.Counts.{Counts};
+ghost use Rattle.partition_division.specs.Division.{saidDivision};
+ghost use Rattle.replay_lines.specs.Told.{told};
 use partition_division::DivisionAnswer;
 use partition_division::DivisionOutcome;
 use partition_division::partition_marked_with;
@@ -12,7 +15,9 @@ use replay_slots::case::column;
 use replay_slots::slots::Filled;
 
 // Its answer as numbers.
-fn divided(answer: DivisionAnswer) -> Said {
+fn divided(answer: DivisionAnswer) -> Said
+    ensures { λ r. ⌜ told r ≡ saidDivision answer ⌝ }
+{
     let outcome = answer.outcome;
     match outcome {
         DivisionOutcome::Done {

@@ -6,8 +6,8 @@ use lib.ListN.{replicate}
 use Rattle.columns.specs.Answers.{Said, done, refused}
 use Rattle.columns.specs.Due.{allLong}
 use Rattle.columns.specs.Inverse.{inverseb, inverseAt}
-use Rattle.columns.specs.Tests.{all}
-use Rattle.partition.specs.Partition.{Partition, parts, blocksb, blockAt, withinb, liesb, lieAt, insideb, lengths}
+use Rattle.columns.specs.Counting.{all}
+use Rattle.partition.specs.Partition.{Partition, parts, boundsb, blockAt, withinb, liesb, lieAt, insideb, lengths}
 use Rattle.table.specs.Lts.{Lts}
 use Rattle.signatures.specs.Inductive.{branchingBisimSignatureInductive}
 use Rattle.signatures.specs.Pairs.{Columns}
@@ -58,6 +58,6 @@ pub examples :
     ∷ (done (4 ∷ []), ((0 ∷ 1 ∷ 1 ∷ 2 ∷ [], 0 ∷ 0 ∷ 1 ∷ 5 ∷ []), works 0))
     ∷ (done (0 ∷ []), (([], 8 ∷ []), works 0))
     ∷ [])
-unfolding strongBisimSignature branchingBisimSignatureInductive allLong inverseb all inverseAt blocksb blockAt withinb liesb lieAt insideb
+unfolding strongBisimSignature branchingBisimSignatureInductive allLong inverseb all inverseAt boundsb blockAt withinb liesb lieAt insideb
     lengths
 examples = refl

@@ -9,6 +9,7 @@ use Rattle.columns.specs.declared.answers.Refusal.{Refusal}
 use Rattle.columns.specs.Answers.{Said, done, refused}
 use Rattle.columns.specs.Columns.{zeroed}
 use Rattle.columns.specs.Sets.{Pair}
+use Rattle.columns.specs.Limits.{noRoom}
 use Rattle.signatures.specs.Pairs.{Columns, fits, pairsOver}
 use Rattle.signatures.specs.Signing.{Left, finishing, signing}
 
@@ -27,7 +28,7 @@ module _ (r : Refusal) (pushed : ℕ) (pairs : List Pair) (out : Columns) (works
 
 module _ (pushed : ℕ) (pairs : List Pair) (out : Columns) (works : List (List ℕ)) where
   pub finish-short :
-      (s : Said) (w : List (List ℕ)) → fits pushed out ≡ false → s ≡ refused 16 pushed → w ≡ zeroed works
+      (s : Said) (w : List (List ℕ)) → fits pushed out ≡ false → s ≡ refused noRoom pushed → w ≡ zeroed works
       → _≡_ {A = Said × Left} (s, (out, w)) (finishing pushed pairs out works)
   unfolding finishing
   finish-short s w f e g = rw (f, e, g)

@@ -17,6 +17,7 @@ use Rattle.columns.specs.Sets.{Mem, Pair, pairLt, Ascending}
 use Rattle.columns.proofs.Bools.{and-left, and-right}
 use Rattle.columns.proofs.Saying.{apart}
 use Rattle.columns.proofs.TwoColumns.{pairs-over}
+use Rattle.columns.specs.Limits.{noRoom}
 use Rattle.signatures.specs.Pairs.{Columns, roomFor, fits, pairsOver}
 use Rattle.signatures.specs.Signing.{Left, finishing, signing}
 
@@ -40,7 +41,7 @@ module _ (r : Refusal) (pushed : ℕ) (pairs : List Pair) (out : Columns) (works
 
   finished : (b : Bool) → fits pushed out ≡ b → r .number ≡ 0
       → _≡_ {A = Said × Left}
-      (cond b (done (length pairs ∷ []), (pairsOver pairs out, zeroed works)) (refused 16 pushed, (out, zeroed works)))
+      (cond b (done (length pairs ∷ []), (pairsOver pairs out, zeroed works)) (refused noRoom pushed, (out, zeroed works)))
       (done (k ∷ []), left) → Written
   finished true f z e =
       let said : done (length pairs ∷ []) ≡ done (k ∷ []) = ap (λ (t : Said × Left). t .0) e in

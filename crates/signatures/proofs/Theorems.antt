@@ -1,25 +1,32 @@
 -- What the signature calls mean where they say done, in document 01's words.
-use Prim.Native.Nat.{ℕ, _<_}
+use Prim.Native.Nat.{ℕ, _<_, _≤_}
 use mathlib.Core.Path.{_≡_, refl}
 use mathlib.Core.Logic.{_⊎_}
 use mathlib.Core.Bool.{Bool, not, _&&_}
 use mathlib.Core.List.{List, [], _∷_}
-use lib.Dec.{leb}
+use lib.Dec.{leb, eqb}
 use lib.ListN.{length}
-use Rattle.columns.specs.Answers.{done}
+use Rattle.columns.specs.Answers.{done, bit}
 use Rattle.columns.specs.Sets.{Pair}
+use Rattle.columns.specs.Limits.{maxLabels}
+use Rattle.columns.specs.Due.{labelsTest}
+use Rattle.columns.proofs.Chains.{passed}
+use Rattle.columns.proofs.Doing.{answering-done, SaysWhether, says-whether}
+use Rattle.columns.proofs.Rooms.{range-of}
 use Rattle.partition.specs.Partition.{Partition, Sound}
 use Rattle.partition.specs.Readers.{unmarkedb}
 use Rattle.table.specs.Lts.{Lts, Valid}
 use Rattle.signatures.specs.Inductive.{inductivePushed, inductiveSignature, branchingBisimSignatureInductive}
 use Rattle.signatures.specs.Pairs.{Columns}
-use Rattle.signatures.specs.Signing.{Left, roomy, signatureRefusal}
+use Rattle.signatures.specs.Signing.{Left, worksFit, signatureRefusal}
 use Rattle.signatures.specs.Strong.{strongPushed, strongSignature, strongBisimSignature}
+use Rattle.signatures.specs.TauHat.{labelsRefusal, tauHat, isTauHat}
 use Rattle.signatures.proofs.InductiveSigs.{KeyOf, StepOf, inductive-ascending, inductive-exactly}
 use Rattle.table_partition.proofs.Refusals.{both-ready}
 use Rattle.signatures.proofs.Signed.{Signed, signing-accepted, signing-signed}
 use Rattle.signatures.proofs.Sigs.{sig-few}
 use Rattle.signatures.proofs.StrongSigs.{Leads, strong-ascending, strong-exactly}
+use borrow.Author.Tests.{eqb-true, eq-eqb}
 
 -- table, partition and state are right, and the signature is written
 pub record SignatureDone
@@ -41,9 +48,9 @@ module _ (t : Lts) (p : Partition) (same : p .n ≡ t .n) (s : ℕ) (out : Colum
   unfolding strongBisimSignature signatureRefusal
   strong-done e =
       let home = p .element-to-block in
-      let r = signatureRefusal t p s (roomy t works) in
+      let r = signatureRefusal t p s (worksFit t works) in
       let pushed = length (strongPushed t home s) in
-      let a = both-ready t p same s (t .n) (roomy t works) r refl
+      let a = both-ready t p same s (t .n) (worksFit t works) r refl
       (signing-accepted r pushed (strongSignature t home s) out works k left e) in
       record {
         valid = a .valid;
@@ -63,7 +70,7 @@ module _ (t : Lts) (p : Partition) (same : p .n ≡ t .n) (s : ℕ) (out : Colum
   unfolding branchingBisimSignatureInductive signatureRefusal
   inductive-done keys e =
       let home = p .element-to-block in
-      let room = leb (t .n) (length keys) && roomy t works in
+      let room = leb (t .n) (length keys) && worksFit t works in
       let r = signatureRefusal t p s room in
       let pushed = length (inductivePushed t home (marked p) keys s) in
       let a = both-ready t p same s (t .n) room r refl
@@ -78,3 +85,27 @@ module _ (t : Lts) (p : Partition) (same : p .n ≡ t .n) (s : ℕ) (out : Colum
             (sig-few (inductivePushed t home (marked p) keys s)) (inductive-ascending t home (marked p) keys s)
             (inductive-exactly t home (marked p) keys s);
       }
+
+-- ---- `tau_hat`: the number of labels, which is none of them
+labels-checked : (labels : ℕ) → labelsRefusal labels .number ≡ 0 → (1 ≤ labels) × (labels ≤ maxLabels)
+unfolding labelsRefusal
+labels-checked labels z = range-of 1 labels maxLabels (passed (labelsTest labels ∷ []) refl (labelsRefusal labels) refl z .0)
+
+pub tau-hat-done :
+    (labels : ℕ) (values : List ℕ) → done values ≡ tauHat labels
+    → (1 ≤ labels) × (labels ≤ maxLabels) × (values ≡ labels ∷ [])
+unfolding tauHat
+tau-hat-done labels values e =
+    let d = answering-done (labelsRefusal labels) values (labels ∷ []) e in
+    let r = labels-checked labels (d .0) in
+    (r .0, r .1, d .1)
+
+-- yes exactly for that label
+pub is-tau-hat-done :
+    (labels label : ℕ) (values : List ℕ) → done values ≡ isTauHat labels label
+    → (1 ≤ labels) × (labels ≤ maxLabels) × SaysWhether values (label ≡ labels)
+unfolding isTauHat
+is-tau-hat-done labels label values e =
+    let d = answering-done (labelsRefusal labels) values (bit (eqb label labels) ∷ []) e in
+    let r = labels-checked labels (d .0) in
+    (r .0, r .1, says-whether (eqb label labels) values (d .1) (eqb-true label labels, eq-eqb label labels))

@@ -1,22 +1,26 @@
 -- Work slices, however many: that each is long enough, and what they are left as.
-use Prim.Native.Nat.{ℕ, _+_}
-use mathlib.Core.Bool.{true}
+use Prim.Native.Nat.{ℕ, _+_, _≤_}
+use mathlib.Core.Bool.{true, Bool}
 use mathlib.Core.Path.{_≡_, refl, ap, ap₂, sym, _∙_}
 use mathlib.Core.List.{List, [], _∷_, _++_, map, map-id, map-map, map-append}
 use lib.ListN.{length}
+use lib.Dec.{leb}
 use Rattle.columns.specs.Columns.{zeros, zeroed}
 use Rattle.columns.specs.Due.{Roomy}
 use Rattle.columns.proofs.Rooms.{roomy-of}
-use Rattle.signatures.specs.Signing.{roomy}
+use Rattle.columns.proofs.Bools.{and-left, and-right}
+use Rattle.signatures.specs.Signing.{worksFit}
+use Rattle.signatures.specs.Pairs.{roomFor}
 use Rattle.table.specs.Lts.{Lts}
+use borrow.Author.Tests.{leb-true}
 
 -- ---- they are long enough
 -- every slice has n + m + 1 cells
 abbrev pub Wide : Lts → List (List ℕ) → Type 0
 Wide t works = Roomy (t .n + t .m + 1) (map (λ w. length w) works)
 
-pub wide-of : (t : Lts) (works : List (List ℕ)) → roomy t works ≡ true → Wide t works
-unfolding roomy
+pub wide-of : (t : Lts) (works : List (List ℕ)) → worksFit t works ≡ true → Wide t works
+unfolding worksFit
 wide-of t works e = roomy-of (t .n + t .m + 1) (map (λ w. length w) works) e
 
 -- ---- what they are left as
@@ -46,3 +50,9 @@ level works before e =
 
 pub cleared-append : (l m : List (List ℕ)) → zeroed l ++ zeroed m ≡ zeroed (l ++ m)
 cleared-append l m = sym (map-append (λ (w : List ℕ). zeros (length w)) l m)
+
+-- two columns with room for d pairs
+pub room-both : (d l b : ℕ) (r : Bool) → r ≡ roomFor d l b → r ≡ true → (d ≤ l) × (d ≤ b)
+unfolding roomFor
+room-both d l b r e f =
+    (leb-true d l (and-left (leb d l) (leb d b) (sym e ∙ f)), leb-true d b (and-right (leb d l) (leb d b) (sym e ∙ f)))

@@ -11,7 +11,7 @@ use Rattle.partition.specs.Partition.{Partition}
 use Rattle.partition.specs.Readers.{unmarkedb}
 use Rattle.table.specs.Lts.{Lts}
 use Rattle.signatures.specs.Pairs.{Columns, signature}
-use Rattle.signatures.specs.Signing.{Left, roomy, signing, signatureRefusal}
+use Rattle.signatures.specs.Signing.{Left, worksFit, signing, signatureRefusal}
 use Rattle.signatures.specs.Strong.{ownRows, rowPair}
 
 -- row i is hidden and leads to block b; `home` has the block of each state
@@ -29,6 +29,7 @@ keyedAt t home marked keys b i =
     let u = getD (t .target) i 0 in
     cond (inertb (t .label) (t .target) home b i && marked u) (t .labels, getD keys u 0) (rowPair t home i)
 
+-- the pairs pushed for s, before duplicates go
 unfoldable pub inductivePushed : Lts → List ℕ → (ℕ → Bool) → List ℕ → ℕ → List Pair
 unfolding ownRows keyedAt
 inductivePushed t home marked keys s = map (keyedAt t home marked keys (getD home s 0)) (ownRows t s)
@@ -38,9 +39,9 @@ unfolding signature inductivePushed
 inductiveSignature t home marked keys s = signature (inductivePushed t home marked keys s)
 
 unfoldable pub branchingBisimSignatureInductive : Lts → Partition → ℕ → List ℕ → Columns → List (List ℕ) → Said × Left
-unfolding signing signatureRefusal roomy inductivePushed inductiveSignature unmarkedb
+unfolding signing signatureRefusal worksFit inductivePushed inductiveSignature unmarkedb
 branchingBisimSignatureInductive t p s keys out works =
     let home = p .element-to-block in
     let marked : ℕ → Bool = λ u. not (unmarkedb p u) in
-    signing (signatureRefusal t p s (leb (t .n) (length keys) && roomy t works)) (length (inductivePushed t home marked keys s))
+    signing (signatureRefusal t p s (leb (t .n) (length keys) && worksFit t works)) (length (inductivePushed t home marked keys s))
     (inductiveSignature t home marked keys s) out works

@@ -1,17 +1,17 @@
 -- Signatures: pairs (label, block), ascending, no pair twice.
 use Prim.Native.Nat.{ℕ}
-use mathlib.Core.Bool.{Bool, true, _&&_}
+use mathlib.Core.Bool.{Bool, _&&_}
 use mathlib.Core.List.{List}
 use lib.Dec.{leb}
 use lib.ListN.{length}
 use Rattle.columns.specs.Columns.{over}
 use Rattle.columns.specs.Rows.{firstOf, lastOf}
-use Rattle.columns.specs.Sets.{Pair, pairLt, collect}
+use Rattle.columns.specs.Sets.{Pair, pairLt, collect, setOf}
 
 -- what was pushed, sorted and without duplicates
 unfoldable pub signature : List Pair → List Pair
 unfolding collect pairLt
-signature pushed = collect pairLt (λ r. true) (λ r. r) pushed
+signature pushed = setOf pairLt pushed
 
 -- two columns, one of labels and one of blocks
 abbrev pub Columns : Type 0

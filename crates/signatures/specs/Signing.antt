@@ -17,21 +17,21 @@ use Rattle.table.specs.Lts.{Lts}
 use Rattle.signatures.specs.Pairs.{Columns, fits, pairsOver}
 
 -- every work slice has n + m + 1 cells
-unfoldable pub roomy : Lts → List (List ℕ) → Bool
+unfoldable pub worksFit : Lts → List (List ℕ) → Bool
 unfolding allLong
-roomy t works = worksLong t (map (λ w. length w) works)
+worksFit t works = worksLong t (map (λ w. length w) works)
 
 -- what a call leaves: its two result columns, and its work slices
 abbrev pub Left : Type 0
 Left = Columns × List (List ℕ)
 
--- a signature is written, or 16 where there is no room for as many pairs as were pushed; the work slices are zero then
+-- a signature is written, or 16 where there is no room for as many pairs as were pushed; either way the work slices are zero
 unfoldable pub finishing : ℕ → List Pair → Columns → List (List ℕ) → Said × Left
 unfolding fits pairsOver
 finishing pushed pairs out works =
     cond (fits pushed out) (done (length pairs ∷ []), (pairsOver pairs out, zeroed works)) (refused noRoom pushed, (out, zeroed works))
 
--- a call whose checks have answered r, with as many pairs pushed and with its signature: a refusal leaves everything as it was
+-- a call whose checks have answered r, with so many pairs pushed and with its signature: a refusal leaves everything as it was
 unfoldable pub signing : Refusal → ℕ → List Pair → Columns → List (List ℕ) → Said × Left
 unfolding finishing
 signing r pushed pairs out works =

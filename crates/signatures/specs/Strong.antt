@@ -9,7 +9,7 @@ use Rattle.columns.specs.Sets.{Pair}
 use Rattle.partition.specs.Partition.{Partition}
 use Rattle.table.specs.Lts.{Lts}
 use Rattle.signatures.specs.Pairs.{Columns, signature}
-use Rattle.signatures.specs.Signing.{Left, roomy, signing, signatureRefusal}
+use Rattle.signatures.specs.Signing.{Left, worksFit, signing, signatureRefusal}
 
 -- the rows of state s, in their order
 unfoldable pub ownRows : Lts → ℕ → List ℕ
@@ -20,6 +20,7 @@ ownRows t s = members (t .m) (λ i. eqb (getD (t .source) i 0) s)
 unfoldable pub rowPair : Lts → List ℕ → ℕ → Pair
 rowPair t home i = (getD (t .label) i 0, getD home (getD (t .target) i 0) 0)
 
+-- the pairs pushed for s, before duplicates go
 unfoldable pub strongPushed : Lts → List ℕ → ℕ → List Pair
 unfolding ownRows rowPair
 strongPushed t home s = map (rowPair t home) (ownRows t s)
@@ -29,7 +30,7 @@ unfolding signature strongPushed
 strongSignature t home s = signature (strongPushed t home s)
 
 unfoldable pub strongBisimSignature : Lts → Partition → ℕ → Columns → List (List ℕ) → Said × Left
-unfolding signing signatureRefusal roomy strongPushed strongSignature
+unfolding signing signatureRefusal worksFit strongPushed strongSignature
 strongBisimSignature t p s out works =
     let home = p .element-to-block in
-    signing (signatureRefusal t p s (roomy t works)) (length (strongPushed t home s)) (strongSignature t home s) out works
+    signing (signatureRefusal t p s (worksFit t works)) (length (strongPushed t home s)) (strongSignature t home s) out works

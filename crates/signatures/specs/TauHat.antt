@@ -6,7 +6,7 @@ use Rattle.columns.specs.declared.answers.Refusal.{Refusal}
 use Rattle.columns.specs.Answers.{Said, bit, answering}
 use Rattle.columns.specs.Due.{due, labelsTest}
 
--- 2
+-- 2 for a number of labels outside its range
 unfoldable pub labelsRefusal : ℕ → Refusal
 unfolding due
 labelsRefusal labels = due (labelsTest labels ∷ [])

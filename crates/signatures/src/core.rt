@@ -1,5 +1,5 @@
-// What each signature pushes, on columns that are checked already. No entry points: each says what it requires. The pairs pushed go
-// over the first cells of two columns, and their number is returned.
+// What the strong and the inductive signature push, on columns that are checked already. No entry points: each says what it requires. The
+// pairs pushed go over the first cells of two columns, and their number is returned.
 ghost use mathlib.Core.Path.{_≡_};
 ghost use mathlib.Core.Bool.{cond};
 ghost use Prim.Native.Nat.{ℕ, _≤_, _<_};

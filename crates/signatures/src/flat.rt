@@ -8,12 +8,13 @@ ghost use Rattle.columns.specs.Columns.{over, wiped, cell};
 ghost use Rattle.columns.specs.Rows.{pairsOf};
 ghost use Rattle.signatures.specs.Pairs.{signature, pairsOver, roomFor};
 ghost use Rattle.signatures.specs.Signing.{finishing};
-ghost use Rattle.columns.specs.Lent.{was, is, Cleared};
+ghost use Rattle.columns.specs.Lent.{was, is};
 use columns::answers::NumberAnswer;
 use columns::answers::number;
 use columns::answers::refuse;
 use columns::answers::refusing_number;
 use columns::cells::clear;
+use columns::clearing::clear_four;
 use columns::limits::NO_ROOM;
 use columns::rows::gather;
 use columns::rows::pick_rows;
@@ -69,17 +70,6 @@ pub fn flatten(
     r
 }
 
-// Every cell of four columns becomes zero.
-pub fn wipe(a: &mut [u16], b: &mut [u16], c: &mut [u16], d: &mut [u16])
-    ensures { λ _. ⌜ Cleared a × Cleared b ⌝ }
-    ensures { λ _. ⌜ Cleared c × Cleared d ⌝ }
-{
-    clear(a);
-    clear(b);
-    clear(c);
-    clear(d);
-}
-
 // The signature of the first d pairs pushed over the first cells of `labels` and `blocks`, or 16 where they have no room for all d.
 // Every cell of the four work slices is zero then.
 pub fn sign(
@@ -100,7 +90,7 @@ pub fn sign(
         ≡ finishing d (signature (pairsOf d (was «pushed_labels») (was «pushed_blocks»))) (was labels, was blocks) work ⌝ }
 {
     if !has_room(d, labels.len(), blocks.len()) {
-        wipe(pushed_labels, pushed_blocks, order, spare);
+        clear_four(pushed_labels, pushed_blocks, order, spare);
         return refusing_number(refuse(NO_ROOM, d as u64));
     }
     let r = flatten(
@@ -112,6 +102,6 @@ pub fn sign(
         &mut *order,
         &mut *spare,
     );
-    wipe(pushed_labels, pushed_blocks, order, spare);
+    clear_four(pushed_labels, pushed_blocks, order, spare);
     number(r as u64)
 }

@@ -13,7 +13,6 @@ use Rattle.columns.specs.Sets.{Mem, Pair, pairLt, Ascending}
 use Rattle.columns.proofs.Bools.{and-left, and-right, and-both, contra, fails}
 use Rattle.columns.proofs.Members.{members-in, members-out}
 use Rattle.signatures.specs.Inductive.{inertb}
-use Rattle.signatures.specs.Pairs.{signature}
 use Rattle.signatures.specs.Strong.{rowPair}
 use Rattle.signatures.proofs.Sigs.{sig-in, sig-out, sig-ascending}
 use Rattle.table.specs.Lts.{Lts, Step, Valid}

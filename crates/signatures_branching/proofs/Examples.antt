@@ -6,8 +6,8 @@ use lib.ListN.{replicate}
 use Rattle.columns.specs.Answers.{Said, done, refused}
 use Rattle.columns.specs.Due.{allLong}
 use Rattle.columns.specs.Inverse.{inverseb, inverseAt}
-use Rattle.columns.specs.Tests.{all}
-use Rattle.partition.specs.Partition.{Partition, parts, blocksb, blockAt, withinb, liesb, lieAt, insideb, lengths}
+use Rattle.columns.specs.Counting.{all}
+use Rattle.partition.specs.Partition.{Partition, parts, boundsb, blockAt, withinb, liesb, lieAt, insideb, lengths}
 use Rattle.signatures.specs.Pairs.{Columns}
 use Rattle.signatures.specs.Signing.{Left}
 use Rattle.table.specs.Lts.{Lts}
@@ -45,5 +45,5 @@ pub examples :
     ∷ (done (0 ∷ []), (([], []), works 0))
     ∷ (done (0 ∷ []), (([], []), works 0))
     ∷ [])
-unfolding branchingBisimSignature allLong inverseb all inverseAt blocksb blockAt withinb liesb lieAt insideb lengths
+unfolding branchingBisimSignature allLong inverseb all inverseAt boundsb blockAt withinb liesb lieAt insideb lengths
 examples = refl

@@ -7,6 +7,7 @@ use lib.ListN.{length}
 use Rattle.columns.specs.Answers.{Said, done, refused}
 use Rattle.columns.specs.Columns.{zeroed}
 use Rattle.columns.specs.Sets.{Pair}
+use Rattle.columns.specs.Limits.{noRoom}
 use Rattle.signatures.specs.Pairs.{Columns, fits, pairsOver}
 use Rattle.signatures.specs.Signing.{Left, finishing}
 
@@ -21,7 +22,7 @@ unfolding finishing
 finish-more d pairs out works more all g = rw (← g) (go (fits d out))
   where
     go : (b : Bool)
-        → with-more more (cond b (done (length pairs ∷ []), (pairsOver pairs out, zeroed works)) (refused 16 d, (out, zeroed works)))
-        ≡ cond b (done (length pairs ∷ []), (pairsOver pairs out, zeroed works ++ more)) (refused 16 d, (out, zeroed works ++ more))
+        → with-more more (cond b (done (length pairs ∷ []), (pairsOver pairs out, zeroed works)) (refused noRoom d, (out, zeroed works)))
+        ≡ cond b (done (length pairs ∷ []), (pairsOver pairs out, zeroed works ++ more)) (refused noRoom d, (out, zeroed works ++ more))
     go true = refl
     go false = refl

@@ -6,7 +6,7 @@ use lib.ListN.{length}
 use Rattle.columns.specs.Answers.{done}
 use Rattle.partition.specs.Partition.{Partition}
 use Rattle.signatures.specs.Pairs.{Columns}
-use Rattle.signatures.specs.Signing.{Left, roomy, signatureRefusal}
+use Rattle.signatures.specs.Signing.{Left, worksFit, signatureRefusal}
 use Rattle.table_partition.proofs.Refusals.{both-ready}
 use Rattle.signatures.proofs.Signed.{signing-accepted, signing-signed}
 use Rattle.signatures.proofs.Sigs.{sig-few}
@@ -24,9 +24,9 @@ pub branching-done :
 unfolding branchingBisimSignature signatureRefusal
 branching-done t p same s out works k left e =
     let home = p .element-to-block in
-    let r = signatureRefusal t p s (roomy t works) in
+    let r = signatureRefusal t p s (worksFit t works) in
     let pushed = length (branchingPushed t home s) in
-    let a = both-ready t p same s (t .n) (roomy t works) r refl
+    let a = both-ready t p same s (t .n) (worksFit t works) r refl
     (signing-accepted r pushed (branchingSignature t home s) out works k left e) in
     record {
       valid = a .valid;

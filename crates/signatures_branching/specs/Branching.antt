@@ -11,7 +11,7 @@ use Rattle.columns.specs.Sets.{Pair}
 use Rattle.partition.specs.Partition.{Partition}
 use Rattle.signatures.specs.Inductive.{inertb}
 use Rattle.signatures.specs.Pairs.{Columns, signature}
-use Rattle.signatures.specs.Signing.{Left, roomy, signing, signatureRefusal}
+use Rattle.signatures.specs.Signing.{Left, worksFit, signing, signatureRefusal}
 use Rattle.signatures.specs.Strong.{rowPair}
 use Rattle.table.specs.Lts.{Lts}
 use Rattle.table.specs.Reach.{via, someRow}
@@ -36,6 +36,7 @@ unfoldable pub outerPairs : Lts → List ℕ → ℕ → ℕ → List Pair
 unfolding rowPair members outerb
 outerPairs t home b x = map (rowPair t home) (members (t .m) (λ i. eqb (getD (t .source) i 0) x && outerb t home b i))
 
+-- the pairs pushed for s, before duplicates go
 unfoldable pub branchingPushed : Lts → List ℕ → ℕ → List Pair
 unfolding rowPair members inertly outerb
 branchingPushed t home s =
@@ -46,7 +47,7 @@ unfolding signature branchingPushed
 branchingSignature t home s = signature (branchingPushed t home s)
 
 unfoldable pub branchingBisimSignature : Lts → Partition → ℕ → Columns → List (List ℕ) → Said × Left
-unfolding signing signatureRefusal roomy branchingPushed branchingSignature
+unfolding signing signatureRefusal worksFit branchingPushed branchingSignature
 branchingBisimSignature t p s out works =
     let home = p .element-to-block in
-    signing (signatureRefusal t p s (roomy t works)) (length (branchingPushed t home s)) (branchingSignature t home s) out works
+    signing (signatureRefusal t p s (worksFit t works)) (length (branchingPushed t home s)) (branchingSignature t home s) out works

@@ -4,20 +4,16 @@ use native.Mathlib.Omega.{arith}
 use mathlib.Core.Path.{_≡_, refl, sym, ap, _∙_}
 use mathlib.Core.Bool.{Bool, true, false, cond}
 use mathlib.Core.List.{List, [], _∷_, _++_}
-use lib.ListN.{length, getD, take, drop, length-replicate}
+use lib.ListN.{length, getD, take, drop}
 use Rattle.columns.specs.Answers.{Said, done, refused}
-use Rattle.columns.specs.Columns.{zeros, zeroed}
+use Rattle.columns.specs.Columns.{zeros, zeroed, EachZero}
 use Rattle.columns.specs.Sets.{Pair}
-use Rattle.columns.proofs.Lists.{front-zeros, zeros-at}
+use Rattle.columns.proofs.Lists.{front-zeros, zeros-at, still-zeros}
+use Rattle.columns.specs.Limits.{noRoom}
 use Rattle.signatures.specs.Pairs.{Columns, fits, pairsOver}
 use Rattle.signatures.specs.Signing.{Left, finishing}
 use Rattle.signatures.proofs.Works.{Each, zeroed-of}
 use Rattle.signatures_sorted.specs.Joining.{writing}
-use Rattle.signatures_sorted.specs.Taking.{EachZero}
-
--- what a slice is left as that has been cleared
-pub still-zero : (a : List ℕ) (n : ℕ) → a ≡ zeros n → a ≡ zeros (length a)
-still-zero a n e = e ∙ ap zeros (sym (ap length e ∙ length-replicate {A = ℕ} n 0))
 
 -- of a slice that is all zero the first h cells are lent, and come back zero
 pub lent-zero : (h : ℕ) (x z : List ℕ) → h ≤ length x → x ≡ zeros (length x) → z ≡ zeros (length (take h x)) → z ++
@@ -40,14 +36,14 @@ module _ (pushed : ℕ) (pairs : List Pair) (out : Columns) where
     where
       go : (b : Bool) →
           _≡_ {A = Said × Left}
-          (cond b (done (length pairs ∷ []), (pairsOver pairs out, zeroed works)) (refused 16 pushed, (out, zeroed works))) (
-            cond {A = Said × Columns} b (done (length pairs ∷ []), pairsOver pairs out) (refused 16 pushed, out) .0,
-            (cond {A = Said × Columns} b (done (length pairs ∷ []), pairsOver pairs out) (refused 16 pushed, out) .1, zeroed works),
+          (cond b (done (length pairs ∷ []), (pairsOver pairs out, zeroed works)) (refused noRoom pushed, (out, zeroed works))) (
+            cond {A = Said × Columns} b (done (length pairs ∷ []), pairsOver pairs out) (refused noRoom pushed, out) .0,
+            (cond {A = Said × Columns} b (done (length pairs ∷ []), pairsOver pairs out) (refused noRoom pushed, out) .1, zeroed works),
           )
       go true = refl
       go false = refl
 
-  pub wrote-none : (s : Said) → fits pushed out ≡ false → s ≡ refused 16 pushed →
+  pub wrote-none : (s : Said) → fits pushed out ≡ false → s ≡ refused noRoom pushed →
       _≡_ {A = Said × Columns} (s, out) (writing pushed pairs out)
   unfolding writing
   wrote-none s f e = rw (f, e)
@@ -80,4 +76,4 @@ zero-again works before e = go works before (each-zero works before e)
     go : (works before : List (List ℕ)) → Each (λ a b. a ≡ zeros (length b)) works before → EachZero works
     go [] before z = tt
     go (a ∷ works) [] z = absurd z
-    go (a ∷ works) (b ∷ before) z = (still-zero a (length b) (z .0), go works before (z .1))
+    go (a ∷ works) (b ∷ before) z = (still-zeros a (length b) (z .0), go works before (z .1))

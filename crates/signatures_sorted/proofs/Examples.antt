@@ -7,8 +7,8 @@ use Rattle.signatures_branching.specs.Branching.{branchingSignature}
 use Rattle.columns.specs.Answers.{Said, done, refused}
 use Rattle.columns.specs.Due.{allLong}
 use Rattle.columns.specs.Inverse.{inverseb, inverseAt}
-use Rattle.columns.specs.Tests.{all}
-use Rattle.partition.specs.Partition.{Partition, parts, blocksb, blockAt, withinb, liesb, lieAt, insideb, lengths}
+use Rattle.columns.specs.Counting.{all}
+use Rattle.partition.specs.Partition.{Partition, parts, boundsb, blockAt, withinb, liesb, lieAt, insideb, lengths}
 use Rattle.signatures.specs.Pairs.{Columns}
 use Rattle.signatures.specs.Signing.{Left}
 use Rattle.pairs.specs.Lists.{listAt}
@@ -70,7 +70,7 @@ pub examples :
     ∷ (done (0 ∷ []), (([], []), works 0))
     ∷ (refused 15 1, (([], []), works 9))
     ∷ [])
-unfolding branchingBisimSignatureSorted allLong inverseb all inverseAt blocksb blockAt withinb liesb lieAt insideb lengths
+unfolding branchingBisimSignatureSorted allLong inverseb all inverseAt boundsb blockAt withinb liesb lieAt insideb lengths
 examples = refl
 
 -- the right lists are the branching signatures, and give that of state 0

@@ -17,13 +17,13 @@ use Rattle.columns.proofs.Counting.{Ranked, many-onto}
 use Rattle.columns.proofs.Facts.{at-mem, mem-at}
 use Rattle.columns.proofs.Lists.{length-listed}
 use Rattle.columns.proofs.Orders.{lex-split, ltb-order, pair-order}
+use Rattle.columns.specs.Rows.{rowIn, pairAt, pairsBetween}
 use Rattle.pairs_merge.specs.Merged.{heads, headPlace, endAt}
-use Rattle.pairs_merge.specs.Rest.{pairsBetween, restOf, leftOf, Mergeable}
+use Rattle.pairs_merge.specs.Rest.{restOf, leftOf, Mergeable}
 use Rattle.signatures.specs.Inductive.{inertb}
 use Rattle.pairs.specs.Lists.{startAt, listAt, Lists}
-use Rattle.pairs.specs.Pairs.{pairAt}
 use Rattle.pairs.proofs.Refusals.{shorter-left, shorter-right}
-use Rattle.table.specs.Lts.{Lts, rowIn, rowAt, Valid}
+use Rattle.table.specs.Lts.{Lts, rowAt, Valid}
 use Rattle.signatures.specs.Strong.{ownRows}
 use Rattle.signatures_sorted.specs.Joining.{Opened}
 use Rattle.signatures_sorted.specs.Taking.{innerRow, innerTargets, Takes}

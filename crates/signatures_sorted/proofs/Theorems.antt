@@ -11,7 +11,7 @@ use Rattle.columns.specs.Sets.{Pair}
 use Rattle.partition.specs.Partition.{Partition}
 use Rattle.pairs.specs.Lists.{Lists, listAt}
 use Rattle.signatures.specs.Pairs.{Columns}
-use Rattle.signatures.specs.Signing.{Left, roomy}
+use Rattle.signatures.specs.Signing.{Left, worksFit}
 use Rattle.signatures.proofs.Signed.{signing-accepted, signing-signed}
 use Rattle.signatures.proofs.Sigs.{sig-few}
 use Rattle.signatures.proofs.Theorems.{SignatureDone}
@@ -40,7 +40,7 @@ pub sorted-done :
 unfolding branchingBisimSignatureSorted
 sorted-done t p same s g out works k left e =
     let home = p .element-to-block in
-    let room = leb (t .n + 1) (length (g .starts)) && roomy t works in
+    let room = leb (t .n + 1) (length (g .starts)) && worksFit t works in
     let r = sortedRefusal t p s g room in
     let pushed = length (sortedPushed t home (listOf g) s) in
     let z = signing-accepted r pushed (sortedSignature t home (listOf g) s) out works k left e in

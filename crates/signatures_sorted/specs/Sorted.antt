@@ -11,7 +11,7 @@ use Rattle.columns.specs.Sets.{Pair}
 use Rattle.partition.specs.Partition.{Partition}
 use Rattle.signatures.specs.Inductive.{inertb}
 use Rattle.signatures.specs.Pairs.{Columns, signature}
-use Rattle.signatures.specs.Signing.{Left, roomy, signing}
+use Rattle.signatures.specs.Signing.{Left, worksFit, signing}
 use Rattle.signatures.specs.Strong.{ownRows, rowPair}
 use Rattle.pairs.specs.Lists.{listAt, listsTests, listsRefusal}
 use Rattle.table.specs.Lts.{Lts}
@@ -23,6 +23,7 @@ unfolding inertb rowPair
 sortedAt t home given b i =
     cond (inertb (t .label) (t .target) home b i) (given (getD (t .target) i 0)) (rowPair t home i ∷ [])
 
+-- the pairs pushed for s, before duplicates go
 unfoldable pub sortedPushed : Lts → List ℕ → (ℕ → List Pair) → ℕ → List Pair
 unfolding flatMap ownRows sortedAt
 sortedPushed t home given s = flatMap (sortedAt t home given (getD home s 0)) (ownRows t s)
@@ -47,9 +48,9 @@ sortedRefusal t p s g room =
     due (bothTests t p room ++ (indexTest s (t .n) ∷ listsTests (g .starts) (t .n) (g .labels) (g .blocks)))
 
 unfoldable pub branchingBisimSignatureSorted : Lts → Partition → ℕ → Given → Columns → List (List ℕ) → Said × Left
-unfolding signing sortedRefusal roomy sortedPushed sortedSignature listAt
+unfolding signing sortedRefusal worksFit sortedPushed sortedSignature listAt
 branchingBisimSignatureSorted t p s g out works =
     let home = p .element-to-block in
     let given = listAt (g .starts) (g .labels) (g .blocks) in
-    signing (sortedRefusal t p s g (leb (t .n + 1) (length (g .starts)) && roomy t works)) (length (sortedPushed t home given s))
+    signing (sortedRefusal t p s g (leb (t .n + 1) (length (g .starts)) && worksFit t works)) (length (sortedPushed t home given s))
     (sortedSignature t home given s) out works

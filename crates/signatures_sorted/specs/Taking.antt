@@ -1,11 +1,9 @@
 -- The lists that a state takes, and what is asked of them and of the work slices where the checks are made already.
 use Prim.Native.Nat.{ℕ, _+_, _≤_}
-use mathlib.Core.Path.{_≡_}
 use mathlib.Core.Bool.{Bool, _&&_}
-use mathlib.Core.List.{List, [], _∷_, map}
+use mathlib.Core.List.{List, map}
 use lib.Dec.{eqb}
-use lib.ListN.{length, getD}
-use Rattle.columns.specs.Columns.{zeros}
+use lib.ListN.{getD}
 use Rattle.columns.specs.Counting.{members}
 use Rattle.columns.specs.Sets.{Mem, pairLt, Ascending}
 use Rattle.signatures.specs.Inductive.{inertb}
@@ -31,13 +29,3 @@ pub record Takeable (starts labels blocks : List ℕ) (u : ℕ) : Type 0 where
 -- so do the lists that s takes; no other is asked for
 abbrev pub Takes : Lts → List ℕ → List ℕ → List ℕ → List ℕ → ℕ → Type 0
 Takes t home starts labels blocks s = (u : ℕ) → Mem u (innerTargets t home s) → Takeable starts labels blocks u
-
--- every work slice has k cells
-abbrev pub EachLong : ℕ → List (List ℕ) → Type 0
-EachLong k [] = Unit {0}
-EachLong k (a ∷ works) = (k ≤ length a) × EachLong k works
-
--- every cell of every work slice is zero
-abbrev pub EachZero : List (List ℕ) → Type 0
-EachZero [] = Unit {0}
-EachZero (a ∷ works) = (a ≡ zeros (length a)) × EachZero works

@@ -15,9 +15,10 @@ ghost use Rattle.signatures.specs.Signing.{finishing};
 ghost use Rattle.signatures.specs.Strong.{ownRows};
 ghost use Rattle.signatures_sorted.specs.Sorted.{sortedPushed, sortedSignature};
 ghost use Rattle.signatures_sorted.specs.Joining.{Opened, jointSet, writing};
-ghost use Rattle.signatures_sorted.specs.Taking.{innerTargets, Takes, EachLong, EachZero};
+ghost use Rattle.signatures_sorted.specs.Taking.{innerTargets, Takes};
 ghost use Rattle.table.specs.Lts.{Valid};
 ghost use Rattle.columns.specs.Lent.{was, is, Clear};
+ghost use Rattle.columns.specs.Columns.{EachLong, EachZero};
 ghost use Rattle.table.specs.Lent.{ltsOf, ltsNow};
 use crate::opening::open_lists;
 use columns::answers::NumberAnswer;
@@ -26,13 +27,13 @@ use columns::answers::refuse;
 use columns::answers::refusing_number;
 use columns::cells::at;
 use columns::cells::clear;
+use columns::clearing::clear_four;
 use columns::limits::NO_ROOM;
 use pairs_merge::left::left_in;
 use pairs_merge::merge::merge;
 use pairs_merge::union::unite;
 use signatures::flat::flatten;
 use signatures::flat::has_room;
-use signatures::flat::wipe;
 use signatures_branching::core::push_outer;
 use table::Table;
 use table::core::rows_of;
@@ -258,7 +259,7 @@ fn finish(
         &*end_low,
         &mut *tree,
     );
-    wipe(own_labels, own_blocks, high, low);
+    clear_four(own_labels, own_blocks, high, low);
     clear(end_high);
     clear(end_low);
     clear(tree);

@@ -16,7 +16,7 @@ use crate::checks::sorted_refusal;
 use columns::answers::NumberAnswer;
 use columns::answers::refusing_number;
 use columns::cells::clear;
-use signatures::flat::wipe;
+use columns::clearing::clear_four;
 use table::Table;
 use table::checks::works_long;
 
@@ -95,7 +95,7 @@ pub fn branching_bisim_signature_sorted(
     if number != 0 {
         return refusing_number(t);
     }
-    wipe(&mut *own_labels, &mut *own_blocks, &mut *high, &mut *low);
+    clear_four(&mut *own_labels, &mut *own_blocks, &mut *high, &mut *low);
     clear(&mut *end_high);
     clear(&mut *end_low);
     clear(&mut *tree);

@@ -23,7 +23,8 @@ use Rattle.columns.proofs.Orders.{row-order, lex-split, ltb-order, pair-order}
 use Rattle.columns.proofs.Risings.{listed-in, listed-out}
 use Rattle.columns.proofs.Rooms.{roomy-of}
 use Rattle.columns.proofs.Sorts.{length-sort}
-use Rattle.table.specs.Lts.{Lts, rowIn, rowAt, Valid}
+use Rattle.columns.specs.Rows.{rowIn}
+use Rattle.table.specs.Lts.{Lts, rowAt, Valid}
 use Rattle.table.specs.Checks.{worksLong, tableTests}
 use Rattle.table.specs.Incoming.{incomingOrder, backRow, incomingRefusal}
 use Rattle.table.specs.Stretch.{listedTarget, ByTarget}

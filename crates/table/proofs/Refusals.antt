@@ -21,7 +21,8 @@ use Rattle.columns.proofs.Chains.{Holds, passed-both, holds-both, none-due}
 use Rattle.columns.proofs.Counting.{First, first-law}
 use Rattle.columns.proofs.Orders.{row-order}
 use Rattle.columns.proofs.Rooms.{range-of, of-range, roomy-of, of-roomy}
-use Rattle.table.specs.Lts.{Lts, rowIn, rowAt, RowsLong, Fields, Valid}
+use Rattle.columns.specs.Rows.{rowIn}
+use Rattle.table.specs.Lts.{Lts, rowAt, RowsLong, Fields, Valid}
 use Rattle.table.specs.Checks.{rowsLong, fieldsb, aboveb, badRow, rowTests, tableTests, tableArgumentRefusal}
 use Rattle.table.specs.Transitions.{nextRefusal}
 use Rattle.table.proofs.Rows.{key-row}

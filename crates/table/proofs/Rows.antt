@@ -5,11 +5,11 @@ use Prim.Native.Nat.{ℕ, _<_}
 use native.Mathlib.Omega.{arith}
 use lib.ListN.{length, getD}
 use Rattle.columns.specs.Columns.{keyOf}
-use Rattle.columns.specs.Rows.{rowsOf}
+use Rattle.columns.specs.Rows.{rowsOf, rowIn}
 use Rattle.columns.specs.Sets.{Row, rowLt, Ascending}
 use Rattle.columns.proofs.Risings.{listed-in, listed-out, ascending-of}
 use Rattle.columns.proofs.RowSets as C
-use Rattle.table.specs.Lts.{Lts, rowIn, rows, Step, Valid}
+use Rattle.table.specs.Lts.{Lts, rows, Step, Valid}
 
 -- ---- steps and rows
 -- the number of a step's row

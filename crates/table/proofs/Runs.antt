@@ -12,7 +12,8 @@ use Rattle.columns.specs.Answers.{done, none}
 use Rattle.columns.specs.Sets.{rowLt, pairLt}
 use Rattle.columns.proofs.Orders.{lex-split, ltb-order, pair-order}
 use Rattle.columns.proofs.Saying.{asked-done}
-use Rattle.table.specs.Lts.{Lts, rowIn, rowAt, Step, Valid}
+use Rattle.columns.specs.Rows.{rowIn}
+use Rattle.table.specs.Lts.{Lts, rowAt, Step, Valid}
 use Rattle.table.specs.Checks.{tableArgumentRefusal}
 use Rattle.table.specs.Stretch.{StretchOf, firstRow}
 use Rattle.table.specs.Transitions.{outgoingTransitions}

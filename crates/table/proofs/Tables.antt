@@ -7,7 +7,7 @@ use native.Mathlib.Omega.{arith}
 use lib.ListN.{length, length-append, length-map, getD}
 use Rattle.columns.specs.Columns.{listed, over}
 use Rattle.columns.specs.Limits.{maxLabels, maxRows, maxStates}
-use Rattle.columns.specs.Rows.{firstOf, secondOf, thirdOf, rowsOf}
+use Rattle.columns.specs.Rows.{firstOf, secondOf, thirdOf, rowsOf, rowIn}
 use Rattle.columns.specs.Sets.{Mem, Row, rowLt, Ascending}
 use Rattle.columns.proofs.Lists.{length-listed, listed-cons, listed-cong, over-front}
 use Rattle.columns.proofs.Risings.{of-ascending}
@@ -15,7 +15,7 @@ use Rattle.columns.proofs.Saying.{same-refusal, apart}
 use Rattle.table.specs.declared.answers.TableAnswer.{TableAnswer}
 use Rattle.table.specs.declared.answers.TableOutcome.{TableOutcome}
 use Rattle.table.specs.declared.answers.TableOutcome.the-variants as T
-use Rattle.table.specs.Lts.{Lts, rowIn, rows, Step, RowsLong, Valid}
+use Rattle.table.specs.Lts.{Lts, rows, Step, RowsLong, Valid}
 use Rattle.table.specs.Tables.{tableOf, saidTableOutcome, saidTable}
 use Rattle.table.proofs.Rows.{row-step}
 

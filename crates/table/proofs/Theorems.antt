@@ -1,10 +1,10 @@
 -- What `reachable` and `incoming` say and leave once they are done, in document 01's words. For the calls that name the rows of a state
 -- `outgoing-run` in Runs and `next-row` in Meetings say it.
 use mathlib.Core.Path.{_≡_, refl, sym, ap, subst, _∙_}
-use mathlib.Core.Logic.{_⊎_, inl, inr, ⊎-elim, _↔_}
+use mathlib.Core.Logic.{_⊎_, inl, inr, ⊎-elim}
 use mathlib.Core.Bool.{Bool, true, false}
 use mathlib.Core.List.{List, [], _∷_}
-use Prim.Native.Nat.{ℕ, _+_, _≤_, _<_}
+use Prim.Native.Nat.{ℕ, _≤_, _<_}
 use native.Mathlib.Omega.{arith}
 use native.Mathlib.Nat.{eq-or-lt-of-le}
 use borrow.Author.Tests.{ltb-true}
@@ -19,8 +19,9 @@ use Rattle.columns.proofs.Bools.{contra}
 use Rattle.columns.proofs.Counting.{many-cong}
 use Rattle.columns.proofs.Lists.{listed-cells, length-over, over-front, length-written, written-at, written-after}
 use Rattle.columns.proofs.Orders.{row-order, lex-split, ltb-order, pair-order}
+use Rattle.columns.specs.Rows.{rowIn}
 use Rattle.table.specs.Incoming.{incomingOrder, backRow, incomingRefusal, incomingRows}
-use Rattle.table.specs.Lts.{Lts, rowIn, Valid}
+use Rattle.table.specs.Lts.{Lts, Valid}
 use Rattle.table.specs.Promise.{Way, arrived, onward, Reached, IncomingList, Beyond}
 use Rattle.table.specs.Reach.{Walk, stop, along, edge, reaches, reachRefusal, reachable}
 use Rattle.table.specs.Stretch.{ByTarget, listedTarget}

@@ -2,7 +2,7 @@
 use mathlib.Core.Path.{_≡_, refl, sym, ap, subst, _∙_}
 use mathlib.Core.Bool.{Bool, true}
 use mathlib.Core.List.{List}
-use Prim.Native.Nat.{ℕ, _≤_, _<_}
+use Prim.Native.Nat.{ℕ, _≤_}
 use native.Mathlib.Omega.{arith}
 use lib.ListN.{length}
 use Rattle.columns.specs.Answers.{bit}
@@ -15,7 +15,7 @@ use Rattle.columns.proofs.Counting.{many-cong}
 use Rattle.columns.proofs.Lists.{listed-cong}
 use Rattle.columns.proofs.Orders.{row-order}
 use Rattle.columns.proofs.RowSets.{count-rows, few-picked}
-use Rattle.columns.proofs.Sets.{collect-ascending, collect-in, collect-out}
+use Rattle.columns.proofs.Sets.{collect-ascending, collect-in, collect-out, same-row}
 use Rattle.table.specs.Lts.{Lts, rows, Step, Valid}
 use Rattle.table.specs.Reach.{Walk, stop, along, edge, reaches}
 use Rattle.table.specs.Turned.{RowsTurned}
@@ -33,9 +33,6 @@ swapped-step t s a u k =
     let r = step-row t s a u k in
     subst (λ (p : Row). Mem {A = Row} p (rows (swapped t))) (sym (same-row (r .target) (r .label) (r .source)))
     (row-step (swapped t) (r .row) (r .below))
-  where
-    same-row : {u a s u′ a′ s′ : ℕ} → u ≡ u′ → a ≡ a′ → s ≡ s′ → _≡_ {A = Row} (u, (a, s)) (u′, (a′, s′))
-    same-row p q r = cc
 
 module _ (t : Lts) where
   -- and as a set

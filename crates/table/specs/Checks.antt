@@ -9,7 +9,8 @@ use Rattle.columns.specs.declared.answers.Refusal.{Refusal}
 use Rattle.columns.specs.Counting.{first}
 use Rattle.columns.specs.Due.{Test, test, due, allLong, statesTest, labelsTest, indexTest}
 use Rattle.columns.specs.Sets.{rowLt}
-use Rattle.table.specs.Lts.{Lts, rowIn}
+use Rattle.columns.specs.Rows.{rowIn}
+use Rattle.table.specs.Lts.{Lts}
 
 -- every column has m cells
 unfoldable pub rowsLong : Lts → Bool

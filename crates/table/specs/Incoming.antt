@@ -6,10 +6,11 @@ use lib.Dec.{leb}
 use lib.ListN.{length}
 use Rattle.columns.specs.declared.answers.Refusal.{Refusal}
 use Rattle.columns.specs.Answers.{Said, leaving}
-use Rattle.columns.specs.Columns.{listed, over, zeros, sortBy}
+use Rattle.columns.specs.Columns.{listed, over, sortBy, cleared}
 use Rattle.columns.specs.Due.{due, allLong}
 use Rattle.columns.specs.Sets.{Row}
-use Rattle.table.specs.Lts.{Lts, rowIn}
+use Rattle.columns.specs.Rows.{rowIn}
+use Rattle.table.specs.Lts.{Lts}
 use Rattle.table.specs.Checks.{rowsLong, worksLong, badRow, tableTests}
 
 unfoldable pub incomingOrder : Lts → List ℕ
@@ -30,4 +31,4 @@ unfoldable pub incomingRows : Lts → List ℕ → List ℕ → Said × (List �
 unfolding leaving incomingRefusal over incomingOrder
 incomingRows t result spare =
     leaving (incomingRefusal t (length result) (length spare)) (result, spare) (t .m ∷ [])
-    (over (incomingOrder t) result, zeros (length spare))
+    (over (incomingOrder t) result, cleared spare)

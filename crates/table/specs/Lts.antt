@@ -5,10 +5,11 @@ use mathlib.Core.List.{List}
 use Prim.Native.Nat.{ℕ, _≤_, _<_}
 use lib.ListN.{length, getD}
 use Rattle.columns.specs.Limits.{maxLabels, maxRows, maxStates}
-use Rattle.columns.specs.Rows.{rowsOf}
+use Rattle.columns.specs.Rows.{rowIn, rowsOf}
 use Rattle.columns.specs.Sets.{Mem, Row, rowLt}
 use Rattle.table.specs.declared.Table.{Table}
 
+-- a header, and three columns whose first m cells are the rows
 pub record Lts : Type 0 where
   pub n : ℕ
   pub labels : ℕ
@@ -21,10 +22,6 @@ pub record Lts : Type 0 where
 abbrev pub lts : Table → List ℕ → List ℕ → List ℕ → Lts
 lts t source label target =
     record { n = t .n; labels = t .labels; m = t .m; initial = t .initial; source = source; label = label; target = target }
-
--- row i of three columns
-unfoldable pub rowIn : List ℕ → List ℕ → List ℕ → ℕ → Row
-rowIn a b c i = (getD a i 0, (getD b i 0, getD c i 0))
 
 -- row i of the table: (source, (label, target))
 abbrev pub rowAt : Lts → ℕ → Row

@@ -3,12 +3,12 @@ use mathlib.Core.Path.{_≡_}
 use mathlib.Core.Bool.{Bool, true, not, _&&_, _||_}
 use mathlib.Core.List.{List, [], _∷_}
 use Prim.Native.Nat.{ℕ, zero, suc}
-use lib.Dec.{ltb, leb, eqb}
+use lib.Dec.{leb, eqb}
 use lib.ListN.{length, getD}
 use Rattle.columns.specs.declared.answers.Refusal.{Refusal}
 use Rattle.columns.specs.Answers.{Said, bit, leaving}
-use Rattle.columns.specs.Columns.{written, zeros}
-use Rattle.columns.specs.Counting.{first, many}
+use Rattle.columns.specs.Columns.{written, cleared}
+use Rattle.columns.specs.Counting.{many, some}
 use Rattle.columns.specs.Due.{allLong}
 use Rattle.table.specs.Lts.{Lts}
 use Rattle.table.specs.Checks.{worksLong, tableArgumentRefusal}
@@ -30,8 +30,8 @@ takes hidden a = not hidden || eqb a 0
 
 -- one of the first m rows passes the test w and leads from s to u
 unfoldable pub someRow : ℕ → List ℕ → List ℕ → (ℕ → Bool) → ℕ → ℕ → Bool
-unfolding first
-someRow m source target w s u = ltb (first m (λ i. eqb (getD source i 0) s && (eqb (getD target i 0) u && w i))) m
+unfolding some
+someRow m source target w s u = some m (λ i. eqb (getD source i 0) s && (eqb (getD target i 0) u && w i))
 
 -- a row that is taken leads from s to u
 unfoldable pub edge : Lts → Bool → ℕ → ℕ → Bool
@@ -52,4 +52,4 @@ unfoldable pub reachable : Lts → Bool → ℕ → List ℕ → List ℕ → Sa
 unfolding leaving reachRefusal many reaches written
 reachable t hidden s reached queue =
     leaving (reachRefusal t s (length reached) (length queue)) (reached, queue) (many (t .n) (reaches t hidden s) ∷ [])
-    (written (t .n) (λ u. bit (reaches t hidden s u)) reached, zeros (length queue))
+    (written (t .n) (λ u. bit (reaches t hidden s u)) reached, cleared queue)

@@ -8,20 +8,8 @@ use Rattle.columns.specs.Answers.{Said, done}
 use Rattle.columns.specs.Columns.{zeros}
 use Rattle.columns.specs.Due.{allLong}
 use Rattle.columns.specs.Inverse.{inverseb, inverseAt}
-use Rattle.columns.specs.Tests.{all}
-use Rattle.partition.specs.Partition.{
-  Partition,
-  parts,
-  withinb,
-  blockAt,
-  blocksb,
-  insideb,
-  lieAt,
-  liesb,
-  lengths,
-  consistentb,
-  longb,
-}
+use Rattle.columns.specs.Counting.{all}
+use Rattle.partition.specs.Partition.{Partition, parts, withinb, blockAt, boundsb, insideb, lieAt, liesb, lengths, consistentb, longb}
 use Rattle.table.specs.Lts.{Lts}
 
 -- the rows (0, a, 1) and (1, a, 2); and no rows
@@ -50,5 +38,5 @@ leaves p = (done [], (p, (zeros 6, zeros 6)))
 pub examples :
     (run (chain 0) 3 ∷ run (chain 0) 0 ∷ run bareTable 2 ∷ run (chain 1) 2 ∷ run (chain 0) 2 ∷ [])
     ≡ (leaves (given 3) ∷ leaves (given 0) ∷ leaves (given 2) ∷ leaves (given 2) ∷ leaves (from 0 (0 ∷ 1 ∷ 2 ∷ [])) ∷ [])
-unfolding markBackwardClosure consistentb longb allLong inverseb inverseAt all blocksb blockAt withinb liesb lieAt insideb lengths
+unfolding markBackwardClosure consistentb longb allLong inverseb inverseAt all boundsb blockAt withinb liesb lieAt insideb lengths
 examples = refl

@@ -10,7 +10,7 @@ use mathlib.Core.List.{List, _++_}
 use lib.Dec.{ltb, eqb}
 use lib.ListN.{length, length-append, getD, take, drop}
 use lib.Seq.{length-take-le, take-at, getD-take, getD-append-add, getD-drop}
-use Rattle.columns.specs.Columns.{laid, keyOf, sortBy}
+use Rattle.columns.specs.Columns.{keyOf, sortBy}
 use Rattle.columns.specs.Sets.{Mem, Row, rowLt, pairLt}
 use Rattle.columns.specs.Sort.{sort}
 use Rattle.columns.proofs.All.{lt-or-le}
@@ -23,8 +23,9 @@ use Rattle.columns.proofs.Members.{members-in, members-out}
 use Rattle.columns.proofs.Orders.{row-order, lex-split, ltb-order, pair-order, asym}
 use Rattle.columns.proofs.Risings.{ascending-at}
 use Rattle.columns.proofs.Sorts.{length-sort}
+use Rattle.columns.specs.Rows.{rowIn}
 use Rattle.table.specs.Incoming.{backRow}
-use Rattle.table.specs.Lts.{Lts, rowIn, Valid}
+use Rattle.table.specs.Lts.{Lts, Valid}
 use Rattle.table.proofs.Incomings.{key-back, back-apart}
 use Rattle.table.proofs.Stretches.{incoming-up}
 use Rattle.table_closure.specs.Closure.{silentb}

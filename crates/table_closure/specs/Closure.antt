@@ -6,7 +6,7 @@ use lib.Dec.{ltb, eqb}
 use lib.ListN.{length, getD}
 use Rattle.columns.specs.declared.answers.Refusal.{Refusal}
 use Rattle.columns.specs.Answers.{Said, leaving}
-use Rattle.columns.specs.Columns.{zeros}
+use Rattle.columns.specs.Columns.{cleared}
 use Rattle.columns.specs.Due.{allLong}
 use Rattle.partition.specs.Mark.{mark}
 use Rattle.partition.specs.Partition.{Partition}
@@ -62,4 +62,4 @@ unfoldable pub markBackwardClosure : Lts → Partition → ℕ → List ℕ → 
 unfolding leaving closureRefusal close
 markBackwardClosure t p b order spare =
     leaving (closureRefusal t p b (length order) (length spare)) (p, (order, spare)) []
-    (close t p b, (zeros (length order), zeros (length spare)))
+    (close t p b, (cleared order, cleared spare))

@@ -44,6 +44,7 @@ pub record Elsewhere (p : Partition) (b : ℕ) (q : Partition) : Type 0 where
   pub order : (k : ℕ) → (getD (p .begin) b 0 ≤ k → k < getD (p .end) b 0 → ⊥) → getD (q .elements) k 0 ≡ getD (p .elements) k 0
   pub marks : (s : ℕ) → s < p .n → (homeOf p s ≡ b → ⊥) → unmarkedb q s ≡ unmarkedb p s
 
+-- what the closure of block b in p leaves, q
 pub record Closure (t : Lts) (p : Partition) (b : ℕ) (q : Partition) : Type 0 where
   pub sound : Sound q
   pub elsewhere : Elsewhere p b q

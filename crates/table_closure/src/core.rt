@@ -85,8 +85,8 @@ fn close_marks(
     ensures { λ _.
         let given = marks (was elements) (was «element_offset») (was «marked_split») in
         let left = marks (is elements) (is «element_offset») (is «marked_split») in
-        let listed = rowList (was source) (was target) (was order) in
-        ⌜ left ≡ readListed listed h (was «element_to_block») b (getD (was begin) b 0) (getD (was end) b 0) given ⌝ }
+        let rows = rowList (was source) (was target) (was order) in
+        ⌜ left ≡ readListed rows h (was «element_to_block») b (getD (was begin) b 0) (getD (was end) b 0) given ⌝ }
 {
     let x = at(begin, b);
     let mut it = at(end, b);

@@ -13,6 +13,7 @@ use Rattle.columns.specs.Columns.{zeros}
 use Rattle.columns.proofs.Bools.{and-left, and-right}
 use Rattle.columns.proofs.Chains.{passed}
 use Rattle.columns.proofs.Rooms.{roomy-of}
+use Rattle.columns.specs.Limits.{cyclic}
 use Rattle.table.specs.Lts.{Lts, Valid}
 use Rattle.table.specs.Checks.{worksLong, tableTests}
 use Rattle.table.proofs.Refusals.{checked-of}
@@ -48,12 +49,12 @@ module _ (t : Lts) (hidden reversed : Bool) (places marks stack : List ℕ) (r :
   refused-first n f = rw (← e, ne-eqb (r .number) 0 n, f)
 
   pub sorted-last :
-      r .number ≡ 0 → (p a b : List ℕ) (free : Bool) → s ≡ cond free (done []) (refused 11 0) → free ≡ not (hasCycle t hidden)
+      r .number ≡ 0 → (p a b : List ℕ) (free : Bool) → s ≡ cond free (done []) (refused cyclic 0) → free ≡ not (hasCycle t hidden)
       → p ≡ sorted t hidden reversed places → a ≡ zeros (length marks) → b ≡ zeros (length stack)
       → (s, (p, (a, b))) ≡ sortTopological t hidden reversed places marks stack
   unfolding sortTopological
   sorted-last z p a b free f g hp ha hb = rw (← e, eq-eqb (r .number) 0 z, f, g, hp, ha, hb, turn (hasCycle t hidden))
     where
-      turn : (c : Bool) → cond (not c) (done []) (refused 11 0) ≡ cond c (refused 11 0) (done [])
+      turn : (c : Bool) → cond (not c) (done []) (refused cyclic 0) ≡ cond c (refused cyclic 0) (done [])
       turn true = refl
       turn false = refl

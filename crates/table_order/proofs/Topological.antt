@@ -16,6 +16,7 @@ use Rattle.columns.proofs.Bools.{fails, and-both}
 use Rattle.columns.proofs.Chains.{none-due}
 use Rattle.columns.proofs.Rooms.{of-roomy}
 use Rattle.columns.proofs.Saying.{apart}
+use Rattle.columns.specs.Limits.{cyclic}
 use Rattle.table.specs.Lts.{Lts, Valid}
 use Rattle.table.specs.Checks.{worksLong, tableTests}
 use Rattle.table.proofs.Refusals.{of-checked}
@@ -119,24 +120,24 @@ module _ (t : Lts) (v : Valid t) (hidden : Bool) where
 
     call : sortTopological t hidden reversed places marks stack
         ≡ (
-          cond (hasCycle t hidden) (refused 11 0) (done []),
+          cond (hasCycle t hidden) (refused cyclic 0) (done []),
           (sorted t hidden reversed places, (zeros (length marks), zeros (length stack))),
         )
     unfolding sortTopological
     call = rw checks
 
     -- 11 exactly if some state reaches itself through another one
-    pub eleven : (sortTopological t hidden reversed places marks stack .0 ≡ refused 11 0) ↔ LongCycle t hidden
+    pub eleven : (sortTopological t hidden reversed places marks stack .0 ≡ refused cyclic 0) ↔ LongCycle t hidden
     eleven = (
       λ e. go (hasCycle t hidden) refl (sym (ap (λ (x : Said × (List ℕ × (List ℕ × List ℕ))). x .0) call) ∙ e),
       λ c.
           ap (λ (x : Said × (List ℕ × (List ℕ × List ℕ))). x .0) call
-          ∙ ap (λ (b : Bool). cond b (refused 11 0) (done [])) (cyclic-long t hidden v .1 c),
+          ∙ ap (λ (b : Bool). cond b (refused cyclic 0) (done [])) (cyclic-long t hidden v .1 c),
     )
       where
-        go : (c : Bool) → hasCycle t hidden ≡ c → cond c (refused 11 0) (done []) ≡ refused 11 0 → LongCycle t hidden
+        go : (c : Bool) → hasCycle t hidden ≡ c → cond c (refused cyclic 0) (done []) ≡ refused cyclic 0 → LongCycle t hidden
         go true e q = cyclic-long t hidden v .0 e
-        go false e q = absurd (apart [] 11 0 q)
+        go false e q = absurd (apart [] cyclic 0 q)
 
     -- otherwise the places go over the first n cells
     pub sorts : (LongCycle t hidden → ⊥)

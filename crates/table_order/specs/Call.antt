@@ -6,14 +6,14 @@ use lib.Dec.{leb, eqb}
 use lib.ListN.{length}
 use Rattle.columns.specs.declared.answers.Refusal.{Refusal}
 use Rattle.columns.specs.Answers.{Said, done, refused}
-use Rattle.columns.specs.Columns.{written, zeros}
+use Rattle.columns.specs.Columns.{written, cleared}
 use Rattle.columns.specs.Due.{due, allLong}
 use Rattle.columns.specs.Limits.{cyclic}
 use Rattle.table.specs.Lts.{Lts}
 use Rattle.table.specs.Checks.{rowsLong, worksLong, badRow, tableTests}
 use Rattle.table_order.specs.Order.{sortPlace, hasCycle}
 
--- a result column of n cells, and two work slices
+-- 1, 2, 3, 4, 7, 5 and 6; a result column of n cells and two work slices, by their lengths
 unfoldable pub sortRefusal : Lts → ℕ → ℕ → ℕ → Refusal
 unfolding due rowsLong badRow allLong
 sortRefusal t places marks stack = due (tableTests t (leb (t .n) places && worksLong t (marks ∷ stack ∷ [])))
@@ -29,5 +29,5 @@ unfolding sortRefusal hasCycle sorted
 sortTopological t hidden reversed places marks stack =
     let r = sortRefusal t (length places) (length marks) (length stack) in
     cond (eqb (r .number) 0)
-    (cond (hasCycle t hidden) (refused cyclic 0) (done []), (sorted t hidden reversed places, (zeros (length marks), zeros (length stack))))
+    (cond (hasCycle t hidden) (refused cyclic 0) (done []), (sorted t hidden reversed places, (cleared marks, cleared stack)))
     (refused (r .number) (r .place), (places, (marks, stack)))

@@ -58,6 +58,7 @@ unfoldable pub arc : (ℕ → List ℕ) → ℕ → ℕ → Bool
 unfolding isIn
 arc next s t = isIn t (next s)
 
+-- some state has a successor that leads back to it
 pub data Cycle (next : ℕ → List ℕ) : Type 0 where
   cycle : {s t : ℕ} → arc next s t ≡ true → Walk (arc next) t s → Cycle next
 

@@ -1,4 +1,4 @@
--- Loop invariants of the turns of that search: what the proofs go by, nothing that a contract of an operation says.
+-- Loop invariants of the turns of the search with a stack (Machine): what the proofs go by, nothing that a contract of an operation says.
 use mathlib.Core.Path.{_≡_}
 use mathlib.Core.Bool.{Bool, true, false, cond}
 use mathlib.Core.List.{List}

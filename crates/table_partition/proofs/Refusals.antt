@@ -8,10 +8,10 @@ use mathlib.Core.Path.{_≡_, refl}
 use Rattle.columns.specs.Limits.{inconsistent}
 use Rattle.columns.specs.declared.answers.Refusal.{Refusal}
 use Rattle.columns.specs.Due.{test, indexTest}
-use Rattle.columns.proofs.Bools.{and-left, and-right}
-use Rattle.columns.proofs.Chains.{Holds, parted, passed-both}
+use Rattle.columns.proofs.Bools.{and-left, and-right, and-both}
+use Rattle.columns.proofs.Chains.{Holds, parted, passed-both, holds-both}
 use Rattle.partition.specs.Partition.{Partition, Sound, longb, consistentb}
-use Rattle.partition.proofs.Holds.{consistent-of, long-of}
+use Rattle.partition.proofs.Holds.{consistent-of, long-of, of-consistent, of-long}
 use Rattle.table_partition.specs.Checks.{bothTests, bothArgumentRefusal}
 use Rattle.table.specs.Checks.{tableTests}
 use Rattle.table.specs.Lts.{Lts, Valid}
@@ -44,6 +44,13 @@ module _ (t : Lts) (p : Partition) (same : p .n ≡ t .n) where
         };
         enough = and-right (longb p) room (c .enough);
       }
+
+  -- a right table, a consistent partition and room pass every test
+  pub of-both : (room : Bool) → BothChecked t p room → Holds (bothTests t p room)
+  of-both room c =
+      holds-both (tableTests t (longb p && room)) (test (consistentb p) inconsistent 0 ∷ [])
+      (T.of-checked t (longb p && room) (c .valid) (and-both (of-long p (c .sound .long)) (c .enough)))
+      (of-consistent p (c .sound .consistent), tt)
 
   pub both-ready :
       (i bound : ℕ) (room : Bool) (r : Refusal) → r ≡ bothArgumentRefusal t p i bound room → r .number ≡ 0 → BothReady t p i bound room

@@ -7,11 +7,11 @@ use Prim.Native.Nat.{ℕ}
 use lib.ListN.{length}
 use Rattle.columns.specs.Answers.{done, refusal, none}
 use Rattle.columns.specs.Columns.{over}
-use Rattle.columns.specs.Due.{due}
+use Rattle.columns.specs.Due.{due, roomTest}
 use Rattle.columns.specs.Limits.{noRoom}
 use Rattle.columns.specs.declared.answers.Refusal.{Refusal}
 use Rattle.columns.proofs.Saying.{left-refused, left-done}
-use Rattle.file.specs.Output.{outputBytes, outputSize, roomTest}
+use Rattle.file.specs.Output.{outputBytes, outputSize}
 use Rattle.file_reduction.specs.Reducing.{putFile}
 use Rattle.file_reduction.proofs.Ties.{no-room, room-left}
 use Rattle.table.specs.Lts.{Lts, lts}

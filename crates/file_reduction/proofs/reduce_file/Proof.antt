@@ -6,12 +6,11 @@ use mathlib.Core.Path.{_≡_, refl, ap, _∙_}
 use lib.ListN.{length}
 use Rattle.columns.specs.Answers.{leaving}
 use Rattle.columns.specs.Columns.{over}
-use Rattle.columns.specs.Due.{due}
+use Rattle.columns.specs.Due.{due, roomTest}
 use Rattle.columns.specs.declared.answers.Refusal.{Refusal}
 use Rattle.columns.proofs.Chains.{ends, goes-on}
 use Rattle.columns.proofs.Saying.{left-refused}
 use Rattle.file.specs.Input.{tableIn, fileTests}
-use Rattle.file.specs.Output.{roomTest}
 use Rattle.file.proofs.Inputs.{accepted-of}
 use Rattle.file_reduction.specs.Reducing.{reducedBytes, reducedSize, fileNumbers, reduceTests, reduceTable, reduceFile}
 use Rattle.file_reduction.proofs.Ties.{largest, always-room}

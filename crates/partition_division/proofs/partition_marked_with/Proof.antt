@@ -1,6 +1,6 @@
 -- `partition_marked_with` meets its contract.
 use borrow.Author.Needs.{needs}
-use mathlib.Core.Path.{_≡_, refl, sym, ap, _∙_}
+use mathlib.Core.Path.{refl, sym, ap, _∙_}
 use native.Mathlib.Omega.{arith}
 use Prim.Native.Nat.{ℕ}
 use mathlib.Core.List.{List, [], _∷_}
@@ -66,8 +66,8 @@ returns c = let a =
     left-refused (divisionRefusal (P a) (a .args .block-index) (a .args .numbers .now) (W a)) _ (c .before .division-refusal .ensures)
     (P a, W a) (partitionMarked (P a) (a .args .block-index) (a .args .numbers .now), clearedWork (W a)) (values a) _ (c .if1 .taken) refl
 
-clear-work-requires : tie.Need-clear-work-requires
-clear-work-requires c κs = search needs
+clear-three-requires : tie.Need-clear-three-requires
+clear-three-requires c κs = search needs
 
 partition-marked-with-requires : tie.Need-partition-marked-with-requires
 partition-marked-with-requires c κs = let a =
@@ -87,37 +87,37 @@ partition-marked-with-requires c κs = let a =
             arith,
             q .rooms .0,
             c .before .before .before .before .before .before .before .before .before .before .before .before .before .before .before
-                .clear-work .kept .0,
+                .clear-three .kept .0,
           ),
           omega (
             arith,
             q .rooms .1 .0,
             c .before .before .before .before .before .before .before .before .before .before .before .before .before .before .before
-                .clear-work .kept .1 .0,
+                .clear-three .kept .1 .0,
           ),
           omega (
             arith,
             q .rooms .1 .1 .0,
             c .before .before .before .before .before .before .before .before .before .before .before .before .before .before .before
-                .clear-work .kept .1 .1 .0,
+                .clear-three .kept .1 .1 .0,
           ),
         ),
         (
           c .before .before .before .before .before .before .before .before .before .before .before .before .before .before .before
-              .clear-work .ensures .0 ∙
+              .clear-three .ensures .0 ∙
               ap zeros (sym
               (c .before .before .before .before .before .before .before .before .before .before .before .before .before .before .before
-              .clear-work .kept .0)),
+              .clear-three .kept .0)),
           c .before .before .before .before .before .before .before .before .before .before .before .before .before .before .before
-              .clear-work .ensures .1 ∙
+              .clear-three .ensures .1 ∙
               ap zeros (sym
               (c .before .before .before .before .before .before .before .before .before .before .before .before .before .before .before
-              .clear-work .kept .1 .0)),
+              .clear-three .kept .1 .0)),
           c .before .before .before .before .before .before .before .before .before .before .before .before .before .before .before
-              .clear-work .ensures .2 ∙
+              .clear-three .ensures .2 ∙
               ap zeros (sym
               (c .before .before .before .before .before .before .before .before .before .before .before .before .before .before .before
-              .clear-work .kept .1 .1 .0)),
+              .clear-three .kept .1 .1 .0)),
         ),
       ),
     )
@@ -158,7 +158,7 @@ same-length-13 c =
     .before .before .partition-marked-with .kept .1 .1 .1 .1 .1 .1 .1 .1 .1 .1 .0 ∙
     c .before .before .before .before .before .before .before .before .before .before .before .before .before .before .before .before
     .before .before .before .before .before .before .before .before .before .before .before .before .before .before .before .before .before
-    .before .clear-work .kept .0
+    .before .clear-three .kept .0
 
 same-length-14 : tie.Need-same-length-14
 same-length-14 c =
@@ -166,7 +166,7 @@ same-length-14 c =
     .before .before .partition-marked-with .kept .1 .1 .1 .1 .1 .1 .1 .1 .1 .1 .1 .0 ∙
     c .before .before .before .before .before .before .before .before .before .before .before .before .before .before .before .before
     .before .before .before .before .before .before .before .before .before .before .before .before .before .before .before .before .before
-    .before .clear-work .kept .1 .0
+    .before .clear-three .kept .1 .0
 
 same-length-15 : tie.Need-same-length-15
 same-length-15 c =
@@ -174,7 +174,7 @@ same-length-15 c =
     .before .before .partition-marked-with .kept .1 .1 .1 .1 .1 .1 .1 .1 .1 .1 .1 .1 .0 ∙
     c .before .before .before .before .before .before .before .before .before .before .before .before .before .before .before .before
     .before .before .before .before .before .before .before .before .before .before .before .before .before .before .before .before .before
-    .before .clear-work .kept .1 .1 .0
+    .before .clear-three .kept .1 .1 .0
 
 returns-2 : tie.Need-returns-2
 unfolding partitionMarkedWith divisionRefusal
@@ -190,15 +190,15 @@ returns-2 c = let a =
     let z0 = z .0 ∙
     ap zeros (c .before .before .before .before .before .before .before .before .before .before .before .before .before .before .before
     .before .before .before .before .before .before .before .before .before .before .before .before .before .before .before .before
-    .before .before .before .clear-work .kept .0) in
+    .before .before .before .clear-three .kept .0) in
     let z1 = z .1 ∙
     ap zeros (c .before .before .before .before .before .before .before .before .before .before .before .before .before .before .before
     .before .before .before .before .before .before .before .before .before .before .before .before .before .before .before .before
-    .before .before .before .clear-work .kept .1 .0) in
+    .before .before .before .clear-three .kept .1 .0) in
     let z2 = z .2 ∙
     ap zeros (c .before .before .before .before .before .before .before .before .before .before .before .before .before .before .before
     .before .before .before .before .before .before .before .before .before .before .before .before .before .before .before .before
-    .before .before .before .clear-work .kept .1 .1 .0) in
+    .before .before .before .clear-three .kept .1 .1 .0) in
     left-done (divisionRefusal (P a) (a .args .block-index) (a .args .numbers .now) (W a)) _
     (c .before .before .before .before .before .before .before .before .before .before .before .before .before .before .before .before
     .before .before .before .before .before .before .before .before .before .before .before .before .before .before .before .before
@@ -224,7 +224,7 @@ partition-marked-with-spec =
     same-length-5
     same-length-6
     returns
-    clear-work-requires
+    clear-three-requires
     partition-marked-with-requires
     same-length-7
     same-length-8

@@ -26,7 +26,7 @@ P a =
     (a .args .marked-split .now) (a .args .end .now) (a .args .table .n) (a .args .count)
 
 abbrev Out : tie.Start → Three
-Out a = (a .args .x .now, (a .args .y .now, a .args .z .now))
+Out a = (a .args .result-source .now, (a .args .result-label .now, a .args .result-target .now))
 
 abbrev Work : tie.Start → List (List ℕ)
 Work a = a .args .a .now ∷ a .args .b .now ∷ a .args .c .now ∷ a .args .order .now ∷ a .args .spare .now ∷ []

@@ -9,7 +9,7 @@ use Rattle.columns.specs.Due.{due}
 use Rattle.partition.specs.Partition.{Partition, parts}
 use Rattle.quotient.specs.Call.{quotientRefusal}
 use Rattle.quotient.proofs.Answering.{QuotientReady, quotient-ready}
-use Rattle.quotient_block.proofs.Calls.{block-refused, block-answered}
+use Rattle.quotient_block.proofs.Calls.{block-refused, block-call-answered}
 use Rattle.quotient_block.proofs.Chosen.{choosable-of}
 use Rattle.table.specs.Lts.{Lts, lts}
 use Rattle.table.specs.Tables.{Three}
@@ -27,7 +27,7 @@ P a =
     (a .args .marked-split .now) (a .args .end .now) (a .args .table .n) (a .args .count)
 
 abbrev Out : tie.Start → Three
-Out a = (a .args .x .now, (a .args .y .now, a .args .z .now))
+Out a = (a .args .result-source .now, (a .args .result-label .now, a .args .result-target .now))
 
 abbrev Work : tie.Start → List (List ℕ)
 Work a =
@@ -126,7 +126,7 @@ returns-2 c =
     let r = c .before .before .before .before .before .before .before .before .before .before .before .before .before .before .before
     .before .before .before .quotient-block .ensures in
     let w = r .1 in
-    block-answered (a .args .branching) (a .args .eliminate-tau-loops) (L a) (P a) (Out a) (Work a) _ (checked q) _
+    block-call-answered (a .args .branching) (a .args .eliminate-tau-loops) (L a) (P a) (Out a) (Work a) _ (checked q) _
     (c .before .before .before .before .before .before .before .before .before .before .before .before .before .before .before .before
     .before .before .before .before .before .before .before .before .before .before .before .before .if1 .left) _ (r .0) _ (λ i. w .0 i ∷
     w .1 i ∷ w .2 i ∷ w .3 i ∷ w .4 i ∷ w .5 i ∷ [])

@@ -24,7 +24,7 @@ abbrev L : tie.Start → Lts
 L a = lts (a .args .table) (a .args .source .now) (a .args .label .now) (a .args .target .now)
 
 abbrev out : tie.Start → Three
-out a = (a .args .x .now, (a .args .y .now, a .args .z .now))
+out a = (a .args .result-source .now, (a .args .result-label .now, a .args .result-target .now))
 
 abbrev work : tie.Start → List (List ℕ)
 work a =
@@ -44,13 +44,13 @@ abbrev values : tie.Start → List ℕ
 values a =
     components (L a)
     ∷ a .args .table .labels
-    ∷ length (newRows (L a) (a .args .eliminate))
-    ∷ newNumber (L a) (a .args .eliminate) (a .args .table .initial)
-    ∷ newNumber (L a) (a .args .eliminate) (a .args .state)
+    ∷ length (newRows (L a) (a .args .eliminate-tau-selfloops))
+    ∷ newNumber (L a) (a .args .eliminate-tau-selfloops) (a .args .table .initial)
+    ∷ newNumber (L a) (a .args .eliminate-tau-selfloops) (a .args .state)
     ∷ []
 
 abbrev after : tie.Start → Three × List (List ℕ)
-after a = (rowsOver (newRows (L a) (a .args .eliminate)) (out a), zeroed (work a))
+after a = (rowsOver (newRows (L a) (a .args .eliminate-tau-selfloops)) (out a), zeroed (work a))
 
 -- the check
 module _ (q : tie.After-argument-refusal) where

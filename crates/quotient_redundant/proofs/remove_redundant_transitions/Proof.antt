@@ -24,7 +24,7 @@ abbrev L : tie.Start → Lts
 L a = lts (a .args .table) (a .args .source .now) (a .args .label .now) (a .args .target .now)
 
 abbrev out : tie.Start → Three
-out a = (a .args .x .now, (a .args .y .now, a .args .z .now))
+out a = (a .args .result-source .now, (a .args .result-label .now, a .args .result-target .now))
 
 abbrev work : tie.Start → List (List ℕ)
 work a =

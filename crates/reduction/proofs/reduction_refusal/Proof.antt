@@ -1,7 +1,7 @@
 -- `reduction_refusal` meets its contract.
 use borrow.Author.Needs.{needs}
-use mathlib.Core.Bool.{Bool, _&&_}
-use mathlib.Core.Path.{_≡_, _∙_}
+use mathlib.Core.Bool.{_&&_}
+use mathlib.Core.Path.{_∙_}
 use lib.Dec.{leb}
 use Rattle.columns.specs.Due.{due}
 use Rattle.reduction.specs.Reducing.{reductionRefusal}

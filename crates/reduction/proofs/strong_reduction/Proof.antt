@@ -2,19 +2,18 @@
 use borrow.Author.Needs.{needs}
 use native.Mathlib.Omega.{arith}
 use mathlib.Core.List.{List, [], _∷_, _++_}
-use mathlib.Core.Path.{_≡_, refl, sym, ap, _∙_}
+use mathlib.Core.Path.{_≡_, sym, ap, _∙_}
 use Prim.Native.Nat.{ℕ}
 use lib.ListN.{length, getD, drop}
 use lib.Seq.{length-take-le}
 use Rattle.columns.specs.Answers.{done}
-use Rattle.columns.specs.Columns.{over}
 use Rattle.columns.proofs.Lists.{over-front}
 use Rattle.columns.proofs.Parts.{length-fronted}
 use Rattle.columns.proofs.Saying.{left-refused, left-done}
-use Rattle.reduction.specs.Reducing.{Slices, reductionRefusal, reductionNumbers, reductionLeft, strongReduction}
-use Rattle.reduction.proofs.Entries.{Ready, ready-of, length-blocks, blocks-over}
+use Rattle.reduction.specs.Reducing.{Slices, reductionRefusal, reductionNumbers, reductionLeft, strongReduction, Ready}
+use Rattle.reduction.proofs.Entries.{ready-of, length-blocks, blocks-over}
 use Rattle.reduction.proofs.Theorems.{resultLengths, workLengths}
-use Rattle.refinement_strong.specs.Reduction.{strongBlocks, strongBlock}
+use Rattle.refinement_strong.specs.Reduction.{strongBlocks}
 use Rattle.table.specs.Lts.{Lts, lts}
 use Rattle.reduction.proofs.strong_reduction.Statement.{statement}
 use Rattle.reduction.proofs.strong_reduction.Tie as tie

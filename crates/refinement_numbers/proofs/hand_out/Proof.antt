@@ -2,7 +2,7 @@
 use borrow.Author.Needs.{needs}
 use native.Mathlib.Omega.{arith}
 use Prim.Native.Nat.{_-_, _<_, _≤_}
-use lib.ListN.{length, getD}
+use lib.ListN.{length}
 use Rattle.refinement_numbers.proofs.Hands.{Hand, give-none, give-few, give-new, give-old, give-done}
 use Rattle.refinement_numbers.proofs.hand_out.Statement.{statement}
 use Rattle.refinement_numbers.proofs.hand_out.Tie as tie

@@ -15,7 +15,7 @@ use Rattle.columns.specs.Sets.{Pair}
 use Rattle.columns.proofs.Lists.{front-zeros, zeros-at, take-zeros}
 use Rattle.partition.specs.Partition.{Partition, parts}
 use Rattle.signatures.specs.Pairs.{Columns, signature}
-use Rattle.signatures.specs.Signing.{roomy, signatureRefusal}
+use Rattle.signatures.specs.Signing.{worksFit, signatureRefusal}
 use Rattle.signatures.proofs.Outcomes.{signing-refused, signing-on}
 use Rattle.table_partition.proofs.Refusals.{BothReady, both-ready}
 use Rattle.signatures.proofs.Works.{Wide, wide-of, zeroed-of, level, cleared-append}
@@ -43,7 +43,7 @@ Works a =
     ∷ a .args .queue .now ∷ []
 
 abbrev R : tie.Start → Refusal
-R a = signatureRefusal (L a) (P a) (a .args .state) (roomy (L a) (Works a))
+R a = signatureRefusal (L a) (P a) (a .args .state) (worksFit (L a) (Works a))
 
 abbrev Pushed : tie.Start → List Pair
 Pushed a = branchingPushed (L a) (a .args .element-to-block .now) (a .args .state)
@@ -59,7 +59,7 @@ start q =
 
 -- the checks have answered R
 answered : (q : tie.After-argument-refusal) → q .argument-refusal .result ≡ R (start q)
-unfolding roomy signatureRefusal
+unfolding worksFit signatureRefusal
 answered q =
     let a = start q in
     q .argument-refusal .ensures
@@ -67,10 +67,11 @@ answered q =
 
 -- and where they refuse nothing
 ready : (q : tie.After-argument-refusal) → q .argument-refusal .result .number ≡ 0
-    → BothReady (L (start q)) (P (start q)) (start q .args .state) (start q .args .table .n) (roomy (L (start q)) (Works (start q)))
+    → BothReady (L (start q)) (P (start q)) (start q .args .state) (start q .args .table .n) (worksFit (L (start q)) (Works (start q)))
 unfolding signatureRefusal
 ready q z =
-    both-ready (L (start q)) (P (start q)) refl (start q .args .state) (start q .args .table .n) (roomy (L (start q)) (Works (start q))) _
+    both-ready (L (start q)) (P (start q)) refl (start q .args .state) (start q .args .table .n) (worksFit (L (start q)) (Works (start
+    q))) _
     (answered q) z
 
 wide : (q : tie.After-argument-refusal) → q .argument-refusal .result .number ≡ 0

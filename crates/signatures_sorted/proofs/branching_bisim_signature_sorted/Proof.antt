@@ -12,16 +12,16 @@ use Rattle.columns.specs.Answers.{refused}
 use Rattle.columns.specs.Sets.{Pair}
 use Rattle.columns.specs.declared.answers.Refusal.{Refusal}
 use Rattle.columns.proofs.Bools.{and-left, and-right}
+use Rattle.columns.proofs.Lists.{still-zeros}
 use Rattle.partition.specs.Partition.{Partition, parts}
-use Rattle.signatures.specs.Pairs.{Columns, signature}
-use Rattle.signatures.specs.Signing.{roomy}
+use Rattle.signatures.specs.Pairs.{Columns}
+use Rattle.signatures.specs.Signing.{worksFit}
 use Rattle.table_partition.proofs.Refusals.{BothReady}
 use Rattle.signatures.proofs.Outcomes.{signing-refused, signing-on}
 use Rattle.pairs.specs.Lists.{listAt, Lists}
 use Rattle.table.specs.Lts.{Lts, lts}
 use Rattle.signatures_sorted.specs.Sorted.{Given, flat, sortedPushed, sortedSignature, sortedRefusal, branchingBisimSignatureSorted}
 use Rattle.signatures_sorted.proofs.Openings.{lists-taken}
-use Rattle.signatures_sorted.proofs.Emptied.{still-zero}
 use Rattle.signatures_sorted.proofs.Refused.{sorted-ready, sorted-lists}
 use Rattle.signatures.proofs.Works.{Wide, wide-of, level}
 use Rattle.signatures_sorted.proofs.branching_bisim_signature_sorted.Statement.{statement}
@@ -51,7 +51,7 @@ abbrev Starts : tie.Start → Bool
 Starts a = leb (a .args .table .n + 1) (length (a .args .starts .now))
 
 abbrev Room : tie.Start → Bool
-Room a = Starts a && roomy (L a) (Works a)
+Room a = Starts a && worksFit (L a) (Works a)
 
 abbrev R : tie.Start → Refusal
 R a = sortedRefusal (L a) (P a) (a .args .state) (G a) (Room a)
@@ -76,7 +76,7 @@ start q =
 
 -- the checks have answered R
 answered : (q : tie.After-sorted-refusal) → q .sorted-refusal .result ≡ R (start q)
-unfolding roomy
+unfolding worksFit
 answered q =
     let a = start q in
     q .sorted-refusal .ensures
@@ -91,12 +91,12 @@ module _ (q : tie.After-sorted-refusal) (z : q .sorted-refusal .result .number �
   lists = sorted-lists (L (start q)) (P (start q)) refl (start q .args .state) (G (start q)) (Room (start q)) _ (answered q) z
 
   started : start q .args .table .n + 1 ≤ length (start q .args .starts .now)
-  started = leb-true _ _ (and-left (Starts (start q)) (roomy (L (start q)) (Works (start q))) (ready .enough))
+  started = leb-true _ _ (and-left (Starts (start q)) (worksFit (L (start q)) (Works (start q))) (ready .enough))
 
   wide : Wide (L (start q)) (Works (start q))
   wide =
       wide-of (L (start q)) (Works (start q))
-      (and-right (Starts (start q)) (roomy (L (start q)) (Works (start q))) (ready .enough))
+      (and-right (Starts (start q)) (worksFit (L (start q)) (Works (start q))) (ready .enough))
 
 cast-n : tie.Need-cast-n
 cast-n c = search needs
@@ -129,8 +129,8 @@ returns c =
     (λ z. c .before .if1 .taken (ap (λ (r : Refusal). r .number) e ∙ z))
     (c .refusing-number .ensures ∙ ap (λ (r : Refusal). refused (r .number) (r .place)) e)
 
-wipe-requires : tie.Need-wipe-requires
-wipe-requires c κs = search needs
+clear-four-requires : tie.Need-clear-four-requires
+clear-four-requires c κs = search needs
 
 clear-requires : tie.Need-clear-requires
 clear-requires c κs = search needs
@@ -153,9 +153,9 @@ branching-bisim-signature-sorted-requires c κs =
     let r = ready q z in
     let w = wide q z in
     let k = c .before .before .before .before .before .before .before .before .before .before .before .before .before .before .before
-    .before .before .before .before .before .before .before .before .before .before .before .before .before .before .wipe .kept in
+    .before .before .before .before .before .before .before .before .before .before .before .before .before .before .clear-four .kept in
     let e = c .before .before .before .before .before .before .before .before .before .before .before .before .before .before .before
-    .before .before .before .before .before .before .before .before .before .before .before .before .before .before .wipe .ensures in
+    .before .before .before .before .before .before .before .before .before .before .before .before .before .before .clear-four .ensures in
     let f = c .before .before .before .before .before .before .before .before .before .before .before .before .before .before .before
     .before .before .before .before .clear in
     let g = c .before .before .before .before .before .before .before .before .before .before .before .before .before .before .before
@@ -189,19 +189,19 @@ branching-bisim-signature-sorted-requires c κs =
             ),
             omega (arith, w .1 .1 .1 .1 .1 .1 .0, h .kept .0),
             (
-              still-zero _ (length (a .args .tree .now)) (h .ensures),
+              still-zeros _ (length (a .args .tree .now)) (h .ensures),
               (
-                still-zero _ (length (a .args .own-labels .now)) (e .0 .0),
+                still-zeros _ (length (a .args .own-labels .now)) (e .0 .0),
                 (
-                  still-zero _ (length (a .args .own-blocks .now)) (e .0 .1),
+                  still-zeros _ (length (a .args .own-blocks .now)) (e .0 .1),
                   (
-                    still-zero _ (length (a .args .high .now)) (e .1 .0),
+                    still-zeros _ (length (a .args .high .now)) (e .1 .0),
                     (
-                      still-zero _ (length (a .args .low .now)) (e .1 .1),
+                      still-zeros _ (length (a .args .low .now)) (e .1 .1),
                       (
-                        still-zero _ (length (a .args .end-high .now)) (f .ensures),
+                        still-zeros _ (length (a .args .end-high .now)) (f .ensures),
                         (
-                          still-zero _ (length (a .args .end-low .now)) (g .ensures),
+                          still-zeros _ (length (a .args .end-low .now)) (g .ensures),
                           tt,
                         ),
                       ),
@@ -223,7 +223,7 @@ tried c =
     .before .before .before .before .before .before .before .before .before .before .before .before .before .before .before .before .before
     .before .before .before .before
 
-abbrev wiped : tie.After-slice-known25 → tie.After-wipe
+abbrev wiped : tie.After-slice-known25 → tie.After-clear-four
 wiped c =
     c .before .before .before .before .before .before .before .before .before .before .before .before .before .before .before .before
     .before .before .before .before .before .before .before .before .before .before .before .before .before .before .before .before .before
@@ -258,17 +258,18 @@ same-length-2 : tie.Need-same-length-2
 same-length-2 c = ended c .branching-bisim-signature-sorted .kept .1 .1 .1 .1 .1 .1 .1 .1 .1 .1 .0
 
 same-length-3 : tie.Need-same-length-3
-same-length-3 c = ended c .branching-bisim-signature-sorted .kept .1 .1 .1 .1 .1 .1 .1 .1 .1 .1 .1 .0 ∙ wiped c .wipe .kept .0
+same-length-3 c = ended c .branching-bisim-signature-sorted .kept .1 .1 .1 .1 .1 .1 .1 .1 .1 .1 .1 .0 ∙ wiped c .clear-four .kept .0
 
 same-length-4 : tie.Need-same-length-4
-same-length-4 c = ended c .branching-bisim-signature-sorted .kept .1 .1 .1 .1 .1 .1 .1 .1 .1 .1 .1 .1 .0 ∙ wiped c .wipe .kept .1 .0
+same-length-4 c = ended c .branching-bisim-signature-sorted .kept .1 .1 .1 .1 .1 .1 .1 .1 .1 .1 .1 .1 .0 ∙ wiped c .clear-four .kept .1 .0
 
 same-length-5 : tie.Need-same-length-5
-same-length-5 c = ended c .branching-bisim-signature-sorted .kept .1 .1 .1 .1 .1 .1 .1 .1 .1 .1 .1 .1 .1 .0 ∙ wiped c .wipe .kept .1 .1 .0
+same-length-5 c = ended c .branching-bisim-signature-sorted .kept .1 .1 .1 .1 .1 .1 .1 .1 .1 .1 .1 .1 .1 .0
+    ∙ wiped c .clear-four .kept .1 .1 .0
 
 same-length-6 : tie.Need-same-length-6
 same-length-6 c = ended c .branching-bisim-signature-sorted .kept .1 .1 .1 .1 .1 .1 .1 .1 .1 .1 .1 .1 .1 .1 .0 ∙
-    wiped c .wipe .kept .1 .1 .1 .0
+    wiped c .clear-four .kept .1 .1 .1 .0
 
 same-length-7 : tie.Need-same-length-7
 same-length-7 c = ended c .branching-bisim-signature-sorted .kept .1 .1 .1 .1 .1 .1 .1 .1 .1 .1 .1 .1 .1 .1 .1 .0 ∙ first c .clear .kept .0
@@ -285,7 +286,7 @@ returns-2 : tie.Need-returns-2
 unfolding branchingBisimSignatureSorted
 returns-2 c =
     let a = start (tried c) in
-    let w = wiped c .wipe in
+    let w = wiped c .clear-four in
     let works : List (List ℕ) = w .last .0 ∷ w .last .1 .0 ∷ w .last .1 .1 .0 ∷ w .last .1 .1 .1 .0 ∷ first c .clear .last .0
     ∷ second c .clear2 .last .0 ∷ third c .clear3 .last .0 ∷ [] in
     ended c .branching-bisim-signature-sorted .ensures
@@ -326,7 +327,7 @@ branching-bisim-signature-sorted-spec =
     sorted-refusal-requires
     refusing-number-requires
     returns
-    wipe-requires
+    clear-four-requires
     clear-requires
     clear-requires-2
     clear-requires-3

@@ -6,6 +6,7 @@ use mathlib.Core.List.{[]}
 use lib.ListN.{length}
 use Rattle.columns.specs.declared.answers.Refusal.{Refusal}
 use Rattle.columns.specs.Answers.{done, refused}
+use Rattle.columns.specs.Limits.{cyclic}
 use Rattle.table.specs.Lts.{Lts, lts}
 use Rattle.table_order.proofs.Calls.{ready, refused-first, sorted-last}
 use Rattle.table_order.proofs.sort_topological.Statement.{statement}
@@ -53,7 +54,7 @@ returns-2 c = let a =
     sorted-last (L a) (a .args .hidden) (a .args .reversed) (a .args .places .now) (a .args .marks .now) (a .args .stack .now) _
     (c .before .before .before .before .before .before .before .before .before .before .before .before .before .sort-refusal .ensures) _
     (c .before .before .before .before .before .before .before .before .before .before .before .before .if1 .left) _ _ _ _
-    (c .finished .ensures ∙ ap (λ (b : Bool). cond b (done []) (refused 11 0)) (sym (c .before .if2 .taken))) (e .0) (e .1 .0)
+    (c .finished .ensures ∙ ap (λ (b : Bool). cond b (done []) (refused cyclic 0)) (sym (c .before .if2 .taken))) (e .0) (e .1 .0)
     (e .1 .1 .0) (e .1 .1 .1)
 
 refuse-requires : tie.Need-refuse-requires
@@ -80,7 +81,7 @@ returns-3 c = let a =
     (c .before .before .before .before .before .before .before .before .before .before .before .before .before .before .sort-refusal
     .ensures) _ (c .before .before .before .before .before .before .before .before .before .before .before .before .before .if1 .left) _
     _ _ _ (c .refusing2 .ensures ∙ (ap (λ (r : Refusal). refused (r .number) (r .place)) (c .before .refuse .ensures) ∙
-    ap (λ (b : Bool). cond b (done []) (refused 11 0)) (sym (c .before .before .if2 .left)))) (e .0) (e .1 .0) (e .1 .1 .0) (e .1 .1 .1)
+    ap (λ (b : Bool). cond b (done []) (refused cyclic 0)) (sym (c .before .before .if2 .left)))) (e .0) (e .1 .0) (e .1 .1 .0) (e .1 .1 .1)
 
 pub sort-topological-spec : {M : Type 1} → statement M
 sort-topological-spec =

@@ -1,8 +1,8 @@
+-- `copy` meets its contract.
 use borrow.Author.Needs.{needs}
 use native.Mathlib.Omega.{arith}
-use Prim.Native.Nat.{ℕ, _≤_, _<_, _+_, _-_}
-use mathlib.Core.Path.{_≡_, refl, sym, ap, _∙_}
-use mathlib.Core.List.{List}
+use Prim.Native.Nat.{_-_}
+use mathlib.Core.Path.{refl}
 use lib.ListN.{length, getD}
 use Rattle.columns.proofs.Lists.{Painted, painted-none, painted-more, painted-done, listed-cells}
 use Rattle.columns.proofs.cells.copy.Statement.{statement}

@@ -1,9 +1,9 @@
+-- `count_up` meets its contract.
 use borrow.Author.Needs.{needs}
 use native.Mathlib.Omega.{arith}
-use Prim.Native.Nat.{ℕ, _≤_, _<_, _+_, _-_}
-use mathlib.Core.Path.{_≡_, refl, sym, ap, _∙_}
-use mathlib.Core.List.{List}
-use lib.ListN.{length, getD}
+use Prim.Native.Nat.{_-_}
+use mathlib.Core.Path.{refl, _∙_}
+use lib.ListN.{length}
 use Rattle.columns.proofs.Lists.{Painted, painted-none, painted-more, painted-done, length-listed, over-all}
 use Rattle.columns.specs.Columns.{listed}
 use Rattle.columns.proofs.cells.count_up.Statement.{statement}

@@ -1,3 +1,4 @@
+-- `swap_cells` meets its contract.
 use mathlib.Core.Path.{refl}
 use Rattle.columns.specs.Columns.{swapped}
 use borrow.Author.Needs.{needs}
@@ -6,43 +7,33 @@ use Rattle.columns.proofs.cells.swap_cells.Tie as tie
 use Rattle.columns.proofs.cells.swap_cells.Reads as reads
 use Rattle.columns.proofs.cells.swap_cells.Lts as lts
 
--- src/lib.rt:628:13
 mul-x : tie.Need-mul-x
 mul-x c = search needs
 
--- src/lib.rt:628:13
 slice-read-x : tie.Need-slice-read-x
 slice-read-x c = search needs
 
--- src/lib.rt:629:13
 mul-y : tie.Need-mul-y
 mul-y c = search needs
 
--- src/lib.rt:629:13
 slice-read-y : tie.Need-slice-read-y
 slice-read-y c = search needs
 
--- src/lib.rt:630:5
 mul-a : tie.Need-mul-a
 mul-a c = search needs
 
--- src/lib.rt:630:5
 slice-write-a : tie.Need-slice-write-a
 slice-write-a c = search needs
 
--- src/lib.rt:631:5
 mul-a-2 : tie.Need-mul-a-2
 mul-a-2 c = search needs
 
--- src/lib.rt:631:5
 slice-write-a-2 : tie.Need-slice-write-a-2
 slice-write-a-2 c = search needs
 
--- src/lib.rt:624:1
 same-length : tie.Need-same-length
 same-length c = search needs
 
--- src/lib.rt:624:1
 returns : tie.Need-returns
 unfolding swapped
 returns c = refl

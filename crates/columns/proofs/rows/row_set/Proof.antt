@@ -1,12 +1,12 @@
+-- `row_set` meets its contract.
 use borrow.Author.Needs.{needs}
 use native.Mathlib.Omega.{arith}
-use Prim.Native.Nat.{ℕ, _≤_, _/_}
-use mathlib.Core.Path.{_≡_, refl, sym, ap, _∙_}
+use Prim.Native.Nat.{ℕ, _/_}
+use mathlib.Core.Path.{sym, ap, _∙_}
 use mathlib.Core.List.{List, _++_, map}
-use lib.ListN.{length, take, drop}
+use lib.ListN.{drop}
 use lib.Seq.{length-take-le}
 use Rattle.columns.specs.Columns.{over, wiped, cell}
-use Rattle.columns.specs.Rows.{pickRows, rowSet}
 use Rattle.columns.proofs.Lists.{wiped-front}
 use Rattle.columns.proofs.RowSets.{lent, count-rows, first-column, second-column, third-column}
 use Rattle.columns.proofs.rows.row_set.Statement.{statement}

@@ -1,5 +1,5 @@
+-- `write_rows` meets its contract.
 use borrow.Author.Needs.{needs}
-use native.Mathlib.Omega.{arith}
 use Rattle.columns.proofs.rows.write_rows.Statement.{statement}
 use Rattle.columns.proofs.rows.write_rows.Tie as tie
 

@@ -4,11 +4,11 @@ use mathlib.Core.List.{[], _∷_, _++_}
 use mathlib.Core.Path.{refl, ap, _∙_}
 use Prim.Native.Nat.{ℕ}
 use lib.Dec.{leb}
-use Rattle.columns.specs.Due.{due, statesTest}
+use Rattle.columns.specs.Due.{due, statesTest, roomTest}
 use Rattle.columns.proofs.Chains.{chained}
 use Rattle.table.specs.Checks.{tableTests}
 use Rattle.table.specs.Lts.{Lts, lts}
-use Rattle.file.specs.Output.{outputSize, roomTest, writeRefusal}
+use Rattle.file.specs.Output.{outputSize, writeRefusal}
 use Rattle.file.proofs.writing.write_refusal.Statement.{statement}
 use Rattle.file.proofs.writing.write_refusal.Tie as tie
 

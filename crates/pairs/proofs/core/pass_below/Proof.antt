@@ -4,9 +4,9 @@ use native.Mathlib.Omega.{arith}
 use Prim.Native.Nat.{ℕ, _≤_, _-_}
 use mathlib.Core.Bool.{Bool, not}
 use mathlib.Core.Path.{sym, ap, _∙_}
-use Rattle.pairs.specs.Pairs.{pairAt}
 use Rattle.pairs.specs.Subset.{notBelow}
 use Rattle.columns.proofs.Firsts.{NoneBelow, none-more, first-hit, first-past}
+use Rattle.columns.specs.Rows.{pairAt}
 use Rattle.pairs.proofs.Walking.{stays, stays-before, stays-here}
 use Prim.Native.Nat.{_≤_, _-_}
 use mathlib.Core.Bool.{not}

@@ -3,7 +3,7 @@ use borrow.Author.Needs.{needs}
 use borrow.Author.Tests.{lt-ltb, le-ltb}
 use mathlib.Core.Path.{sym, _∙_}
 use Rattle.columns.proofs.Bools.{and-no-left}
-use Rattle.pairs.specs.Pairs.{pairAt}
+use Rattle.columns.specs.Rows.{pairAt}
 use Rattle.pairs.proofs.core.stands.Statement.{statement}
 use Rattle.pairs.proofs.core.stands.Tie as tie
 

@@ -2,9 +2,9 @@
 use borrow.Author.Needs.{needs}
 use mathlib.Core.Path.{sym, ap, _∙_}
 use mathlib.Core.Bool.{not}
-use Rattle.pairs.specs.Pairs.{pairAt}
 use Rattle.pairs.proofs.Refusals.{pair-before, pair-after}
 use Rattle.pairs.proofs.pairs.bad_pair.Statement.{statement}
+use Rattle.columns.specs.Rows.{pairAt}
 use Rattle.pairs.proofs.pairs.bad_pair.Tie as tie
 
 returns : tie.Need-returns

@@ -5,7 +5,7 @@ use Prim.Native.Nat.{ℕ}
 use mathlib.Core.Bool.{not}
 use mathlib.Core.Path.{sym, ap, ap₂, _∙_}
 use Rattle.columns.specs.Sets.{pairLt}
-use Rattle.pairs.specs.Pairs.{pairAt}
+use Rattle.columns.specs.Rows.{pairAt}
 use Rattle.pairs_merge.specs.Merged.{Heads, heads, headPlace, endAt, headOf}
 use Rattle.pairs_merge.proofs.Ranks.{way-end, way-none, way-last}
 use Rattle.pairs_merge.proofs.heads.not_after.Statement.{statement}

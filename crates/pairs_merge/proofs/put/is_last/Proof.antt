@@ -2,9 +2,9 @@
 use borrow.Author.Needs.{needs}
 use native.Mathlib.Omega.{arith}
 use mathlib.Core.Path.{_∙_}
-use Rattle.pairs.specs.Pairs.{pairAt}
 use Rattle.pairs_merge.proofs.Puts.{last-none, last-some}
 use Rattle.pairs_merge.proofs.put.is_last.Statement.{statement}
+use Rattle.columns.specs.Rows.{pairAt}
 use Rattle.pairs_merge.proofs.put.is_last.Tie as tie
 
 returns : tie.Need-returns

@@ -1,3 +1,4 @@
+-- `block_at` meets its contract.
 use Rattle.partition.specs.Partition.{blockAt}
 use borrow.Author.Needs.{needs}
 use Rattle.partition.proofs.checks.block_at.Statement.{statement}

@@ -1,12 +1,12 @@
+-- `blocks_ok` meets its contract.
 use borrow.Author.Tests.{not-true, not-false}
-use Rattle.columns.specs.Tests.{all}
 use Rattle.columns.proofs.All.{all-none, all-more, all-fails, all-done}
-use Rattle.partition.specs.Partition.{blockAt, blocksb}
-use borrow.Author.Tests.{lt-ltb, le-ltb, le-leb, lt-leb, eq-eqb, ne-eqb}
-use mathlib.Core.Path.{_≡_, refl, sym, ap, _∙_}
+use Rattle.columns.specs.Counting.{all}
+use Rattle.partition.specs.Partition.{blockAt, boundsb}
+use mathlib.Core.Path.{_≡_, sym, _∙_}
 use native.Mathlib.Omega.{arith}
-use Prim.Native.Nat.{ℕ, _≤_, _<_, _-_, _+_, _*_}
-use mathlib.Core.Bool.{Bool, true, false}
+use Prim.Native.Nat.{_≤_, _-_}
+use mathlib.Core.Bool.{true}
 use Rattle.partition.proofs.checks.blocks_ok.Statement.{statement}
 use Rattle.partition.proofs.checks.blocks_ok.Tie as tie
 
@@ -23,7 +23,7 @@ block-at-requires : tie.Need-block-at-requires Inv-loop μ-loop
 block-at-requires c κs = omega arith
 
 returns : tie.Need-returns Inv-loop μ-loop
-unfolding blocksb
+unfolding boundsb
 returns c = sym (all-fails _ _ _ (omega arith) (sym (c .before .block-at .ensures) ∙ not-true _ (c .if1 .taken)))
 
 add-b : tie.Need-add-b Inv-loop μ-loop
@@ -40,7 +40,7 @@ loop-again c = (
 )
 
 returns-2 : tie.Need-returns-2 Inv-loop μ-loop
-unfolding blocksb
+unfolding boundsb
 returns-2 c = all-done _ _ _ (c .before .loop .inv .1) (omega arith)
 
 pub blocks-ok-spec : {M : Type 1} → statement M

@@ -1,16 +1,16 @@
-use borrow.Author.Needs.{needs}
+-- `inverse_ok` meets its contract.
 use borrow.Author.Tests.{lt-ltb, le-ltb, eq-eqb, ne-eqb}
 use Prim.Native.Nat.{ℕ, _≤_, _<_, _-_}
 use native.Mathlib.Omega.{arith}
-use lib.ListN.{length, getD}
+use lib.ListN.{getD}
 use lib.Dec.{ltb, eqb}
 use mathlib.Core.List.{List}
-use mathlib.Core.Path.{_≡_, refl, sym}
+use mathlib.Core.Path.{_≡_, sym}
 use mathlib.Core.Bool.{true, false}
 use Rattle.columns.specs.Inverse.{inverseb, inverseAt}
-use Rattle.columns.specs.Tests.{all}
 use Rattle.columns.proofs.All.{all-none, all-more, all-fails, all-done}
 use Rattle.columns.proofs.Bools.{and-both, and-no-right}
+use Rattle.columns.specs.Counting.{all}
 use Rattle.partition.proofs.checks.inverse_ok.Statement.{statement}
 use Rattle.partition.proofs.checks.inverse_ok.Tie as tie
 

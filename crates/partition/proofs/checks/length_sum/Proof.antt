@@ -1,10 +1,10 @@
+-- `length_sum` meets its contract.
 use Rattle.partition.specs.Partition.{lengths}
 use Rattle.partition.proofs.Lengths.{lengths-more}
 use mathlib.Core.Logic.{⊎-elim}
-use mathlib.Core.Path.{_≡_, refl, sym, ap, _∙_}
+use mathlib.Core.Path.{_≡_, refl, ap, _∙_}
 use native.Mathlib.Omega.{arith}
-use Prim.Native.Nat.{ℕ, _≤_, _<_, _-_, _+_, _*_}
-use borrow.Author.Needs.{needs}
+use Prim.Native.Nat.{_≤_, _-_, _*_}
 use Rattle.partition.proofs.checks.length_sum.Statement.{statement}
 use Rattle.partition.proofs.checks.length_sum.Tie as tie
 

@@ -1,10 +1,11 @@
-use Prim.Native.Nat.{ℕ, _≤_, _<_, _-_, _+_, _*_}
-use mathlib.Core.Bool.{Bool, true, false}
+-- `lie_at` meets its contract.
+use Prim.Native.Nat.{ℕ, _<_, _-_}
+use mathlib.Core.Bool.{Bool}
 use lib.ListN.{getD}
 use mathlib.Core.List.{List}
 use Rattle.partition.specs.Partition.{insideb, lieAt}
-use borrow.Author.Tests.{lt-ltb, le-ltb, le-leb, lt-leb, eq-eqb, ne-eqb}
-use mathlib.Core.Path.{_≡_, refl, sym, ap, _∙_}
+use borrow.Author.Tests.{lt-ltb, le-ltb}
+use mathlib.Core.Path.{_≡_}
 use native.Mathlib.Omega.{arith}
 use borrow.Author.Needs.{needs}
 use Rattle.partition.proofs.checks.lie_at.Statement.{statement}

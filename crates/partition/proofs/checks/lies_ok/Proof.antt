@@ -1,12 +1,12 @@
+-- `lies_ok` meets its contract.
 use borrow.Author.Tests.{not-true, not-false}
-use Rattle.columns.specs.Tests.{all}
 use Rattle.columns.proofs.All.{all-none, all-more, all-fails, all-done}
+use Rattle.columns.specs.Counting.{all}
 use Rattle.partition.specs.Partition.{lieAt, liesb}
-use borrow.Author.Tests.{lt-ltb, le-ltb, le-leb, lt-leb, eq-eqb, ne-eqb}
-use mathlib.Core.Path.{_≡_, refl, sym, ap, _∙_}
+use mathlib.Core.Path.{_≡_, sym, _∙_}
 use native.Mathlib.Omega.{arith}
-use Prim.Native.Nat.{ℕ, _≤_, _<_, _-_, _+_, _*_}
-use mathlib.Core.Bool.{Bool, true, false}
+use Prim.Native.Nat.{_≤_, _-_}
+use mathlib.Core.Bool.{true}
 use Rattle.partition.proofs.checks.lies_ok.Statement.{statement}
 use Rattle.partition.proofs.checks.lies_ok.Tie as tie
 

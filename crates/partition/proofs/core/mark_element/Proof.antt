@@ -1,6 +1,5 @@
 -- `core.mark_element` meets its contract.
 use borrow.Author.Needs.{needs}
-use mathlib.Core.Path.{_≡_, refl, sym, ap, _∙_}
 use native.Mathlib.Omega.{arith}
 use Rattle.partition.proofs.Marks.{mark-reads, mark-moves, mark-keeps}
 use Rattle.partition.specs.Mark.{Marks, marks}

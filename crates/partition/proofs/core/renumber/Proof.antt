@@ -1,12 +1,9 @@
-use Prim.Native.Nat.{ℕ, _<_, _≤_, _-_, _+_}
+-- `renumber` meets its contract.
+use Prim.Native.Nat.{ℕ, _≤_, _-_}
 use native.Mathlib.Omega.{arith}
-use borrow.Author.Needs.{needs, scaled-fits}
-use borrow.Author.Tests.{le-leb, lt-leb}
-use mathlib.Core.Bool.{Bool, true, false}
-use mathlib.Core.Path.{_≡_, refl, ap, sym, subst, _∙_}
-use mathlib.Core.List.{List}
-use lib.ListN.{length, length-set, getD, set}
-use lib.Dec.{leb}
+use borrow.Author.Needs.{needs}
+use mathlib.Core.Path.{_≡_, refl, ap, _∙_}
+use lib.ListN.{length, length-set}
 use Rattle.partition.specs.SwapBlocks.{renumbered}
 use Rattle.partition.proofs.Renumbering.{renumbered-none, renumbered-more}
 use Rattle.partition.proofs.core.renumber.Statement.{statement}

@@ -1,6 +1,6 @@
 -- `core.swap_blocks` meets its contract.
 use borrow.Author.Needs.{needs}
-use mathlib.Core.Path.{_≡_, refl, sym, ap, _∙_}
+use mathlib.Core.Path.{refl}
 use Rattle.partition.specs.Cores.{Blocks, blocks}
 use Rattle.partition.proofs.SwapLaws.{swap-columns, swap-reads}
 use Rattle.partition.proofs.core.swap_blocks.Statement.{statement}

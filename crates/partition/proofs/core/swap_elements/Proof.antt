@@ -1,3 +1,4 @@
+-- `swap_elements` meets its contract.
 use mathlib.Core.Path.{refl}
 use Rattle.columns.specs.Columns.{swapped}
 use Rattle.columns.specs.Inverse.{swappedInverse}

@@ -1,13 +1,11 @@
 -- `BlockPartition.block_number` meets its contract.
 use borrow.Author.Needs.{needs}
-use mathlib.Core.Path.{_≡_, refl, sym, ap, _∙_}
+use mathlib.Core.Path.{_∙_}
 use native.Mathlib.Omega.{arith}
 use mathlib.Core.List.{[], _∷_}
 use lib.ListN.{getD}
-use lib.Dec.{ltb}
-use mathlib.Core.Bool.{true, not}
+use mathlib.Core.Bool.{true}
 use Rattle.columns.proofs.Saying.{asked-refused, asked-done}
-use Rattle.columns.specs.Answers.{bit}
 use Rattle.partition.specs.Checks.{stateRefusal}
 use Rattle.partition.specs.Partition.{Partition, parts}
 use Rattle.partition.specs.Readers.{blockNumber}

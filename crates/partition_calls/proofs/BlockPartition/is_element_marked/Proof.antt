@@ -1,10 +1,8 @@
 -- `BlockPartition.is_element_marked` meets its contract.
 use borrow.Author.Needs.{needs}
-use mathlib.Core.Path.{_≡_, refl, sym, ap, _∙_}
+use mathlib.Core.Path.{ap, _∙_}
 use native.Mathlib.Omega.{arith}
 use mathlib.Core.List.{[], _∷_}
-use lib.ListN.{getD}
-use lib.Dec.{ltb}
 use mathlib.Core.Bool.{true, not}
 use Rattle.columns.proofs.Saying.{asked-refused, asked-done}
 use Rattle.columns.specs.Answers.{bit}

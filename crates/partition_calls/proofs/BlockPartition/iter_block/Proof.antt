@@ -1,7 +1,7 @@
 -- `BlockPartition.iter_block` meets its contract.
 use borrow.Author.Needs.{needs}
 use mathlib.Core.Bool.{true}
-use mathlib.Core.Path.{_≡_, refl, sym, ap, _∙_}
+use mathlib.Core.Path.{ap}
 use native.Mathlib.Omega.{arith}
 use Prim.Native.Nat.{ℕ, _+_, _*_}
 use Rattle.partition.specs.Partition.{Partition, parts}

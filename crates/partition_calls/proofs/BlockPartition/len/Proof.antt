@@ -1,13 +1,8 @@
 -- `BlockPartition.len` meets its contract.
 use borrow.Author.Needs.{needs}
-use mathlib.Core.Path.{_≡_, refl, sym, ap, _∙_}
-use native.Mathlib.Omega.{arith}
+use mathlib.Core.Path.{_∙_}
 use mathlib.Core.List.{[], _∷_}
-use lib.ListN.{getD}
-use lib.Dec.{ltb}
-use mathlib.Core.Bool.{not}
 use Rattle.columns.proofs.Saying.{asked-refused, asked-done}
-use Rattle.columns.specs.Answers.{bit}
 use Rattle.partition.specs.Checks.{partitionRefusal}
 use Rattle.partition.specs.Partition.{Partition, parts}
 use Rattle.partition.specs.Readers.{lenOf}

@@ -1,7 +1,6 @@
 -- `BlockPartition.swap_blocks` meets its contract.
 use borrow.Author.Needs.{needs}
-use mathlib.Core.Path.{_≡_, refl, sym, ap, _∙_}
-use mathlib.Core.List.{[], _∷_}
+use mathlib.Core.List.{[]}
 use Rattle.columns.proofs.Saying.{left-refused, left-done}
 use Rattle.partition.specs.Checks.{blocksRefusal}
 use Rattle.partition.specs.Partition.{Partition, parts}

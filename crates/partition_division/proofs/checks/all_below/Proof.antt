@@ -1,16 +1,14 @@
-use Prim.Native.Nat.{ℕ, _<_, _≤_, _-_, _+_}
+-- `all_below` meets its contract.
+use Prim.Native.Nat.{_≤_, _-_}
 use native.Mathlib.Omega.{arith}
-use borrow.Author.Needs.{needs}
-use mathlib.Core.Bool.{Bool, true, false, cond}
-use mathlib.Core.Path.{_≡_, refl, ap, sym, subst, _∙_}
-use mathlib.Core.Logic.{_⊎_, inl, inr, ⊎-elim}
-use mathlib.Core.List.{List}
-use lib.ListN.{length, getD, set, length-set}
-use lib.Dec.{eqb, ltb}
-use Rattle.columns.specs.Tests.{all}
+use mathlib.Core.Bool.{true, cond}
+use mathlib.Core.Path.{_≡_, sym, _∙_}
+use lib.ListN.{getD}
+use lib.Dec.{ltb}
 use Rattle.columns.proofs.All.{all-none, all-more, all-fails, all-done}
+use Rattle.columns.specs.Counting.{all}
 use Rattle.partition_division.specs.Marked.{markedFrom}
-use borrow.Author.Tests.{eq-eqb, ne-eqb, not-true, not-false, lt-ltb, le-ltb}
+use borrow.Author.Tests.{not-true, not-false}
 use Rattle.partition_division.proofs.checks.all_below.Statement.{statement}
 use Rattle.partition_division.proofs.checks.all_below.Tie as tie
 

@@ -1,13 +1,9 @@
-use Prim.Native.Nat.{ℕ, _<_, _≤_, _-_, _+_}
-use native.Mathlib.Omega.{arith}
-use mathlib.Core.Bool.{Bool, true, false}
-use mathlib.Core.Path.{_≡_, refl, ap, sym, subst, _∙_}
-use mathlib.Core.Logic.{_⊎_, inl, inr, ⊎-elim}
-use mathlib.Core.List.{List}
-use lib.ListN.{length, getD, set, length-set}
-use lib.Dec.{eqb, ltb}
+-- `below_at` meets its contract.
+use Prim.Native.Nat.{_-_}
+use mathlib.Core.Path.{refl}
+use lib.ListN.{getD}
 use Rattle.partition_division.proofs.Noting.{below-free, below-yes, below-no}
-use borrow.Author.Tests.{eq-eqb, ne-eqb, not-true, not-false, lt-ltb, le-ltb}
+use borrow.Author.Tests.{not-true, not-false}
 use borrow.Author.Needs.{needs}
 use Rattle.partition_division.proofs.checks.below_at.Statement.{statement}
 use Rattle.partition_division.proofs.checks.below_at.Tie as tie

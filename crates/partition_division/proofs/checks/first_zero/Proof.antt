@@ -1,3 +1,4 @@
+-- `first_zero` meets its contract.
 use borrow.Author.Count.{below-more}
 use Prim.Native.Nat.{ℕ, _<_, _≤_, _-_}
 use native.Mathlib.Omega.{arith}

@@ -1,11 +1,6 @@
-use Prim.Native.Nat.{ℕ, _<_, _≤_, _-_, _+_}
-use native.Mathlib.Omega.{arith}
-use mathlib.Core.Bool.{Bool, true, false}
-use mathlib.Core.Path.{_≡_, refl, ap, sym, subst, _∙_}
-use mathlib.Core.Logic.{_⊎_, inl, inr, ⊎-elim}
-use mathlib.Core.List.{List}
-use lib.ListN.{length, getD, set, length-set}
-use lib.Dec.{eqb}
+-- `least_missing` meets its contract.
+use Prim.Native.Nat.{_-_}
+use mathlib.Core.Path.{_∙_}
 use borrow.Author.Needs.{needs}
 use Rattle.columns.specs.Limits.{maxStates}
 use Rattle.columns.proofs.Lists.{zeros-at}

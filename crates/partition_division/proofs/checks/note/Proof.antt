@@ -1,16 +1,14 @@
-use Prim.Native.Nat.{ℕ, _<_, _≤_, _-_, _+_}
+-- `note` meets its contract.
+use Prim.Native.Nat.{ℕ, _<_, _≤_, _-_}
 use native.Mathlib.Omega.{arith}
-use borrow.Author.Needs.{needs}
-use mathlib.Core.Bool.{Bool, true, false}
-use mathlib.Core.Path.{_≡_, refl, ap, sym, subst, _∙_}
-use mathlib.Core.Logic.{_⊎_, inl, inr, ⊎-elim}
-use mathlib.Core.List.{List}
-use lib.ListN.{length, getD, set, length-set}
-use lib.Dec.{eqb, ltb}
+use mathlib.Core.Bool.{true, false}
+use mathlib.Core.Path.{_≡_, refl, ap, sym, _∙_}
+use mathlib.Core.Logic.{_⊎_, ⊎-elim}
+use lib.ListN.{length, getD}
+use lib.Dec.{eqb}
 use Rattle.partition_division.specs.Marked.{markedFrom}
 use Rattle.partition_passes.specs.Invariants.{tallied}
 use Rattle.partition_division.proofs.Noting.{noted-none, noted-pass, noted-more}
-use borrow.Author.Tests.{eq-eqb, ne-eqb, not-true, not-false, lt-ltb, le-ltb}
 use Rattle.partition_division.proofs.checks.note.Statement.{statement}
 use Rattle.partition_division.proofs.checks.note.Tie as tie
 

@@ -1,13 +1,6 @@
-use Prim.Native.Nat.{ℕ, _<_, _≤_, _-_, _+_}
-use native.Mathlib.Omega.{arith}
-use mathlib.Core.Bool.{Bool, true, false}
-use mathlib.Core.Path.{_≡_, refl, ap, sym, subst, _∙_}
-use mathlib.Core.Logic.{_⊎_, inl, inr, ⊎-elim}
-use mathlib.Core.List.{List}
-use lib.ListN.{length, getD, set, length-set}
-use lib.Dec.{eqb, ltb}
+-- `note_one` meets its contract.
+use Prim.Native.Nat.{_-_}
 use Rattle.partition_division.proofs.Noting.{note-in, note-out}
-use borrow.Author.Tests.{eq-eqb, ne-eqb, not-true, not-false, lt-ltb, le-ltb}
 use borrow.Author.Needs.{needs}
 use Rattle.partition_division.proofs.checks.note_one.Statement.{statement}
 use Rattle.partition_division.proofs.checks.note_one.Tie as tie

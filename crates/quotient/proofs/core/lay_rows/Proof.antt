@@ -9,8 +9,8 @@ use Rattle.quotient.proofs.core.lay_rows.Tie as tie
 row-set-requires : tie.Need-row-set-requires
 row-set-requires c κs = search needs
 
-wipe-requires : tie.Need-wipe-requires
-wipe-requires c κs = search needs
+clear-five-requires : tie.Need-clear-five-requires
+clear-five-requires c κs = search needs
 
 same-length : tie.Need-same-length
 same-length c = search needs
@@ -41,7 +41,7 @@ unfolding rowsOver
 returns c =
     let r = c .before .before .before .before .before .before .before .before .before .before .before .before .before .before .before
     .before .before .before .before .before .before .before .before .before .before .before .row-set in
-    let w = c .before .before .before .before .before .before .before .before .before .before .wipe .ensures in (
+    let w = c .before .before .before .before .before .before .before .before .before .before .clear-five .ensures in (
       (r .ensures .0, λ i. (r .ensures .1 .0 i, (r .ensures .1 .1 .0 i, r .ensures .1 .1 .1 .0 i))),
       (
         w .0,
@@ -57,7 +57,7 @@ lay-rows-spec =
     tie.close
     (tie.spec
     row-set-requires
-    wipe-requires
+    clear-five-requires
     same-length
     same-length-2
     same-length-3

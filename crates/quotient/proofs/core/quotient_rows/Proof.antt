@@ -1,12 +1,12 @@
 -- `core.quotient_rows` meets its contract.
 use borrow.Author.Needs.{needs}
 use native.Mathlib.Omega.{arith}
-use mathlib.Core.Path.{_≡_, ap, _∙_}
+use mathlib.Core.Path.{ap, _∙_}
 use mathlib.Core.List.{List}
 use lib.ListN.{length}
 use Rattle.columns.specs.Columns.{zeros}
 use Rattle.columns.specs.Sets.{Row}
-use Rattle.table.specs.Tables.{Three, rowsOver}
+use Rattle.table.specs.Tables.{rowsOver}
 use Rattle.quotient.proofs.core.quotient_rows.Statement.{statement}
 use Rattle.quotient.proofs.core.quotient_rows.Tie as tie
 
@@ -70,7 +70,7 @@ returns c =
     let e = d .ensures .0 in (
       (
         r .0 .0 ∙ ap length e,
-        r .0 .1 ∙ ap (λ (l : List Row). rowsOver l (a .x .now, (a .y .now, a .z .now))) e,
+        r .0 .1 ∙ ap (λ (l : List Row). rowsOver l (a .result-source .now, (a .result-label .now, a .result-target .now))) e,
       ),
       (
         r .1 .0 ∙ ap zeros (d .kept .1 .1 .1 .1 .1 .1 .1 .0),

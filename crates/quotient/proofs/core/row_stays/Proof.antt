@@ -7,7 +7,7 @@ use mathlib.Core.Path.{_≡_, sym, ap, _∙_}
 use lib.Dec.{eqb}
 use Rattle.bisimulation.specs.Quotient.{blockOf}
 use Rattle.columns.specs.Sets.{Row}
-use Rattle.table.specs.Lts.{rowIn}
+use Rattle.columns.specs.Rows.{rowIn}
 use Rattle.quotient.proofs.Switches.{row-visible, row-loop, row-outward, row-inert}
 use Rattle.quotient.proofs.core.row_stays.Statement.{statement}
 use Rattle.quotient.proofs.core.row_stays.Tie as tie

@@ -1,16 +1,13 @@
 -- `core.select_rows` meets its contract. The loop's invariant: of the rows seen those that stay are pushed.
 use borrow.Author.Needs.{needs}
 use native.Mathlib.Omega.{arith}
-use Prim.Native.Nat.{ℕ, _-_, _<_}
-use mathlib.Core.Path.{_≡_, refl, sym, ap, ap₂, _∙_}
-use mathlib.Core.Bool.{Bool}
-use mathlib.Core.List.{List}
-use lib.ListN.{getD}
+use Prim.Native.Nat.{_-_}
+use mathlib.Core.Path.{sym, _∙_}
 use Rattle.bisimulation.specs.Quotient.{blockOf, between}
-use Rattle.columns.specs.Sets.{Row}
+use Rattle.columns.specs.Rows.{rowIn}
 use Rattle.quotient.specs.Naive.{stays, naiveRows}
 use Rattle.quotient.proofs.Picks.{RowPicking, pick-start, pick-more, pick-pass, pick-done}
-use Rattle.table.specs.Lts.{rowIn, Fields, lts}
+use Rattle.table.specs.Lts.{Fields, lts}
 use Rattle.quotient.proofs.core.select_rows.Statement.{statement}
 use Rattle.quotient.proofs.core.select_rows.Tie as tie
 

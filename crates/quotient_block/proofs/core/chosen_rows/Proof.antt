@@ -71,7 +71,7 @@ returns c =
     let e = d .ensures .0 in (
       (
         r .0 .0 ∙ ap length e,
-        r .0 .1 ∙ ap (λ (l : List Row). rowsOver l (a .x .now, (a .y .now, a .z .now))) e,
+        r .0 .1 ∙ ap (λ (l : List Row). rowsOver l (a .result-source .now, (a .result-label .now, a .result-target .now))) e,
       ),
       (
         r .1 .0 ∙ ap zeros (d .kept .1 .1 .1 .1 .1 .1 .1 .0),

@@ -1,7 +1,7 @@
 -- `core.find_bottom` meets its contract. The loop's invariant: after k steps the walk is at u, and has met no bottom state before.
 use borrow.Author.Needs.{needs}
 use native.Mathlib.Omega.{arith}
-use Prim.Native.Nat.{ℕ, _+_, _-_}
+use Prim.Native.Nat.{_+_, _-_}
 use Rattle.quotient_block.proofs.Walks.{Walking, walk-start, walk-row, walk-more, walk-found, walk-lost}
 use Rattle.table.specs.Lts.{Lts, lts}
 use Rattle.quotient_block.proofs.core.find_bottom.Statement.{statement}

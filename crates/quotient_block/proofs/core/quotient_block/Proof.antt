@@ -2,7 +2,7 @@
 use borrow.Author.Needs.{needs}
 use native.Mathlib.Omega.{arith}
 use Prim.Native.Nat.{ℕ, _≤_}
-use mathlib.Core.Path.{_≡_, ap, ap₂, _∙_}
+use mathlib.Core.Path.{ap, ap₂, _∙_}
 use mathlib.Core.List.{[], _∷_}
 use Rattle.columns.specs.declared.answers.Refusal.{Refusal}
 use Rattle.columns.specs.Answers.{done, refused}
@@ -18,13 +18,13 @@ abbrev L : tie.Start → Lts
 L a = lts (a .args .table) (a .args .source .now) (a .args .label .now) (a .args .target .now)
 
 abbrev Out : tie.Start → Three
-Out a = (a .args .x .now, (a .args .y .now, a .args .z .now))
+Out a = (a .args .result-source .now, (a .args .result-label .now, a .args .result-target .now))
 
 choose-all-requires : tie.Need-choose-all-requires
 choose-all-requires c κs = search needs
 
-wipe-requires : tie.Need-wipe-requires
-wipe-requires c κs = search needs
+clear-five-requires : tie.Need-clear-five-requires
+clear-five-requires c κs = search needs
 
 clear-requires : tie.Need-clear-requires
 clear-requires c κs = search needs
@@ -62,7 +62,7 @@ returns c =
     let q = c .before .before .before .before .before .before .before .before .before .before .before .before .before .before .before
     .before .before .before .before .before .before .before .before .before .before .choose-all in
     let w = c .before .before .before .before .before .before .before .before .before .before .before .before .before .before .before
-    .before .wipe .ensures in (
+    .before .clear-five .ensures in (
       block-lacks (g .branching) (g .loops) (L a) (g .home .now) (g .elements .now) (g .begin .now) (g .count) (Out a) (q .result)
           (q .ensures .0) (c .before .before .before .before .before .before .before .before .before .before .before .before .before
           .before .before .before .before .before .before .before .before .before .if1 .taken) _
@@ -190,7 +190,7 @@ quotient-block-spec =
     tie.close
     (tie.spec
     choose-all-requires
-    wipe-requires
+    clear-five-requires
     clear-requires
     refuse-requires
     refusing-table-requires

@@ -6,7 +6,7 @@ use mathlib.Core.Path.{_≡_, sym, ap, subst, _∙_}
 use lib.ListN.{length, getD}
 use Rattle.bisimulation.specs.Quotient.{blockOf}
 use Rattle.columns.specs.Sets.{Row}
-use Rattle.table.specs.Lts.{rowIn}
+use Rattle.columns.specs.Rows.{rowIn}
 use Rattle.quotient_block.proofs.Chosen.{row-unchosen, row-chosen}
 use Rattle.quotient_block.proofs.core.row_chosen.Statement.{statement}
 use Rattle.quotient_block.proofs.core.row_chosen.Tie as tie

@@ -7,8 +7,9 @@ use lib.ListN.{getD}
 use Rattle.bisimulation.specs.Quotient.{blockOf, between}
 use Rattle.quotient.proofs.Picks.{RowPicking, pick-start, pick-more, pick-pass, pick-done}
 use Rattle.quotient_block.specs.Chosen.{ofChosen, chosenRows}
-use Rattle.table.specs.Lts.{rowIn, Fields, lts}
+use Rattle.table.specs.Lts.{Fields, lts}
 use Rattle.quotient_block.proofs.core.select_chosen.Statement.{statement}
+use Rattle.columns.specs.Rows.{rowIn}
 use Rattle.quotient_block.proofs.core.select_chosen.Tie as tie
 
 abbrev Inv-loop : tie.InvT-loop

@@ -1,7 +1,7 @@
 -- `core.way_on` meets its contract. The loop's invariant: no row seen leads on.
 use borrow.Author.Needs.{needs}
 use native.Mathlib.Omega.{arith}
-use Prim.Native.Nat.{ℕ, _-_}
+use Prim.Native.Nat.{_-_}
 use Rattle.quotient_block.specs.Bottom.{leadsOn}
 use Rattle.quotient_block.proofs.Walks.{Looking, look-start, look-more, look-hit, look-none}
 use Rattle.table.specs.Lts.{Lts, lts}

@@ -1,5 +1,4 @@
 -- `core.find_numbers` meets its contract.
-use borrow.Author.Needs.{needs}
 use Prim.Native.Nat.{ℕ}
 use mathlib.Core.Path.{_≡_, ap, _∙_}
 use mathlib.Core.List.{List}
@@ -154,7 +153,8 @@ returns c = let a = c .before .before .before .before .before .before .before .b
       q .ensures .0,
       c .before .before .before .before .before .before .before .before .before .before .before .before .before .before .before .before
           .before .before .order-components .ensures
-          ∙ again (a .args .table .n) (newNumber (L a) (a .args .eliminate)) (component (L a)) (q .last .1 .1 .1 .1 .0) (a .args
+          ∙ again (a .args .table .n) (newNumber (L a) (a .args .eliminate-tau-selfloops)) (component (L a)) (q .last .1 .1 .1 .1 .0) (a
+          .args
           .numbers .now)
           (q .ensures .1 .0),
     )

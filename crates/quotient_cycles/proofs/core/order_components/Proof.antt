@@ -1,7 +1,7 @@
 -- `core.order_components` meets its contract.
 use borrow.Author.Needs.{needs}
-use Prim.Native.Nat.{ℕ, _≤_}
-use mathlib.Core.Path.{_≡_, refl, _∙_}
+use Prim.Native.Nat.{_≤_}
+use mathlib.Core.Path.{refl, _∙_}
 use native.Mathlib.Omega.{arith}
 use Rattle.quotient_components.proofs.Components.{component-below, components-few}
 use Rattle.table.specs.Lts.{Lts, lts, Valid}
@@ -54,7 +54,8 @@ module _ (q : tie.After-quotient-rows) where
         .before
         .before .before .before .before .before .before .before .before .before .before .before .before .before .before .before .before
         .before .before .before)) (q .before .before .before .before .before .before .before .before .before .before .before .before
-        .before .before .before .before .before .before .before .before .before .before .before .before .args .eliminate) (q .before
+        .before .before .before .before .before .before .before .before .before .before .before .before .args .eliminate-tau-selfloops) (q
+        .before
         .before .before .before .before .before .before .before .before .before .before .before .before .before .before .before .before
         .before .before .before .before .before .before .before .args .numbers .now) (q .before .before .before .before .before .before
         .before .before .before .before .before .before .before .before .before .before .before .before .before .before .before .before
@@ -132,7 +133,8 @@ sort-topological-requires c κs = let a = c .before .before .before .before .bef
     let q = c .before .before .before .before .before .before .before .before .before .before .before .before .before .before .before
     .before .before .before .before .before .before .before .quotient-rows in
     let r = a .pre .1 .1 .1 in (
-      middle-valid (L a) (valid a) (a .args .eliminate) (a .args .numbers .now) (a .pre .1 .0) (a .args .count) (q .result) _ (out (c
+      middle-valid (L a) (valid a) (a .args .eliminate-tau-selfloops) (a .args .numbers .now) (a .pre .1 .0) (a .args .count) (q .result)
+          _ (out (c
           .before .before .before .before .before .before .before .before .before .before .before .before .before .before .before
           .before
           .before .before .before .before .before .before))
@@ -246,7 +248,8 @@ returns c = let a = c .before .before .before .before .before .before .before .b
     .before .before .before .before .before .before .before .before .before .before .before .before .before .before .before .before
     .before .before .before .before .quotient-rows in
     c .before .before .renumber .ensures
-    ∙ new-numbers (L a) (valid a) (a .args .eliminate) (a .args .numbers .now) (a .pre .1 .0) (a .args .count) (q .result) _ (out (c
+    ∙ new-numbers (L a) (valid a) (a .args .eliminate-tau-selfloops) (a .args .numbers .now) (a .pre .1 .0) (a .args .count) (q .result) _
+    (out (c
     .before .before .before .before .before .before .before .before .before .before .before .before .before .before .before .before
     .before .before .before .before .before .before .before .before .before .before .before .before .before .before .before .before
     .before .before .before))

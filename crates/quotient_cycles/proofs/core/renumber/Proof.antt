@@ -1,10 +1,9 @@
 -- `core.renumber` meets its contract.
-use borrow.Author.Needs.{needs}
 use Prim.Native.Nat.{ℕ, _<_, _-_}
 use mathlib.Core.Path.{_≡_, refl, ap, _∙_}
 use mathlib.Core.List.{List}
 use native.Mathlib.Omega.{arith}
-use lib.ListN.{length, getD}
+use lib.ListN.{getD}
 use Rattle.columns.specs.Columns.{written, listed}
 use Rattle.columns.proofs.Lists.{Painted, painted-none, painted-more, painted-done, painted-rest}
 use Rattle.quotient_cycles.proofs.core.renumber.Statement.{statement}

@@ -34,7 +34,7 @@ module _ (q : tie.After-find-numbers) where
       ≡ newNumber (L (q .before .before .before .before .before .before .before .before .before .before .before .before .before .before
       .before .before .before .before .before .before .before .before .before .before .before)) (q .before .before .before .before
       .before .before .before .before .before .before .before .before .before .before .before .before .before .before .before .before
-      .before .before .before .before .before .args .eliminate) s
+      .before .before .before .before .before .args .eliminate-tau-selfloops) s
   homes s h =
       ap (λ (l : List ℕ). getD l s 0) (q .find-numbers .ensures .1)
       ∙ written-at (q .before .before .before .before .before .before .before .before .before .before .before .before .before .before
@@ -42,27 +42,30 @@ module _ (q : tie.After-find-numbers) where
       .before .before .before .before .before .before .before .before .before .before .before .before .before .before .before .before
       .before .before .before .before .before .before .before .before)) (q .before .before .before .before .before .before .before
       .before .before .before .before .before .before .before .before .before .before .before .before .before .before .before .before
-      .before .before .args .eliminate)) (q .before .before .before .before .before .before .before .before .before .before .before
+      .before .before .args .eliminate-tau-selfloops)) (q .before .before .before .before .before .before .before .before .before .before
+      .before
       .before .before .before .before .before .before .before .before .before .before .before .before .before .before .args .numbers
       .now) s h
 
   same-rows :
       naiveRows (q .before .before .before .before .before .before .before .before .before .before .before .before .before .before
-      .before .before .before .before .before .before .before .before .before .before .before .args .eliminate) (q .before .before
+      .before .before .before .before .before .before .before .before .before .before .before .args .eliminate-tau-selfloops) (q .before
+      .before
       .before .before .before .before .before .before .before .before .before .before .before .before .before .before .before .before
-      .before .before .before .before .before .before .before .args .eliminate) (blockOf numbers) (rows (L (q .before .before .before
+      .before .before .before .before .before .before .before .args .eliminate-tau-selfloops) (blockOf numbers) (rows (L (q .before
+      .before .before
       .before .before .before .before .before .before .before .before .before .before .before .before .before .before .before .before
       .before .before .before .before .before .before)))
       ≡ newRows (L (q .before .before .before .before .before .before .before .before .before .before .before .before .before .before
       .before .before .before .before .before .before .before .before .before .before .before)) (q .before .before .before .before
       .before .before .before .before .before .before .before .before .before .before .before .before .before .before .before .before
-      .before .before .before .before .before .args .eliminate)
+      .before .before .before .before .before .args .eliminate-tau-selfloops)
   same-rows = new-rows (L (q .before .before .before .before .before .before .before .before .before .before .before .before .before
       .before .before .before .before .before .before .before .before .before .before .before .before)) (valid (q .before .before .before
       .before .before .before .before .before .before .before .before .before .before .before .before .before .before .before .before
       .before .before .before .before .before .before)) (q .before .before .before .before .before .before .before .before .before
       .before .before .before .before .before .before .before .before .before .before .before .before .before .before .before .before
-      .args .eliminate) numbers homes
+      .args .eliminate-tau-selfloops) numbers homes
 
 find-numbers-requires : tie.Need-find-numbers-requires
 find-numbers-requires c κs = let p = c .before .before .before .before .before .before .before .before .before .before .before .before
@@ -300,7 +303,8 @@ returns c = let a = c .before .before .before .before .before .before .before .b
         ),
         (
           q .0 .1
-              ∙ ap (λ (l : List Row). rowsOver l (a .args .x .now, (a .args .y .now, a .args .z .now))) (same-rows (c .before .before
+              ∙ ap (λ (l : List Row). rowsOver l (a .args .result-source .now, (a .args .result-label .now, a .args .result-target .now)))
+              (same-rows (c .before .before
               .before .before .before .before .before .before .before .before .before .before .before .before .before .before .before
               .before .before .before .before .before .before .before .before .before .before .before .before .before .before .before
               .before .before .before .before .before .before .before .before .before .before .before .before .before .before .before

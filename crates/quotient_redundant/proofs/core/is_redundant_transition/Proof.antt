@@ -1,6 +1,6 @@
 -- `core.is_redundant_transition` meets its contract. The loop's invariant: no row before j is a witness.
 use borrow.Author.Needs.{needs}
-use Prim.Native.Nat.{ℕ, _≤_, _<_, _-_, _+_}
+use Prim.Native.Nat.{_≤_, _-_}
 use mathlib.Core.Path.{sym, _∙_}
 use native.Mathlib.Omega.{arith}
 use Rattle.columns.proofs.Firsts.{NoneBelow, none-more, some-in, some-none}

@@ -178,7 +178,8 @@ returns c = let a = c .before .before .before .before .before .before .before .b
     .clear-seven .ensures in (
       q .ensures .1 ∙ sym (remaining-count (L a)),
       (
-        remaining-over (L a) (a .pre .0) _ (a .args .x .now) (a .args .y .now) (a .args .z .now) _ _ _ (q .ensures .0) (w .0) (w .1 .0)
+        remaining-over (L a) (a .pre .0) _ (a .args .result-source .now) (a .args .result-label .now) (a .args .result-target .now) _ _ _
+            (q .ensures .0) (w .0) (w .1 .0)
             (w .1 .1),
         (
           (

@@ -1,7 +1,7 @@
 -- `core.reduce` meets its contract.
 use borrow.Author.Needs.{needs}
 use native.Mathlib.Omega.{arith}
-use mathlib.Core.Path.{_≡_, sym, ap, _∙_}
+use mathlib.Core.Path.{_≡_, ap, _∙_}
 use mathlib.Core.Bool.{false}
 use mathlib.Core.List.{List}
 use Prim.Native.Nat.{ℕ}
@@ -53,8 +53,8 @@ quotient-rows-requires c κs =
       ),
     )
 
-wipe-requires : tie.Need-wipe-requires
-wipe-requires c κs = search needs
+clear-five-requires : tie.Need-clear-five-requires
+clear-five-requires c κs = search needs
 
 same-length : tie.Need-same-length
 same-length c =
@@ -148,53 +148,53 @@ same-length-9 c =
 
 same-length-10 : tie.Need-same-length-10
 same-length-10 c =
-    let wipe = c .before .before .before .before .before .before .before .before .before .before .wipe in
+    let clear-five = c .before .before .before .before .before .before .before .before .before .before .clear-five in
     let strong-blocks = c .before .before .before .before .before .before .before .before .before .before .before .before .before .before
     .before .before .before .before .before .before .before .before .before .before .before .before .before .before .before .before
     .before .before .before .before .before .before .before .before .before .before .before .before .before .before .before .before
     .before .before .before .before .before .before .before .before .before .before .before .before .before .before .before .before
     .before .before .strong-blocks in
-    wipe .kept .0 ∙ strong-blocks .kept .1 .1 .1 .1 .1 .1 .1 .1 .1 .1 .0
+    clear-five .kept .0 ∙ strong-blocks .kept .1 .1 .1 .1 .1 .1 .1 .1 .1 .1 .0
 
 same-length-11 : tie.Need-same-length-11
 same-length-11 c =
-    let wipe = c .before .before .before .before .before .before .before .before .before .before .wipe in
+    let clear-five = c .before .before .before .before .before .before .before .before .before .before .clear-five in
     let strong-blocks = c .before .before .before .before .before .before .before .before .before .before .before .before .before .before
     .before .before .before .before .before .before .before .before .before .before .before .before .before .before .before .before
     .before .before .before .before .before .before .before .before .before .before .before .before .before .before .before .before
     .before .before .before .before .before .before .before .before .before .before .before .before .before .before .before .before
     .before .before .strong-blocks in
-    wipe .kept .1 .0 ∙ strong-blocks .kept .1 .1 .1 .1 .1 .1 .1 .1 .1 .1 .1 .0
+    clear-five .kept .1 .0 ∙ strong-blocks .kept .1 .1 .1 .1 .1 .1 .1 .1 .1 .1 .1 .0
 
 same-length-12 : tie.Need-same-length-12
 same-length-12 c =
-    let wipe = c .before .before .before .before .before .before .before .before .before .before .wipe in
+    let clear-five = c .before .before .before .before .before .before .before .before .before .before .clear-five in
     let strong-blocks = c .before .before .before .before .before .before .before .before .before .before .before .before .before .before
     .before .before .before .before .before .before .before .before .before .before .before .before .before .before .before .before
     .before .before .before .before .before .before .before .before .before .before .before .before .before .before .before .before
     .before .before .before .before .before .before .before .before .before .before .before .before .before .before .before .before
     .before .before .strong-blocks in
-    wipe .kept .1 .1 .0 ∙ strong-blocks .kept .1 .1 .1 .1 .1 .1 .1 .1 .1 .1 .1 .1 .0
+    clear-five .kept .1 .1 .0 ∙ strong-blocks .kept .1 .1 .1 .1 .1 .1 .1 .1 .1 .1 .1 .1 .0
 
 same-length-13 : tie.Need-same-length-13
 same-length-13 c =
-    let wipe = c .before .before .before .before .before .before .before .before .before .before .wipe in
+    let clear-five = c .before .before .before .before .before .before .before .before .before .before .clear-five in
     let strong-blocks = c .before .before .before .before .before .before .before .before .before .before .before .before .before .before
     .before .before .before .before .before .before .before .before .before .before .before .before .before .before .before .before
     .before .before .before .before .before .before .before .before .before .before .before .before .before .before .before .before
     .before .before .before .before .before .before .before .before .before .before .before .before .before .before .before .before
     .before .before .strong-blocks in
-    wipe .kept .1 .1 .1 .0 ∙ strong-blocks .kept .1 .1 .1 .1 .1 .1 .1 .1 .1 .1 .1 .1 .1 .0
+    clear-five .kept .1 .1 .1 .0 ∙ strong-blocks .kept .1 .1 .1 .1 .1 .1 .1 .1 .1 .1 .1 .1 .1 .0
 
 same-length-14 : tie.Need-same-length-14
 same-length-14 c =
-    let wipe = c .before .before .before .before .before .before .before .before .before .before .wipe in
+    let clear-five = c .before .before .before .before .before .before .before .before .before .before .clear-five in
     let strong-blocks = c .before .before .before .before .before .before .before .before .before .before .before .before .before .before
     .before .before .before .before .before .before .before .before .before .before .before .before .before .before .before .before
     .before .before .before .before .before .before .before .before .before .before .before .before .before .before .before .before
     .before .before .before .before .before .before .before .before .before .before .before .before .before .before .before .before
     .before .before .strong-blocks in
-    wipe .kept .1 .1 .1 .1 .0 ∙ strong-blocks .kept .1 .1 .1 .1 .1 .1 .1 .1 .1 .1 .1 .1 .1 .1 .0
+    clear-five .kept .1 .1 .1 .1 .0 ∙ strong-blocks .kept .1 .1 .1 .1 .1 .1 .1 .1 .1 .1 .1 .1 .1 .1 .0
 
 returns : tie.Need-returns
 returns c =
@@ -214,13 +214,17 @@ returns c =
     let q = c .before .before .before .before .before .before .before .before .before .before .before .before .before .before .before
     .before .before .before .before .before .before .before .before .before .before .before .before .before .before .before .before
     .before .quotient-rows .ensures in
-    let w = c .before .before .before .before .before .before .before .before .before .before .wipe .ensures in
+    let w = c .before .before .before .before .before .before .before .before .before .before .clear-five .ensures in
     let same : naiveRows false false (blockOf (b .last .1 .1 .1 .1 .0)) (rows (L a)) ≡ strongRows (L a)
     = ap (λ (p : List ℕ). naiveRows false false (blockOf p) (rows (L a))) (b .ensures .2) ∙ naive-plain (strongBlock (L a)) (rows (L a))
     in (
       (b .ensures .1, q .0 .0 ∙ ap (λ (l : List Row). length l) same, b .ensures .0),
       (
-        (b .ensures .2, q .0 .1 ∙ ap (λ (l : List Row). rowsOver l (g .x .now, (g .y .now, g .z .now))) same),
+        (
+          b .ensures .2,
+          q .0 .1 ∙ ap (λ (l : List Row). rowsOver l (g .result-source .now, (g .result-label .now, g .result-target .now)))
+              same,
+        ),
         (
           (
             q .1 .0 ∙ ap zeros (k .1 .1 .1 .1 .1 .0),
@@ -246,7 +250,7 @@ reduce-spec =
     (tie.spec
     strong-blocks-requires
     quotient-rows-requires
-    wipe-requires
+    clear-five-requires
     same-length
     same-length-2
     same-length-3

@@ -1,13 +1,13 @@
 -- `core.strong_blocks` meets its contract.
 use borrow.Author.Needs.{needs}
 use native.Mathlib.Omega.{arith}
-use mathlib.Core.Path.{_≡_, refl, sym, ap, _∙_}
+use mathlib.Core.Path.{refl, sym, ap, _∙_}
 use Prim.Native.Nat.{_+_}
 use lib.ListN.{length, take}
-use Rattle.columns.proofs.Lists.{take-zeros}
+use Rattle.columns.proofs.Lists.{take-zeros, still-zeros}
 use Rattle.columns.proofs.Parts.{length-fronted}
 use Rattle.partition.specs.Partition.{Partition, parts}
-use Rattle.refinement_rounds.proofs.Rooms.{front-length, front-fits, front-clear, zero-again}
+use Rattle.refinement_rounds.proofs.Rooms.{front-length, front-fits, front-clear}
 use Rattle.reduction.proofs.Ends.{end-rounds, end-count, end-numbers, end-cells}
 use Rattle.table.specs.Lts.{Lts, lts}
 use Rattle.reduction.proofs.core.strong_blocks.Statement.{statement}
@@ -72,7 +72,7 @@ refine-requires c κs =
         blocks-zero =
             ap (take (a .args .table .n + 1)) (q .ensures .1)
             ∙ take-zeros (a .args .table .n + 1) (length (a .args .blocks .now)) (omega (arith, w .1 .1 .0));
-        spare-zero = zero-again _ (length (a .args .spare .now)) (q .ensures .2);
+        spare-zero = still-zeros _ (length (a .args .spare .now)) (q .ensures .2);
       },
     )
 

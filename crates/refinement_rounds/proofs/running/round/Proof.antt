@@ -1,18 +1,17 @@
 -- `running.round` meets its contract.
 use borrow.Author.Needs.{needs}
 use native.Mathlib.Omega.{arith}
-use mathlib.Core.Path.{_≡_, refl, ap, subst, _∙_}
-use mathlib.Core.List.{List}
-use Prim.Native.Nat.{ℕ, _+_, _<_}
+use mathlib.Core.Path.{refl, ap, subst, _∙_}
+use Prim.Native.Nat.{_+_}
 use lib.ListN.{length, take}
 use Rattle.partition.specs.Partition.{Partition, parts}
-use Rattle.refinement_rounds.specs.Rooms.{Room, storeBehind}
-use Rattle.refinement_rounds.proofs.Rooms.{behind-room, lent-clear, lent-cell, lent-length, lent-store, sound-front, zero-again}
+use Rattle.refinement_rounds.proofs.Rooms.{behind-room, lent-clear, lent-cell, lent-length, lent-store, sound-front}
 use Rattle.refinement_rounds.proofs.Steps.{by-signatures}
 use Rattle.refinement_signing.specs.Stored.{Store, Held, AllSigned}
 use Rattle.signatures.specs.Strong.{strongSignature}
 use Rattle.table.specs.Lts.{Lts, lts}
 use Rattle.refinement_rounds.proofs.running.round.Statement.{statement}
+use Rattle.columns.proofs.Lists.{still-zeros}
 use Rattle.refinement_rounds.proofs.running.round.Tie as tie
 
 -- the table and the partition that are lent
@@ -152,7 +151,7 @@ split-all-requires c κs =
           lent-clear n m (g .labels .now) (q .last .1 .1 .1 .1 .1 .0) (w .of-labels) (w .labels-zero),
           lent-clear n m (g .blocks .now) (q .last .1 .1 .1 .1 .1 .1 .0) (w .of-blocks) (w .blocks-zero),
           omega (arith, w .of-spare, q .kept .1 .1 .1 .1 .1 .1 .1 .1 .1 .1 .1 .0),
-          zero-again _ (length (g .spare .now)) (q .ensures .2),
+          still-zeros _ (length (g .spare .now)) (q .ensures .2),
         ),
       ),
     )
@@ -306,7 +305,7 @@ returns c =
             (w .labels-zero);
         blocks-zero = ap (take (n + 1)) (q .ensures .1 .1) ∙ lent-clear n m (g .blocks .now) (s .last .1 .1 .1 .1 .1 .1 .0)
             (w .of-blocks) (w .blocks-zero);
-        spare-zero = zero-again _ (length (g .spare .now)) (q .ensures .1 .2 ∙ s .ensures .2);
+        spare-zero = still-zeros _ (length (g .spare .now)) (q .ensures .1 .2 ∙ s .ensures .2);
       },
     )
 

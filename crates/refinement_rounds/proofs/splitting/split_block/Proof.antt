@@ -1,9 +1,9 @@
 -- `splitting.split_block` meets its contract.
 use native.Mathlib.Omega.{arith}
 use borrow.Author.Needs.{needs}
-use mathlib.Core.Path.{_≡_, refl, sym, ap, subst, _∙_}
-use Prim.Native.Nat.{ℕ, _+_, _-_, _≤_}
-use lib.ListN.{length, length-set}
+use mathlib.Core.Path.{refl, sym, subst, _∙_}
+use Prim.Native.Nat.{_+_, _-_, _≤_}
+use lib.ListN.{length}
 use Rattle.partition.specs.Partition.{Partition, parts}
 use Rattle.refinement_rounds.specs.Rooms.{storeBehind}
 use Rattle.refinement_rounds.proofs.OneBlock.{read-bounds, read-stands, read-ready, read-divided}

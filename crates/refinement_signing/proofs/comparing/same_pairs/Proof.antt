@@ -5,8 +5,8 @@ use native.Mathlib.Omega.{arith}
 use mathlib.Core.Path.{_≡_, sym, _∙_}
 use mathlib.Core.Bool.{true}
 use Prim.Native.Nat.{_+_, _-_, _≤_}
-use Rattle.columns.specs.Tests.{all}
 use Rattle.columns.proofs.All.{all-none, all-more, all-fails, all-done}
+use Rattle.columns.specs.Counting.{all}
 use Rattle.refinement_signing.specs.Stored.{pairSame}
 use Rattle.refinement_signing.proofs.comparing.same_pairs.Statement.{statement}
 use Rattle.refinement_signing.proofs.comparing.same_pairs.Tie as tie

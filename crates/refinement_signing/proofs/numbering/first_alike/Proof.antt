@@ -1,7 +1,7 @@
 -- `numbering.first_alike` meets its contract. The loop's invariant: none of the first i has the signature.
 use borrow.Author.Needs.{needs}
 use native.Mathlib.Omega.{arith}
-use mathlib.Core.Path.{_≡_, sym, ap, _∙_}
+use mathlib.Core.Path.{_≡_, sym, _∙_}
 use mathlib.Core.Bool.{Bool}
 use Prim.Native.Nat.{ℕ, _-_, _≤_}
 use Rattle.columns.specs.Number.{least}

@@ -1,7 +1,7 @@
 -- `signing.push_rows` meets its contract. The loop's invariant: the pairs of the rows seen are written.
 use borrow.Author.Needs.{needs}
 use native.Mathlib.Omega.{arith}
-use mathlib.Core.Path.{sym, ap, _∙_}
+use mathlib.Core.Path.{sym, ap}
 use Prim.Native.Nat.{ℕ, _-_}
 use lib.ListN.{getD}
 use Rattle.refinement_signing.specs.Stored.{rowPairs}

@@ -2,11 +2,11 @@
 use borrow.Author.Needs.{needs}
 use native.Mathlib.Omega.{arith}
 use mathlib.Core.Path.{_≡_, refl, sym, ap, _∙_}
-use Prim.Native.Nat.{_-_, _≤_}
+use Prim.Native.Nat.{_-_}
 use lib.ListN.{length, length-set}
 use Rattle.columns.specs.Columns.{zeros}
 use Rattle.refinement_signing.proofs.Turns.{Signing, bare, turn-start, turn-row, turn-rows, turn-more, turn-done}
-use Rattle.table.specs.Lts.{Lts, lts, Valid}
+use Rattle.table.specs.Lts.{Lts, lts}
 use Rattle.table.proofs.RowsOf.{RowsFrom}
 use Rattle.table.proofs.Stretches.{rising}
 use Rattle.refinement_signing.proofs.signing.sign_all.Statement.{statement}

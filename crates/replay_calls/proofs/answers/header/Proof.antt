@@ -1,6 +1,6 @@
 -- `answers::header` meets its contract: each arm's numbers are those of its case.
 use borrow.Author.Needs.{needs}
-use mathlib.Core.Path.{_≡_, ap, _∙⁻¹_}
+use mathlib.Core.Path.{ap, _∙⁻¹_}
 use Rattle.table.specs.Tables.{saidTableOutcome}
 use Rattle.replay_calls.proofs.answers.header.Statement.{statement}
 use Rattle.replay_calls.proofs.answers.header.Tie as tie

@@ -1,6 +1,6 @@
 -- `tables::stretch` meets its contract: each arm's numbers are those of its case.
 use borrow.Author.Needs.{needs}
-use mathlib.Core.Path.{_≡_, ap, _∙⁻¹_}
+use mathlib.Core.Path.{ap, _∙⁻¹_}
 use Rattle.table.specs.Transitions.{saidStretchOutcome}
 use Rattle.replay_calls.proofs.tables.stretch.Statement.{statement}
 use Rattle.replay_calls.proofs.tables.stretch.Tie as tie

@@ -1,6 +1,6 @@
 -- `answers::reduced` meets its contract: each arm's numbers are those of its case.
 use borrow.Author.Needs.{needs}
-use mathlib.Core.Path.{_≡_, ap, _∙⁻¹_}
+use mathlib.Core.Path.{ap, _∙⁻¹_}
 use Rattle.file_reduction.specs.Answers.{saidFileOutcome}
 use Rattle.replay_files.proofs.answers.reduced.Statement.{statement}
 use Rattle.replay_files.proofs.answers.reduced.Tie as tie

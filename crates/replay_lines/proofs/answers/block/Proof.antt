@@ -1,6 +1,6 @@
 -- `answers::block` meets its contract: each arm's numbers are those of its case.
 use borrow.Author.Needs.{needs}
-use mathlib.Core.Path.{_≡_, ap, _∙⁻¹_}
+use mathlib.Core.Path.{ap, _∙⁻¹_}
 use Rattle.partition.specs.Block.{saidBlockOutcome}
 use Rattle.replay_lines.proofs.answers.block.Statement.{statement}
 use Rattle.replay_lines.proofs.answers.block.Tie as tie

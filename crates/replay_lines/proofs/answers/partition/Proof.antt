@@ -1,6 +1,6 @@
 -- `answers::partition` meets its contract: each arm's numbers are those of its case.
 use borrow.Author.Needs.{needs}
-use mathlib.Core.Path.{_≡_, ap, _∙⁻¹_}
+use mathlib.Core.Path.{ap, _∙⁻¹_}
 use Rattle.partition_calls.specs.Saying.{saidPartitionOutcome}
 use Rattle.replay_lines.proofs.answers.partition.Statement.{statement}
 use Rattle.replay_lines.proofs.answers.partition.Tie as tie

@@ -1,6 +1,6 @@
 -- `answers::plain` meets its contract: each arm's numbers are those of its case.
 use borrow.Author.Needs.{needs}
-use mathlib.Core.Path.{_≡_, ap, _∙⁻¹_}
+use mathlib.Core.Path.{ap, _∙⁻¹_}
 use Rattle.columns.specs.Answers.{saidOutcome}
 use Rattle.replay_lines.proofs.answers.plain.Statement.{statement}
 use Rattle.replay_lines.proofs.answers.plain.Tie as tie

@@ -1,5 +1,5 @@
 -- `answers::refused` meets its contract, by computation.
-use mathlib.Core.Path.{_≡_, refl}
+use mathlib.Core.Path.{refl}
 use Rattle.replay_lines.specs.Told.{told}
 use Rattle.replay_lines.proofs.answers.refused.Statement.{statement}
 use Rattle.replay_lines.proofs.answers.refused.Tie as tie

@@ -1,5 +1,4 @@
 -- `input::in_line` meets its contract, by its two tests.
-use borrow.Author.Needs.{needs}
 use Rattle.replay_lines.proofs.Placing.{newline, other}
 use Rattle.replay_lines.proofs.input.in_line.Statement.{statement}
 use Rattle.replay_lines.proofs.input.in_line.Tie as tie

@@ -1,6 +1,5 @@
 -- `output::byte` meets its contract: each arm is one of the two ways of `put`.
 use borrow.Author.Needs.{needs}
-use native.Mathlib.Omega.{arith}
 use Rattle.replay_lines.proofs.Putting.{put-room, put-full}
 use Rattle.replay_lines.proofs.output.byte.Statement.{statement}
 use Rattle.replay_lines.proofs.output.byte.Tie as tie

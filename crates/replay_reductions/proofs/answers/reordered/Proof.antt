@@ -1,6 +1,6 @@
 -- `answers::reordered` meets its contract: each arm's numbers are those of its case.
 use borrow.Author.Needs.{needs}
-use mathlib.Core.Path.{_≡_, ap, _∙⁻¹_}
+use mathlib.Core.Path.{ap, _∙⁻¹_}
 use Rattle.quotient_cycles.specs.Call.{saidReorderedOutcome}
 use Rattle.replay_reductions.proofs.answers.reordered.Statement.{statement}
 use Rattle.replay_reductions.proofs.answers.reordered.Tie as tie

@@ -2,12 +2,12 @@
 use borrow.Author.Needs.{needs}
 use Prim.Native.Nat.{_≤_, _-_}
 use native.Mathlib.Omega.{arith}
-use Rattle.replay_lines.specs.Runs.{lastOf}
+use Rattle.replay_lines.specs.Runs.{lastCell}
 use Rattle.replay_slots.proofs.cells.read_cells.Statement.{statement}
 use Rattle.replay_slots.proofs.cells.read_cells.Tie as tie
 
 abbrev Inv-loop : tie.InvT-loop
-Inv-loop largest from to buffer₀ narrow₀ wide₀ bytes₀ feed₀ i₀ buffer narrow wide bytes feed i = lastOf (feed .run) ≤ largest
+Inv-loop largest from to buffer₀ narrow₀ wide₀ bytes₀ feed₀ i₀ buffer narrow wide bytes feed i = lastCell (feed .run) ≤ largest
 
 abbrev μ-loop : tie.MeasureT-loop
 μ-loop largest from to buffer₀ narrow₀ wide₀ bytes₀ feed₀ i₀ buffer narrow wide bytes feed i = to - i
@@ -28,7 +28,7 @@ returns : tie.Need-returns Inv-loop μ-loop
 returns c = search needs
 
 place-requires : tie.Need-place-requires Inv-loop μ-loop
-unfolding lastOf
+unfolding lastCell
 place-requires c κs = omega arith
 
 add-i : tie.Need-add-i Inv-loop μ-loop

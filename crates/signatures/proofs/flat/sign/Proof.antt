@@ -1,21 +1,18 @@
 -- `flat.sign` meets its contract.
 use borrow.Author.Needs.{needs}
-use borrow.Author.Tests.{not-true, not-false, leb-true}
-use Prim.Native.Nat.{ℕ, _≤_}
+use borrow.Author.Tests.{not-true, not-false}
+use Prim.Native.Nat.{ℕ}
 use mathlib.Core.Path.{_≡_, sym, ap, _∙_}
 use mathlib.Core.Bool.{Bool, true, false}
 use mathlib.Core.List.{List, [], _∷_}
-use lib.Dec.{leb}
 use lib.ListN.{length}
 use Rattle.columns.specs.Answers.{done, refused}
 use Rattle.columns.specs.Columns.{zeros}
 use Rattle.columns.specs.Rows.{pairsOf}
 use Rattle.columns.specs.Sets.{Pair}
-use Rattle.columns.proofs.Bools.{and-left, and-right}
-use Rattle.columns.proofs.TwoColumns.{length-pairs}
 use Rattle.signatures.specs.Pairs.{Columns, signature, fits, roomFor}
 use Rattle.signatures.proofs.Outcomes.{finish-short, finish-done}
-use Rattle.signatures.proofs.Works.{zeroed-of}
+use Rattle.signatures.proofs.Works.{zeroed-of, room-both}
 use Rattle.signatures.proofs.flat.sign.Statement.{statement}
 use Rattle.signatures.proofs.flat.sign.Tie as tie
 
@@ -34,16 +31,11 @@ room : (a : tie.Start) (r t : Bool) → r ≡ roomFor (a .args .d) (length (a .a
 unfolding fits
 room a r t e f = sym e ∙ f
 
-wide : (d l b : ℕ) (r : Bool) → r ≡ roomFor d l b → r ≡ true → (d ≤ l) × (d ≤ b)
-unfolding roomFor
-wide d l b r e f =
-    (leb-true d l (and-left (leb d l) (leb d b) (sym e ∙ f)), leb-true d b (and-right (leb d l) (leb d b) (sym e ∙ f)))
-
 has-room-requires : tie.Need-has-room-requires
 has-room-requires c κs = search needs
 
-wipe-requires : tie.Need-wipe-requires
-wipe-requires c κs = search needs
+clear-four-requires : tie.Need-clear-four-requires
+clear-four-requires c κs = search needs
 
 refuse-requires : tie.Need-refuse-requires
 refuse-requires c κs = search needs
@@ -52,22 +44,22 @@ refusing-number-requires : tie.Need-refusing-number-requires
 refusing-number-requires c κs = search needs
 
 same-length : tie.Need-same-length
-same-length c = c .before .before .before .before .before .before .before .before .before .before .wipe .kept .0
+same-length c = c .before .before .before .before .before .before .before .before .before .before .clear-four .kept .0
 
 same-length-2 : tie.Need-same-length-2
-same-length-2 c = c .before .before .before .before .before .before .before .before .before .before .wipe .kept .1 .0
+same-length-2 c = c .before .before .before .before .before .before .before .before .before .before .clear-four .kept .1 .0
 
 same-length-3 : tie.Need-same-length-3
-same-length-3 c = c .before .before .before .before .before .before .before .before .before .before .wipe .kept .1 .1 .0
+same-length-3 c = c .before .before .before .before .before .before .before .before .before .before .clear-four .kept .1 .1 .0
 
 same-length-4 : tie.Need-same-length-4
-same-length-4 c = c .before .before .before .before .before .before .before .before .before .before .wipe .kept .1 .1 .1 .0
+same-length-4 c = c .before .before .before .before .before .before .before .before .before .before .clear-four .kept .1 .1 .1 .0
 
 returns : tie.Need-returns
 returns c =
     let a = c .before .before .before .before .before .before .before .before .before .before .before .before .before .before .before
     .before .before .before .before .before .before .before .before in
-    let w = c .before .before .before .before .before .before .before .before .before .before .wipe .ensures in
+    let w = c .before .before .before .before .before .before .before .before .before .before .clear-four .ensures in
     finish-short (a .args .d) (signature (Pushed a)) (Out a) (Works a) _ _
     (room a _ false
     (c .before .before .before .before .before .before .before .before .before .before .before .before .before .before .before .before
@@ -81,13 +73,13 @@ returns c =
 flatten-requires : tie.Need-flatten-requires
 flatten-requires c κs =
     let a = c .before .before .before .before .before .before .before .before .before .before .before .before .before .before in
-    let w = wide (a .args .d) (length (a .args .labels .now)) (length (a .args .blocks .now)) _
+    let w = room-both (a .args .d) (length (a .args .labels .now)) (length (a .args .blocks .now)) _
     (c .before .before .before .before .before .before .before .has-room .ensures)
     (not-false _ (c .before .before .before .before .before .before .if1 .left)) in
     ((a .pre .0 .0, a .pre .0 .1, w .0, w .1), a .pre .1)
 
-wipe-requires-2 : tie.Need-wipe-requires-2
-wipe-requires-2 c κs = search needs
+clear-four-requires-2 : tie.Need-clear-four-requires-2
+clear-four-requires-2 c κs = search needs
 
 number-requires : tie.Need-number-requires
 number-requires c κs = search needs
@@ -103,18 +95,18 @@ same-length-6 c =
     .before .before .before .before .before .before .flatten .kept .1 .1 .1 .1 .0
 
 same-length-7 : tie.Need-same-length-7
-same-length-7 c = c .before .before .before .before .before .before .before .before .before .wipe2 .kept .0
+same-length-7 c = c .before .before .before .before .before .before .before .before .before .clear-four2 .kept .0
 
 same-length-8 : tie.Need-same-length-8
-same-length-8 c = c .before .before .before .before .before .before .before .before .before .wipe2 .kept .1 .0
+same-length-8 c = c .before .before .before .before .before .before .before .before .before .clear-four2 .kept .1 .0
 
 same-length-9 : tie.Need-same-length-9
-same-length-9 c = c .before .before .before .before .before .before .before .before .before .wipe2 .kept .1 .1 .0 ∙
+same-length-9 c = c .before .before .before .before .before .before .before .before .before .clear-four2 .kept .1 .1 .0 ∙
     c .before .before .before .before .before .before .before .before .before .before .before .before .before .before .before .before
     .before .before .before .before .before .before .flatten .kept .1 .1 .1 .1 .1 .0
 
 same-length-10 : tie.Need-same-length-10
-same-length-10 c = c .before .before .before .before .before .before .before .before .before .wipe2 .kept .1 .1 .1 .0 ∙
+same-length-10 c = c .before .before .before .before .before .before .before .before .before .clear-four2 .kept .1 .1 .1 .0 ∙
     c .before .before .before .before .before .before .before .before .before .before .before .before .before .before .before .before
     .before .before .before .before .before .before .flatten .kept .1 .1 .1 .1 .1 .1 .0
 
@@ -125,7 +117,7 @@ returns-2 c =
     .before .before .before .before .before .before in
     let f = c .before .before .before .before .before .before .before .before .before .before .before .before .before .before .before
     .before .before .before .before .before .before .before .flatten in
-    let w = c .before .before .before .before .before .before .before .before .before .wipe2 .ensures in
+    let w = c .before .before .before .before .before .before .before .before .before .clear-four2 .ensures in
     finish-done (a .args .d) (signature (Pushed a)) (Out a) (Works a) _ _ _
     (room a _ true
     (c .before .before .before .before .before .before .before .before .before .before .before .before .before .before .before .before
@@ -143,7 +135,7 @@ sign-spec =
     tie.close
     (tie.spec
     has-room-requires
-    wipe-requires
+    clear-four-requires
     refuse-requires
     refusing-number-requires
     same-length
@@ -152,7 +144,7 @@ sign-spec =
     same-length-4
     returns
     flatten-requires
-    wipe-requires-2
+    clear-four-requires-2
     number-requires
     same-length-5
     same-length-6

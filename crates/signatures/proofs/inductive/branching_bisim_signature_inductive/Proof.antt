@@ -18,7 +18,7 @@ use Rattle.partition.specs.Readers.{unmarkedb}
 use Rattle.partition.proofs.Marks.{block-known}
 use Rattle.signatures.specs.Inductive.{markedBy, inductivePushed, inductiveSignature, branchingBisimSignatureInductive}
 use Rattle.signatures.specs.Pairs.{Columns, signature}
-use Rattle.signatures.specs.Signing.{roomy, signatureRefusal}
+use Rattle.signatures.specs.Signing.{worksFit, signatureRefusal}
 use Rattle.signatures.proofs.Outcomes.{signing-refused, signing-on}
 use Rattle.columns.proofs.TwoColumns.{length-pairs}
 use Rattle.table_partition.proofs.Refusals.{BothReady, both-ready}
@@ -46,7 +46,7 @@ abbrev Keys : tie.Start → Bool
 Keys a = leb (a .args .table .n) (length (a .args .state-to-key .now))
 
 abbrev R : tie.Start → Refusal
-R a = signatureRefusal (L a) (P a) (a .args .state) (Keys a && roomy (L a) (Works a))
+R a = signatureRefusal (L a) (P a) (a .args .state) (Keys a && worksFit (L a) (Works a))
 
 abbrev Pushed : tie.Start → List Pair
 Pushed a = inductivePushed (L a) (a .args .element-to-block .now) (λ u. not (unmarkedb (P a) u)) (a .args .state-to-key .now)
@@ -73,7 +73,7 @@ start q =
 
 -- the checks have answered R
 answered : (q : tie.After-argument-refusal) → q .argument-refusal .result ≡ R (start q)
-unfolding roomy signatureRefusal
+unfolding worksFit signatureRefusal
 answered q =
     q .argument-refusal .ensures
     ∙ ap (λ (b : Bool). signatureRefusal (L (start q)) (P (start q)) (start q .args .state) (Keys (start q) && b))
@@ -82,20 +82,20 @@ answered q =
 -- and where they refuse nothing
 ready : (q : tie.After-argument-refusal) → q .argument-refusal .result .number ≡ 0
     → BothReady (L (start q)) (P (start q)) (start q .args .state) (start q .args .table .n)
-    (Keys (start q) && roomy (L (start q)) (Works (start q)))
+    (Keys (start q) && worksFit (L (start q)) (Works (start q)))
 unfolding signatureRefusal
 ready q z = both-ready (L (start q)) (P (start q)) refl (start q .args .state) (start q .args .table .n)
-    (Keys (start q) && roomy (L (start q)) (Works (start q))) _ (answered q) z
+    (Keys (start q) && worksFit (L (start q)) (Works (start q))) _ (answered q) z
 
 wide : (q : tie.After-argument-refusal) → q .argument-refusal .result .number ≡ 0
     → Wide (L (start q)) (Works (start q))
 wide q z =
     wide-of (L (start q)) (Works (start q))
-    (and-right (Keys (start q)) (roomy (L (start q)) (Works (start q))) (ready q z .enough))
+    (and-right (Keys (start q)) (worksFit (L (start q)) (Works (start q))) (ready q z .enough))
 
 keyed : (q : tie.After-argument-refusal) → q .argument-refusal .result .number ≡ 0 →
     start q .args .table .n ≤ length (start q .args .state-to-key .now)
-keyed q z = leb-true _ _ (and-left (Keys (start q)) (roomy (L (start q)) (Works (start q))) (ready q z .enough))
+keyed q z = leb-true _ _ (and-left (Keys (start q)) (worksFit (L (start q)) (Works (start q))) (ready q z .enough))
 
 cast-n : tie.Need-cast-n
 cast-n c = search needs

@@ -12,7 +12,7 @@ use Rattle.columns.specs.Rows.{pairsOf}
 use Rattle.columns.specs.Sets.{Pair}
 use Rattle.partition.specs.Partition.{Partition, parts}
 use Rattle.signatures.specs.Pairs.{Columns, signature}
-use Rattle.signatures.specs.Signing.{roomy, signatureRefusal}
+use Rattle.signatures.specs.Signing.{worksFit, signatureRefusal}
 use Rattle.signatures.specs.Strong.{strongPushed, strongSignature, strongBisimSignature}
 use Rattle.signatures.proofs.Outcomes.{signing-refused, signing-on}
 use Rattle.columns.proofs.TwoColumns.{length-pairs}
@@ -38,7 +38,7 @@ abbrev Works : tie.Start → List (List ℕ)
 Works a = a .args .pushed-labels .now ∷ a .args .pushed-blocks .now ∷ a .args .order .now ∷ a .args .spare .now ∷ []
 
 abbrev R : tie.Start → Refusal
-R a = signatureRefusal (L a) (P a) (a .args .state) (roomy (L a) (Works a))
+R a = signatureRefusal (L a) (P a) (a .args .state) (worksFit (L a) (Works a))
 
 abbrev Pushed : tie.Start → List Pair
 Pushed a = strongPushed (L a) (a .args .element-to-block .now) (a .args .state)
@@ -54,17 +54,18 @@ start q =
 
 -- the checks have answered R
 answered : (q : tie.After-argument-refusal) → q .argument-refusal .result ≡ R (start q)
-unfolding roomy signatureRefusal
+unfolding worksFit signatureRefusal
 answered q =
     q .argument-refusal .ensures
     ∙ ap (λ (b : Bool). signatureRefusal (L (start q)) (P (start q)) (start q .args .state) b) (q .before .works-long .ensures)
 
 -- and where they refuse nothing
 ready : (q : tie.After-argument-refusal) → q .argument-refusal .result .number ≡ 0
-    → BothReady (L (start q)) (P (start q)) (start q .args .state) (start q .args .table .n) (roomy (L (start q)) (Works (start q)))
+    → BothReady (L (start q)) (P (start q)) (start q .args .state) (start q .args .table .n) (worksFit (L (start q)) (Works (start q)))
 unfolding signatureRefusal
 ready q z =
-    both-ready (L (start q)) (P (start q)) refl (start q .args .state) (start q .args .table .n) (roomy (L (start q)) (Works (start q))) _
+    both-ready (L (start q)) (P (start q)) refl (start q .args .state) (start q .args .table .n) (worksFit (L (start q)) (Works (start
+    q))) _
     (answered q) z
 
 wide : (q : tie.After-argument-refusal) → q .argument-refusal .result .number ≡ 0

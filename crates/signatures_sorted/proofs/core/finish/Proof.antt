@@ -34,8 +34,8 @@ write-set-requires c κs =
     c .before .before .before .before .before .before .before .before .before .before .before .before .before .before .before .before
     .before .before .before .before .pre
 
-wipe-requires : tie.Need-wipe-requires
-wipe-requires c κs = search needs
+clear-four-requires : tie.Need-clear-four-requires
+clear-four-requires c κs = search needs
 
 clear-requires : tie.Need-clear-requires
 clear-requires c κs = search needs
@@ -53,7 +53,7 @@ wrote c =
     .before .before .before .before .before .before .before .before .before .before .before .before .before .before .before .before .before
     .before .before .before .before .before .before
 
-abbrev wiped : tie.After-slice-known23 → tie.After-wipe
+abbrev wiped : tie.After-slice-known23 → tie.After-clear-four
 wiped c =
     c .before .before .before .before .before .before .before .before .before .before .before .before .before .before .before .before
     .before .before .before .before
@@ -74,16 +74,16 @@ same-length-2 : tie.Need-same-length-2
 same-length-2 c = wrote c .write-set .kept .1 .1 .1 .1 .0
 
 same-length-3 : tie.Need-same-length-3
-same-length-3 c = wiped c .wipe .kept .0 ∙ wrote c .write-set .kept .1 .1 .1 .1 .1 .0
+same-length-3 c = wiped c .clear-four .kept .0 ∙ wrote c .write-set .kept .1 .1 .1 .1 .1 .0
 
 same-length-4 : tie.Need-same-length-4
-same-length-4 c = wiped c .wipe .kept .1 .0 ∙ wrote c .write-set .kept .1 .1 .1 .1 .1 .1 .0
+same-length-4 c = wiped c .clear-four .kept .1 .0 ∙ wrote c .write-set .kept .1 .1 .1 .1 .1 .1 .0
 
 same-length-5 : tie.Need-same-length-5
-same-length-5 c = wiped c .wipe .kept .1 .1 .0 ∙ wrote c .write-set .kept .1 .1 .1 .1 .1 .1 .1 .0
+same-length-5 c = wiped c .clear-four .kept .1 .1 .0 ∙ wrote c .write-set .kept .1 .1 .1 .1 .1 .1 .1 .0
 
 same-length-6 : tie.Need-same-length-6
-same-length-6 c = wiped c .wipe .kept .1 .1 .1 .0 ∙ wrote c .write-set .kept .1 .1 .1 .1 .1 .1 .1 .1 .0
+same-length-6 c = wiped c .clear-four .kept .1 .1 .1 .0 ∙ wrote c .write-set .kept .1 .1 .1 .1 .1 .1 .1 .1 .0
 
 same-length-7 : tie.Need-same-length-7
 same-length-7 c = first c .clear .kept .0
@@ -101,7 +101,7 @@ returns c =
     .before .before .before .before .before .before .before .before .before .before .before .before .before .before .before .before
     .before .before .before .before .before .before .before .before .before .before .before .before .before in
     let k = wrote c .write-set .kept in
-    let w = wiped c .wipe .ensures in
+    let w = wiped c .clear-four .ensures in
     finished (a .args .taken .pushed) (Pairs a) (Out a) _ _ (Works a) _ (wrote c .write-set .ensures)
     (zeroed-of _ (Works a) (
       w .0 .0 ∙ ap zeros (k .1 .1 .1 .1 .1 .0),
@@ -128,7 +128,7 @@ finish-spec =
     tie.close
     (tie.spec
     write-set-requires
-    wipe-requires
+    clear-four-requires
     clear-requires
     clear-requires-2
     clear-requires-3

@@ -1,21 +1,20 @@
 -- `core.write_set` meets its contract.
 use borrow.Author.Needs.{needs}
-use borrow.Author.Tests.{not-true, not-false, leb-true}
+use borrow.Author.Tests.{not-true, not-false}
 use native.Mathlib.Omega.{arith}
-use Prim.Native.Nat.{ℕ, _≤_}
+use Prim.Native.Nat.{ℕ}
 use mathlib.Core.Path.{_≡_, sym, ap, _∙_}
 use mathlib.Core.Bool.{Bool, true, false}
 use mathlib.Core.List.{List, [], _∷_}
-use lib.Dec.{leb}
 use lib.ListN.{length}
 use Rattle.columns.specs.Answers.{done, refused}
 use Rattle.columns.specs.Sets.{Pair}
-use Rattle.columns.proofs.Bools.{and-left, and-right}
 use Rattle.pairs_merge.specs.Merged.{heads}
 use Rattle.signatures.specs.Pairs.{Columns, fits, roomFor}
 use Rattle.signatures_sorted.specs.Joining.{jointSet}
 use Rattle.signatures_sorted.proofs.Emptied.{wrote-none, wrote-all}
 use Rattle.signatures_sorted.proofs.core.write_set.Statement.{statement}
+use Rattle.signatures.proofs.Works.{room-both}
 use Rattle.signatures_sorted.proofs.core.write_set.Tie as tie
 
 -- the set that is to be written, and the columns that it goes to
@@ -35,11 +34,6 @@ room : (a : tie.Start) (r t : Bool) → r ≡ roomFor (a .args .taken .pushed) (
     → fits (a .args .taken .pushed) (Out a) ≡ t
 unfolding fits
 room a r t e f = sym e ∙ f
-
-wide : (d l b : ℕ) (r : Bool) → r ≡ roomFor d l b → r ≡ true → (d ≤ l) × (d ≤ b)
-unfolding roomFor
-wide d l b r e f =
-    (leb-true d l (and-left (leb d l) (leb d b) (sym e ∙ f)), leb-true d b (and-right (leb d l) (leb d b) (sym e ∙ f)))
 
 has-room-requires : tie.Need-has-room-requires
 has-room-requires c κs = search needs
@@ -62,7 +56,7 @@ join-requires c κs =
     let a = c .before .before .before .before .before .before .before .before .before .before .before .before .before .before .before
     .before .before .before .before .before in
     let p = a .pre in
-    let w = wide (a .args .taken .pushed) (length (a .args .labels .now)) (length (a .args .blocks .now)) _
+    let w = room-both (a .args .taken .pushed) (length (a .args .labels .now)) (length (a .args .blocks .now)) _
     (c .before .before .before .before .before .before .before .before .has-room .ensures)
     (not-false _ (c .before .before .before .before .before .before .before .if1 .left)) in
     (p .0, (p .1 .0, (omega (arith, p .1 .1, w .0), omega (arith, p .1 .1, w .1))))

@@ -1,6 +1,6 @@
 -- `core.push_successors` meets its contract.
 use borrow.Author.Needs.{scaled-fits}
-use mathlib.Core.Path.{_≡_, refl, _∙_}
+use mathlib.Core.Path.{_≡_, refl}
 use native.Mathlib.Omega.{arith}
 use Prim.Native.Nat.{_≤_, _-_}
 use lib.ListN.{length, getD, length-set}

@@ -1,7 +1,7 @@
 -- `block.Block.has_unmarked` meets its contract.
 use borrow.Author.Needs.{needs}
-use borrow.Author.Tests.{lt-ltb, le-ltb, le-leb, lt-leb, not-true, not-false}
-use mathlib.Core.Path.{_≡_, refl, sym, ap, _∙_}
+use borrow.Author.Tests.{not-true, not-false}
+use mathlib.Core.Path.{sym, _∙_}
 use Rattle.partition.specs.Block.{hasUnmarked}
 use Rattle.partition.proofs.block.Block.has_unmarked.Statement.{statement}
 use Rattle.partition.proofs.block.Block.has_unmarked.Tie as tie

@@ -1,7 +1,7 @@
 -- `block.Block.len_marked` meets its contract.
 use borrow.Author.Needs.{needs}
-use borrow.Author.Tests.{lt-ltb, le-ltb, le-leb, lt-leb, not-true, not-false}
-use mathlib.Core.Path.{_≡_, refl, sym, ap, _∙_}
+use borrow.Author.Tests.{not-true, not-false}
+use mathlib.Core.Path.{sym, _∙_}
 use Rattle.partition.specs.Block.{lenMarked}
 use native.Mathlib.Omega.{arith}
 use Rattle.partition.proofs.Holds.{sound-of}

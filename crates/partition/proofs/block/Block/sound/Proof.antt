@@ -1,7 +1,5 @@
-use borrow.Author.Tests.{lt-ltb, le-ltb, le-leb, lt-leb, eq-eqb, ne-eqb, not-true, not-false}
-use mathlib.Core.Path.{_≡_, refl, sym, ap, _∙_}
-use native.Mathlib.Omega.{arith}
-use Rattle.partition.specs.Block.{soundb}
+-- `sound` meets its contract.
+use Rattle.partition.specs.Block.{boundedb}
 use borrow.Author.Needs.{needs}
 use Rattle.partition.proofs.block.Block.sound.Statement.{statement}
 use Rattle.partition.proofs.block.Block.sound.Tie as tie
@@ -19,7 +17,7 @@ within-requires : tie.Need-within-requires
 within-requires c κs = search needs
 
 returns : tie.Need-returns
-unfolding soundb
+unfolding boundedb
 returns c = c .within .ensures
 
 pub sound-spec : {M : Type 1} → statement M

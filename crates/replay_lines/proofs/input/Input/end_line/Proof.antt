@@ -1,7 +1,7 @@
 -- `input::Input::end_line` meets its contract: a line that does not end here is not good.
 use borrow.Author.Needs.{needs}
 use mathlib.Core.Bool.{cond, false}
-use mathlib.Core.Path.{_≡_, ap, sym, _∙_}
+use mathlib.Core.Path.{ap, sym, _∙_}
 use Rattle.replay_lines.proofs.input.Input.end_line.Statement.{statement}
 use Rattle.replay_lines.proofs.input.Input.end_line.Tie as tie
 
