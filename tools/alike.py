@@ -62,7 +62,7 @@ def by_renumbering(values, rust, due):
     if not rust.startswith('done'):
         return False
     *columns, each = slices_of(rust)
-    number_of, _, _ = quotients.reordered(values['n'], plain.rows(values), values['eliminate'])
+    number_of, _, _ = quotients.reordered(values['n'], plain.rows(values), values['eliminate_tau_selfloops'])
     there = renaming(each, number_of)
     (n, labels, m, initial, state), dues = numbers_of(rust), slices_of(due)
     if there is None or set(there) != set(range(n)):

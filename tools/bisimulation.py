@@ -7,7 +7,6 @@ from itertools import combinations
 from plain import over, rows
 from quotients import between, header, laid
 
-RESULT_ROWS = ('result_source', 'result_label', 'result_target')
 # Up to so many states all pairs are tried; beyond it the blocks are those of the rounds.
 MOST_IN_PAIRS = 48
 
@@ -95,4 +94,4 @@ def strong_reduction(v):
     numbers, number = reduced(v['n'], rows(v))
     left = between(rows(v), numbers, False, False)
     answer = [*header(v, max(numbers) + 1, left, numbers[v['initial']]), number]
-    return answer, {**laid(v, left, RESULT_ROWS), 'state_blocks': over(numbers, v['state_blocks'])}
+    return answer, {**laid(v, left), 'state_blocks': over(numbers, v['state_blocks'])}

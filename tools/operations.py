@@ -61,7 +61,7 @@ RECORDS_ROOM = 4096
 # The slices of bytes, and of u32; every other one is of u16.
 BYTES = ('text', 'choice', 'bytes', 'input', 'output')
 WIDE = ('starts',)
-FLAGS = ('hidden', 'reversed', 'eliminate_inert_taus', 'eliminate_tau_loops', 'branching', 'eliminate')
+FLAGS = ('hidden', 'reversed', 'eliminate_inert_taus', 'eliminate_tau_loops', 'branching', 'eliminate_tau_selfloops')
 # The slices of block records, each (begin, marked_split, end).
 RECORDS = ('blocks',)
 
@@ -229,10 +229,11 @@ ALL = (
              computed=quotients.remove_redundant_transitions),
     reducing('tau_scc_decomposition', (), {'numbers': a_state}, TURNED, computed=quotients.tau_scc_decomposition,
              alike=alike.by_classes),
-    reducing('tau_cycle_elimination_and_reorder', ('state', 'eliminate'), RESULT_ROWS, CYCLES, takes=('state',),
-             asked=few_states, computed=quotients.tau_cycle_elimination_and_reorder, alike=alike.by_renumbering),
-    reducing('strong_reduction', (), {**dict.fromkeys(bisimulation.RESULT_ROWS, a_row), 'state_blocks': a_state},
-             REDUCING, has_rust=False, computed=bisimulation.strong_reduction),
+    reducing('tau_cycle_elimination_and_reorder', ('state', 'eliminate_tau_selfloops'), RESULT_ROWS, CYCLES,
+             takes=('state',), asked=few_states, computed=quotients.tau_cycle_elimination_and_reorder,
+             alike=alike.by_renumbering),
+    reducing('strong_reduction', (), {**RESULT_ROWS, 'state_blocks': a_state}, REDUCING, has_rust=False,
+             computed=bisimulation.strong_reduction),
     on_file('read_file', ('bytes',) + ROWS,
             (plain_file.contents('bytes'), plain_file.in_file('bytes', *plain_file.HEADER), refusals.short(FILE_ROWS),
              plain_file.in_file('bytes', refusals.each_row)),

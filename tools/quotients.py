@@ -1,13 +1,13 @@
 """Quotients, rows that can go and hidden cycles, computed plainly from document 01: numbers, and slices at return."""
 from plain import over, rows
 
-RESULT_ROWS = ('x', 'y', 'z')
+RESULT_ROWS = ('result_source', 'result_label', 'result_target')
 
 
-def laid(v, left, columns=RESULT_ROWS):
+def laid(v, left):
     """The result columns with these rows in their first places, ascending, each once."""
     ordered = sorted(set(left))
-    return {column: over([row[field] for row in ordered], v[column]) for field, column in enumerate(columns)}
+    return {column: over([row[field] for row in ordered], v[column]) for field, column in enumerate(RESULT_ROWS)}
 
 
 def header(v, n, left, initial):
@@ -165,5 +165,5 @@ def reordered(n, table, eliminate):
 
 
 def tau_cycle_elimination_and_reorder(v):
-    number_of, count, left = reordered(v['n'], rows(v), v['eliminate'])
+    number_of, count, left = reordered(v['n'], rows(v), v['eliminate_tau_selfloops'])
     return [*header(v, count, left, number_of[v['initial']]), number_of[v['state']]], laid(v, left)
