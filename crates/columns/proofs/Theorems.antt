@@ -16,7 +16,7 @@ pub use Rattle.columns.proofs.Orders.{ltb-order, pair-order, row-order}
 -- The one sort: its result is sorted, has the same members as often, keeps the order of equal keys, and no other list is all of this.
 pub use Rattle.columns.proofs.Sorts.{sort-sorted}
 pub use Rattle.columns.proofs.Facts.{sort-perm}
-pub use Rattle.columns.proofs.Stable.{sort-stable, sorted-unique, sort-twice}
+pub use Rattle.columns.proofs.Stable.{sort-stable, sort-unique, sort-twice}
 -- A set is one ascending list. The rows that are picked once sorted are the set of the rows.
 pub use Rattle.columns.proofs.Sets.{ascending-unique, collect-in, collect-out, collect-ascending}
 pub use Rattle.columns.proofs.RowSets.{picked-rows}

@@ -16,7 +16,7 @@ use Rattle.columns.proofs.Laid.{laid-cong}
 use Rattle.columns.proofs.Lists.{listed-at}
 use Rattle.table.specs.Lts.{Lts}
 use Rattle.file.specs.Bytes.{little, bytesOf, words}
-use Rattle.file.specs.Layout.{inputHeader, inputRows, rowSize, firstSource, firstLabel, firstTarget}
+use Rattle.file.specs.Layout.{inputHeader, inputRows, rowSize, firstSource, firstLabel, firstTarget, largestInput, largestOutput}
 use Rattle.file.specs.Input.{headerIn, column, tableIn, fileRefusal}
 use Rattle.file.specs.Output.{
   headerBytes,
@@ -153,10 +153,10 @@ module _ (s columns : List ℕ) where
       ∙ of-accepted (inputBytes (f .table)) columns (accepted-input (f .table) (f .valid) columns (f .room))
 
   -- An input file has at most 49,182 bytes.
-  pub input-size : fileRefusal s columns .number ≡ 0 → length s ≤ 49182
+  pub input-size : fileRefusal s columns .number ≡ 0 → length s ≤ largestInput
   unfolding tableIn
   input-size z = let p = accepted-of s columns _ refl z in omega (arith, p .contents .size, p .valid .few-rows)
 
 -- An output file has at most 57,384.
-pub output-size : (t : Lts) (k blocks room : ℕ) → writeRefusal t k blocks room .number ≡ 0 → outputSize (t .m) k ≤ 57384
+pub output-size : (t : Lts) (k blocks room : ℕ) → writeRefusal t k blocks room .number ≡ 0 → outputSize (t .m) k ≤ largestOutput
 output-size t k blocks room z = let w = writable t k blocks room _ refl z in omega (arith, w .few, w .valid .few-rows)

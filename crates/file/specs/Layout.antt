@@ -75,6 +75,13 @@ firstLabel = 32
 abbrev pub firstTarget : ℕ
 firstTarget = 34
 
+-- the longest files
+abbrev pub largestInput : ℕ
+largestInput = 49182
+
+abbrev pub largestOutput : ℕ
+largestOutput = 57384
+
 -- an output file: how many entries its contents have, and its first two bodies
 abbrev pub outputEntries : ℕ
 outputEntries = 3

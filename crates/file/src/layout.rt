@@ -63,3 +63,6 @@ pub const BLOCKS_ENTRY: usize = 22;
 pub const OUTPUT_HEADER: usize = 32;
 
 pub const OUTPUT_ROWS: usize = 40;
+
+// How long an output file is at most.
+pub const LARGEST_OUTPUT: usize = 57384;

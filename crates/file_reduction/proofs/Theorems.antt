@@ -17,7 +17,7 @@ use Rattle.columns.proofs.Doing.{leaving-done}
 use Rattle.columns.proofs.Saying.{left-done}
 use Rattle.file.specs.Bytes.{little}
 use Rattle.file.specs.Input.{tableIn, contentsTests, fileTests, fileRefusal}
-use Rattle.file.specs.Layout.{blockSize}
+use Rattle.file.specs.Layout.{blockSize, largestOutput}
 use Rattle.file.specs.Output.{FileOf, outputBlocks, outputBytes}
 use Rattle.file.proofs.Inputs.{accepted-of}
 use Rattle.file.proofs.Outputs.{length-output}
@@ -136,7 +136,7 @@ bytes-fit input output left b rest e = fits input output left (b ∷ rest) (sym 
 
 -- ---- A table's file is never refused where the output has the room that document 01 names.
 pub never-refused :
-    (input output : List ℕ) → FileOf input [] → 57384 ≤ length output
+    (input output : List ℕ) → FileOf input [] → largestOutput ≤ length output
     → reduceFile input output ≡ (done (fileNumbers (tableIn input)), over (reducedBytes (tableIn input)) output)
 unfolding reduceFile fileRefusal
 never-refused input output file long =

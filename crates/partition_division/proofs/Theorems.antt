@@ -38,6 +38,8 @@ use Rattle.partition_division.proofs.PartitionMarked.{
   partitionMarked-last,
 }
 use Rattle.partition_division.proofs.Unfit.{division-ready}
+-- How many blocks there are then.
+pub use Rattle.partition_division.proofs.Others.{count-alone, count-marked, count-all}
 
 -- block j is a result: the old index, or a new one at the end
 abbrev pub Result : Partition → ℕ → Partition → ℕ → Type 0

@@ -152,13 +152,6 @@ module _ (p : Partition) (b : ℕ) (c : List ℕ) (g : Sound p) (w : b < p .coun
       (λ (t : splitsb p b c ≡ false). ap (λ (y : List ℕ). getD y s 0) (table-stays p b c t .element-to-block))
       (cases (splitsb p b c))
 
-  -- so nobody else is in the new block
-  pub only-taken-move : (s : ℕ) → s < p .n → getD (split p b c .element-to-block) s 0 ≡ p .count → taken p b c s ≡ true
-  only-taken-move s ws q =
-      ⊎-elim (λ (k : taken p b c s ≡ true). k)
-      (λ (k : taken p b c s ≡ false). absurd (omega (arith, untaken-stay s ws k, g .consistent .lies s ws .known)))
-      (cases (taken p b c s))
-
   -- ---- when a split happens: some state of the block is taken, and some is not
   pub split-happens : (s t : ℕ) → s < p .n → t < p .n → taken p b c s ≡ true → block t ≡ b → taken p b c t ≡ false → splitsb p b c ≡ true
   unfolding splitsb

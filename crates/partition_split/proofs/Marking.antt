@@ -9,14 +9,14 @@ use mathlib.Core.Logic.{⊎-elim}
 use mathlib.Core.List.{List}
 use lib.ListN.{getD}
 use lib.Dec.{ltb}
-use Rattle.columns.proofs.Bools.{cases, fails}
+use Rattle.columns.proofs.Bools.{cases}
 use Rattle.partition.specs.Partition.{Partition, Sound}
 use Rattle.partition.specs.Readers.{unmarkedb}
 use Rattle.partition_split.specs.Split.{siftedIn, reordered, splitsb, split, taken}
-use Rattle.partition_split.proofs.Homes.{marked-of, taken-home, taken-stands, taken-move, untaken-stands, untaken-stay}
+use Rattle.partition_split.proofs.Homes.{marked-of, taken-stands, taken-move, untaken-stands, untaken-stay}
 use Rattle.partition_split.proofs.Reordering.{marked-stay, marked-home, unmoved}
 use Rattle.partition_split.proofs.Sieves.{inside}
-use Rattle.partition_split.proofs.Splits.{sifted-of, split-stays, split-offset, others-stay, split-old-block, split-new-block}
+use Rattle.partition_split.proofs.Splits.{sifted-of, split-stays, split-offset, split-old-block, split-new-block}
 
 module _ (p : Partition) (b : ℕ) (c : List ℕ) (g : Sound p) (w : b < p .count) (s : ℕ) (ws : s < p .n) where
   abbrev block : ℕ
@@ -39,17 +39,6 @@ module _ (p : Partition) (b : ℕ) (c : List ℕ) (g : Sound p) (w : b < p .coun
       (λ (out : getD (p .marked-split) b 0 ≤ stood → stood < getD (p .end) b 0 → ⊥).
       ap (λ (y : ℕ). ltb y (getD (p .marked-split) block 0)) (unmoved p b c g w s ws out))
       (inside (getD (p .marked-split) b 0) stood (getD (p .end) b 0))
-
-  pub marks-others : (block ≡ b → ⊥) → unmarkedb (split p b c) s ≡ unmarkedb p s
-  unfolding unmarkedb
-  marks-others far =
-      let k : taken p b c s ≡ false = fails (λ k. far (taken-home p b c s k)) in
-      let same = others-stay p b c g w block (g .consistent .lies s ws .known) far in
-      ap (λ (y : List ℕ). ltb (getD y s 0) (getD (split p b c .marked-split) (getD (split p b c .element-to-block) s 0) 0))
-      (split-offset p b c)
-      ∙ ap (λ (y : ℕ). ltb stands (getD (split p b c .marked-split) y 0)) (untaken-stay p b c g w s ws k)
-      ∙ ap (λ (y : ℕ). ltb stands y) (same .entry .marked-split)
-      ∙ ap (λ (y : ℕ). ltb y (getD (p .marked-split) block 0)) (unmoved p b c g w s ws (λ a y. far (marked-home p b c g w s ws a y)))
 
   pub marks-cleared : splitsb p b c ≡ true → block ≡ b → unmarkedb (split p b c) s ≡ true
   unfolding unmarkedb

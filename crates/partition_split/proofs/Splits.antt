@@ -11,7 +11,7 @@ use lib.ListN.{getD}
 use lib.Dec.{eqb}
 use Rattle.columns.specs.Answers.{bit}
 use Rattle.columns.proofs.All.{not-below}
-use Rattle.columns.proofs.Bools.{cases, fails, and-left, and-right, and-both, and-no-left, and-no-right}
+use Rattle.columns.proofs.Bools.{cases, and-left, and-right, and-both, and-no-left, and-no-right}
 use Rattle.partition.specs.Partition.{Partition, Sound}
 use Rattle.partition.proofs.Owned.{owned}
 use Rattle.partition_split.specs.Split.{siftedIn, reordered, cut, makesBlock, splitsb, split}
@@ -85,10 +85,6 @@ module _ (p : Partition) (b : ℕ) (c : List ℕ) where
       (λ (t : splitsb p b c ≡ false). subst P (sym (split-stays t)) (stays t))
       (cases (splitsb p b c))
 
-  pub split-n : split p b c .n ≡ p .n
-  unfolding reordered cut
-  split-n = by-case (λ q. q .n ≡ p .n) (λ t. refl) (λ t. refl)
-
   pub split-elements : split p b c .elements ≡ siftedIn p b c .elements
   unfolding reordered cut
   split-elements = by-case (λ q. q .elements ≡ siftedIn p b c .elements) (λ t. refl) (λ t. refl)
@@ -124,10 +120,6 @@ module _ (p : Partition) (b : ℕ) (c : List ℕ) where
     pub split-sound : Sound (split p b c)
     unfolding reordered
     split-sound = by-case Sound (λ t. let a = apart t in cut-sound sifted-of s b w place-of (a .0) (a .1)) (λ t. s)
-
-    -- a block of one state is not split
-    pub lone-stays : getD (p .end) b 0 ≡ getD (p .begin) b 0 + 1 → splitsb p b c ≡ false
-    lone-stays one = fails (λ t. omega (arith, apart t, one))
 
     -- ---- what stays
     pub outside-stays : (k : ℕ) → (getD (p .marked-split) b 0 ≤ k → k < getD (p .end) b 0 → ⊥) →

@@ -17,6 +17,8 @@ use Rattle.quotient.specs.Naive.{inertStep, tauLoop, stays, naiveRows}
 use Rattle.quotient.proofs.Kept.{kept-valid}
 use Rattle.table.specs.Lts.{Lts, rows, Valid}
 use Rattle.table.specs.Tables.{tableOf}
+-- What a call that is done has answered and left: these rows, over the first cells, with their header, and the work zero.
+pub use Rattle.quotient.proofs.Calls.{naive-done}
 
 -- ---- the switches
 -- no row is of both kinds

@@ -22,6 +22,10 @@ use Rattle.quotient_block.proofs.Returns.{Returning, lost-exactly}
 use Rattle.quotient_block.proofs.Walks.{walked-state, walked-home, found-walked, found-bottom}
 use Rattle.table.specs.Lts.{Lts, rows, Valid}
 use Rattle.table.specs.Tables.{tableOf}
+-- What a call that is done has answered and left.
+pub use Rattle.quotient_block.proofs.Calls.{block-call-done}
+-- A bottom state is one from which no hidden row leads to another state of the block; each step of the walk goes along one, until then.
+pub use Rattle.quotient_block.proofs.Walks.{bottom-exactly, walked-on}
 
 -- ---- the state chosen for a block
 module _ (t : Lts) (home elements begin : List ℕ) (count : ℕ) (v : Valid t) (k : Choosable (t .n) count elements home begin) where

@@ -8,12 +8,10 @@ use crate::input::read_input;
 use crate::line::failed;
 use crate::line::say_reduced;
 use crate::line::say_refused;
+use file::layout::LARGEST_OUTPUT;
 use file_reduction::answers::FileOutcome;
 use file_reduction::reduce_file;
 use libc::STDOUT_FILENO;
-
-// How long an output file is at most.
-const OUTPUT: usize = 57384;
 
 // Writes a file to standard output, and says whether all of it is written.
 fn write_output(file: &[u8]) -> bool {
@@ -25,7 +23,7 @@ fn write_output(file: &[u8]) -> bool {
 
 // Reduces what was read, and writes the result if there is one.
 fn reduce_input(input: &[u8]) {
-    let mut output = [0u8; OUTPUT];
+    let mut output = [0u8; LARGEST_OUTPUT];
     let answer = reduce_file(input, &mut output);
     let outcome = answer.outcome;
     match outcome {

@@ -150,7 +150,8 @@ module _ (t : Lts) (given left : Slices) (values : List ℕ) (e : strongReductio
   -- The two starts are bisimilar.
   pub starts-bisimilar : Bisimilar (rows t) (rows result) (t .initial) (result .initial)
   starts-bisimilar =
-      subst (λ (b : ℕ). Bisimilar (rows t) (rows result) (t .initial) b) (sym start-to-start) (state-and-block (t .initial) (valid .initial))
+      subst (λ (b : ℕ). Bisimilar (rows t) (rows result) (t .initial) b) (sym start-to-start)
+      (state-and-block (t .initial) (valid .initial))
 
   -- The blocks are the states of what is answered: each state has one of them, and each of them a state. The labels are as they were.
   pub block-below : (s : ℕ) → s < t .n → block s < result .n

@@ -59,22 +59,6 @@ module _ (n : ℕ) (sig : Signature) (p : List ℕ) (count : ℕ) where
   }
 
   module _ (b : ℕ) (q : List ℕ) (h : RefinedBelow n sig p count b q) where
-    -- ---- a block in which all states have one signature is passed over
-    pub below-skip :
-        ((s t : ℕ) → s < n → t < n → blockOf p s ≡ b → blockOf p t ≡ b → sig p s ≡ sig p t) → b < count
-        → RefinedBelow n sig p count (b + 1) q
-    below-skip one w = record {
-      block = h .block;
-      signature = λ s t hs ht e l.
-          ⊎-elim (λ (i : blockOf p s ≡ b). one s t hs ht i (sym (h .block s t hs ht e) ∙ i))
-          (λ i. h .signature s t hs ht e (omega (arith, l, i))) (same-or-not (blockOf p s) b);
-      joined = λ s t hs ht e f. h .joined s t hs ht e (λ l. f (omega (arith, l)));
-      coming = λ s hs l. h .coming s hs (omega (arith, l));
-      passed = λ s hs l.
-          ⊎-elim (λ (i : blockOf p s ≡ b). inl (omega (arith, h .coming s hs (omega (arith, i)), i)))
-          (λ i. ⊎-elim (λ k. inl (omega (arith, k))) (λ k. inr k) (h .passed s hs (omega (arith, l, i)))) (same-or-not (blockOf p s) b);
-    }
-
     -- ---- the next block is divided by numbers that tell its signatures apart
     module _ (w : b < count) where
       -- it still has its states

@@ -27,6 +27,8 @@ use Rattle.signatures.proofs.Signed.{Signed, signing-accepted, signing-
 use Rattle.signatures.proofs.Sigs.{sig-few}
 use Rattle.signatures.proofs.StrongSigs.{Leads, strong-ascending, strong-exactly}
 use borrow.Author.Tests.{eqb-true, eq-eqb}
+-- Block numbers do not matter to a signature, only the blocks.
+pub use Rattle.signatures.proofs.Renumbered.{strong-alike, inductive-alike}
 
 -- table, partition and state are right, and the signature is written
 pub record SignatureDone

@@ -14,6 +14,8 @@ use Rattle.signatures.proofs.Theorems.{SignatureDone}
 use Rattle.table.specs.Lts.{Lts}
 use Rattle.signatures_branching.specs.Branching.{branchingPushed, branchingSignature, branchingBisimSignature}
 use Rattle.signatures_branching.proofs.BranchingSigs.{Leaves, branching-ascending, branching-exactly}
+-- Block numbers do not matter to it, only the blocks.
+pub use Rattle.signatures_branching.proofs.BranchingAlike.{branching-alike}
 
 -- a pair (a, b) is in it exactly if some state that s reaches by hidden steps that stay in its block has a step under label a to a state
 -- of block b, and the step is visible or b is another block

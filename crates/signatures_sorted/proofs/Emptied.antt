@@ -6,9 +6,9 @@ use mathlib.Core.Bool.{Bool, true, false, cond}
 use mathlib.Core.List.{List, [], _∷_, _++_}
 use lib.ListN.{length, getD, take, drop}
 use Rattle.columns.specs.Answers.{Said, done, refused}
-use Rattle.columns.specs.Columns.{zeros, zeroed, EachZero}
+use Rattle.columns.specs.Columns.{zeros, zeroed}
 use Rattle.columns.specs.Sets.{Pair}
-use Rattle.columns.proofs.Lists.{front-zeros, zeros-at, still-zeros}
+use Rattle.columns.proofs.Lists.{front-zeros, zeros-at}
 use Rattle.columns.specs.Limits.{noRoom}
 use Rattle.signatures.specs.Pairs.{Columns, fits, pairsOver}
 use Rattle.signatures.specs.Signing.{Left, finishing}
@@ -68,12 +68,3 @@ module _ (pushed : ℕ) (pairs : List Pair) (out : Columns) where
   refinished s o works w e works' w' f =
       let q = e ∙ finishing-is works in
       finished s o works' w' (λ i. (q i .0, q i .1 .0)) (zeroed-of w' works' (f (each-zero w works (λ i. q i .1 .1))))
-
--- slices that were left cleared can be lent again
-pub zero-again : (works before : List (List ℕ)) → works ≡ zeroed before → EachZero works
-zero-again works before e = go works before (each-zero works before e)
-  where
-    go : (works before : List (List ℕ)) → Each (λ a b. a ≡ zeros (length b)) works before → EachZero works
-    go [] before z = tt
-    go (a ∷ works) [] z = absurd z
-    go (a ∷ works) (b ∷ before) z = (still-zeros a (length b) (z .0), go works before (z .1))

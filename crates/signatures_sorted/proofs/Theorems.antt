@@ -25,6 +25,9 @@ use Rattle.signatures_sorted.specs.Sorted.{
 }
 use Rattle.signatures_sorted.proofs.Refused.{sorted-ready, sorted-lists}
 use Rattle.signatures_sorted.proofs.SortedSigs.{OwnOf, TakenOf, sorted-ascending, sorted-exactly}
+-- Block numbers do not matter to it, only the blocks; and where the given lists are the signatures of the states, it is the branching one.
+pub use Rattle.signatures_sorted.proofs.SortedAlike.{sorted-alike}
+pub use Rattle.signatures_sorted.proofs.Right.{sorted-right}
 
 -- the list that is given for each state
 abbrev listOf : Given → ℕ → List Pair

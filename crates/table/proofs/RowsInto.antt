@@ -1,13 +1,10 @@
 -- The laws of `incoming_rows_of`, and the only place that knows how its stretch is counted: of h rows listed by target, the one at k leads
 -- to u exactly if firstInto u <= k < firstInto (u + 1).
 use Prim.Native.Nat.{ℕ, _+_, _≤_, _<_}
-use native.Mathlib.Omega.{arith}
 use mathlib.Core.Path.{_≡_, subst, sym}
 use mathlib.Core.List.{List}
-use lib.Dec.{eqb}
-use Rattle.columns.specs.Counting.{many}
 use Rattle.table.specs.Stretch.{StretchOf, listedTarget, ByTarget, firstInto}
-use Rattle.table.proofs.Counted.{below-is, below-most, below-up, below-next, place-before, place-from, stretch}
+use Rattle.table.proofs.Counted.{below-is, below-most, below-up, place-before, place-from, stretch}
 
 module _ (target order : List ℕ) (h : ℕ) where
   abbrev to : ℕ → ℕ
@@ -49,13 +46,3 @@ module _ (target order : List ℕ) (h : ℕ) where
     into-stretch u first end ef ee =
         subst (λ (x : ℕ). StretchOf to h u x end) (sym ef)
         (subst (λ (z : ℕ). StretchOf to h u (firstInto target order h u) z) (sym ee) (own-stretch u))
-
-  -- the stretches of two states lie apart, in the order of the states
-  pub into-apart : (u v : ℕ) → u < v → firstInto target order h (u + 1) ≤ firstInto target order h v
-  into-apart u v l = first-into-up (u + 1) v (omega arith)
-
-  -- a stretch is as long as there are rows into the state
-  pub into-count :
-      (u : ℕ) → firstInto target order h (u + 1) ≡ firstInto target order h u + many h (λ k. eqb (listedTarget target order k) u)
-  unfolding firstInto
-  into-count = below-next to h

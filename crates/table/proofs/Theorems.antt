@@ -1,5 +1,4 @@
--- What `reachable` and `incoming` say and leave once they are done, in document 01's words. For the calls that name the rows of a state
--- `outgoing-run` in Runs and `next-row` in Meetings say it.
+-- What the calls on a table say and leave once they are done, in document 01's words.
 use mathlib.Core.Path.{_≡_, refl, sym, ap, subst, _∙_}
 use mathlib.Core.Logic.{_⊎_, inl, inr, ⊎-elim}
 use mathlib.Core.Bool.{Bool, true, false}
@@ -30,6 +29,10 @@ use Rattle.table.proofs.RowsInto.{into-stretch}
 use Rattle.table.proofs.Sayings.{left-said}
 use Rattle.table.proofs.Searching.{reach-ready}
 use Rattle.table.proofs.Walks.{edge-step, reaches-walk}
+-- The rows of a state are one run of the rows, those of another one apart; the rows into a state are met one after the other.
+pub use Rattle.table.proofs.Runs.{outgoing-run, outgoing-done}
+pub use Rattle.table.proofs.RowsOf.{rows-apart}
+pub use Rattle.table.proofs.Meetings.{met-rows, met-ascending, met-steps}
 
 -- ---- reachability
 -- a walk along edges is a way along steps

@@ -1,7 +1,7 @@
 -- `via` is right: s reaches u exactly if there is a walk; and an edge is a row.
 use mathlib.Core.Path.{_≡_, refl, sym, subst}
 use mathlib.Core.Logic.{_⊎_, inl, inr, _↔_}
-use mathlib.Core.Bool.{Bool, true, false, _&&_}
+use mathlib.Core.Bool.{Bool, true, _&&_}
 use mathlib.Core.List.{List}
 use Prim.Native.Nat.{ℕ, zero, suc, _<_}
 use native.Mathlib.Nat.{not-suc-le-zero}
@@ -172,7 +172,3 @@ module _ (t : Lts) (hidden : Bool) where
 pub takes-hidden : (a : ℕ) → (takes true a ≡ true) ↔ (a ≡ 0)
 unfolding takes
 takes-hidden a = (λ e. eqb-true a 0 e, λ e. eq-eqb a 0 e)
-
-pub takes-any : (a : ℕ) → takes false a ≡ true
-unfolding takes
-takes-any a = refl

@@ -14,6 +14,8 @@ use Rattle.table_closure.specs.Closure.{closureRefusal, close, markBackw
 use Rattle.table_closure.specs.Promise.{Marked, homeOf, Leading, Elsewhere}
 use Rattle.table_closure.proofs.Answering.{closure-ready}
 use Rattle.table_closure.proofs.Laws.{close-law, close-exactly}
+-- What it leaves is a partition.
+pub use Rattle.table_closure.proofs.Laws.{close-sound}
 
 pub record ClosureDone (t : Lts) (p : Partition) (b : ℕ) (order spare : List ℕ) (q : Partition) (x y : List ℕ) : Type 0 where
   pub valid : Valid t

@@ -27,6 +27,10 @@ use Rattle.table_order.proofs.Topological.{permutation, topological}
 -- For a right table and the room it is 11 exactly if some state reaches itself through another one by accepted rows, and otherwise done.
 -- The order that is not reversed is the opposite of the reversed one.
 pub use Rattle.table_order.proofs.Topological.{eleven, sorts, opposite}
+-- Where there is no cycle of the kind asked for, nothing moves: no rows, no hidden rows, only self-loops.
+pub use Rattle.table_order.proofs.Absences.{no-row, no-hidden, still-reversed, still-forward}
+-- How high the stack can be, and how many turns the search takes.
+pub use Rattle.table_order.proofs.Bounds.{stack-most, stack-visit, turns-most}
 
 -- a call that is done and leaves this
 pub record SortDone (t : Lts) (hidden reversed : Bool) (places marks stack left marks₁ stack₁ : List ℕ) : Type 0 where

@@ -17,7 +17,8 @@ in-line-requires c κs = search needs
 returns-2 : tie.Need-returns-2
 unfolding inWord
 returns-2 c =
-    c .in-line .ensures ∙ sym (ap (λ (b : Bool). cond b false (inLine (c .before .before .args .byte))) (ne-eqb _ 32 (c .before .if1 .left)))
+    c .in-line .ensures
+    ∙ sym (ap (λ (b : Bool). cond b false (inLine (c .before .before .args .byte))) (ne-eqb _ 32 (c .before .if1 .left)))
 
 pub in-word-spec : {M : Type 1} → statement M
 in-word-spec = tie.close (tie.spec returns in-line-requires returns-2)
