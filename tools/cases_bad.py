@@ -1,17 +1,13 @@
 """Lines that are no case."""
 from lines import Case, room, written
-from operations import BYTES, FLAGS, RECORDS, WIDE
+from operations import FLAG, RECORDS
 
 WRONG_WORDS = ('65536', '131071', '4294967296', '18446744073709551616', 'x', '-1', '1x', '|')
 
 
-def too_large(slice):
-    """A number that is no cell of the slice."""
-    if slice in BYTES:
-        return '256'
-    if slice in RECORDS:
-        return ('0', '0', '65536')
-    return '4294967296' if slice in WIDE else '65536'
+def too_large(kind):
+    """What is no cell of a slice of this kind."""
+    return (0, 0, kind.largest + 1) if kind == RECORDS else kind.largest + 1
 
 
 def lines(operation, example):
@@ -28,12 +24,13 @@ def lines(operation, example):
         yield ' '.join([words[0], word, *words[2:]])
         yield ' '.join([*words[:-1], word])
     for name, value in example.items():
-        if name in FLAGS:
+        kind = operation.parameters.get(name)
+        if kind == FLAG:
             yield written(operation, {**example, name: 2})
         if isinstance(value, list):
-            cell = (0, 0, 0) if name in RECORDS else 0
+            cell = (0, 0, 0) if kind == RECORDS else 0
             yield written(operation, {**example, name: [cell] * (room(operation, name) + 1)})
-            yield written(operation, {**example, name: [*value[:-1], too_large(name)]})
+            yield written(operation, {**example, name: [*value[:-1], too_large(kind)]})
 
 
 def cases(operation, example):

@@ -5,6 +5,7 @@ from lines import Case
 from refusals import MOST_STATES
 
 EDGES = (0, 1, 2, MOST_STATES - 1, MOST_STATES, MOST_STATES + 1, 65534, 65535)
+EXAMPLE = {'begin': 1, 'marked_split': 2, 'end': 4}
 
 
 def numbers(rng, width):
@@ -30,4 +31,4 @@ def cases(operation, rng, number):
 
 def example(operation):
     """A sound case of the operation."""
-    return dict(zip(operation.parameters, (1, 4) if len(operation.parameters) == 2 else (1, 2, 4)))
+    return {name: EXAMPLE[name] for name in operation.parameters}

@@ -1,7 +1,8 @@
 """Cases of the operations on files: file_cases' files, tables to write, every length of what is lent, faulty ones."""
-from itertools import chain, product
+from itertools import chain, combinations, product
 
 import cases_table
+import far
 import file_cases
 import file_model
 import partitions
@@ -9,7 +10,7 @@ import plain
 import plain_file
 import tables
 from faults import damaged, every_length, outside, several, shorten
-from file_cases import CONTENTS, EXAMPLE, SMALL
+from file_cases import CONTENTS, EXAMPLE, SMALL, changed, put
 from lines import Case
 from operations import HELD_ROOM, ROOM
 from refusals import MOST_LABELS, MOST_ROWS, MOST_STATES, ROWS
@@ -58,6 +59,8 @@ def many_rows(rng):
             yield file_model.bytes_of(file_model.Table(n, labels, initial, [(0, 0, 0)] * m))
 
 
+# A number of the example's header or of its rows out of range, or a row like the one before: where, bytes, value.
+WRONG = ((22, 2, 0), (22, 2, MOST_STATES + 1), (24, 2, 0), (28, 2, 65535), (30, 2, 65535), (38, 2, 65535), (40, 2, 1))
 # What makes the table in a file faulty.
 TABLE_FAULTS = (tables.order_broken, tables.field_outside, outside('initial', 'n'), tables.labels_outside,
                 partitions.n_outside)
@@ -71,10 +74,16 @@ def faulty_file(rng):
             fault(rng, v)
     data = file_of(v)
     if rng.random() < 0.2:
-        data = rng.choice(list(file_cases.changed(data, CONTENTS)))
+        data = rng.choice(list(changed(data, CONTENTS)))
     if rng.random() < 0.2:
         data = (data + b'\1')[:rng.choice((len(data) - 1, len(data) + 1, rng.randrange(len(data))))]
     return data
+
+
+def at_far_rows(rng):
+    """The largest table with wrong rows at the far places; just below the greatest n, sound."""
+    yield from far.at_rows(tables.full(rng, MOST_STATES))
+    yield from (tables.full(rng, n) for n in (MOST_STATES - 2, MOST_STATES - 1))
 
 
 def every_table():
@@ -82,17 +91,27 @@ def every_table():
     return (file_of(v) for n, labels in cases_table.SMALL for v in tables.every(n, labels))
 
 
+def contents_and_more():
+    """Each fault of the table with a field of the contents wrong, with a byte less or more, and with each other one."""
+    for wrong in WRONG:
+        data = put(EXAMPLE, *wrong)
+        yield from changed(data, CONTENTS)
+        yield from (data[:-1], data + b'\0')
+    yield from (put(put(EXAMPLE, *one), *other) for one, other in combinations(WRONG, 2))
+
+
 def every_file(rng, number):
-    """file_cases' files that `replay` has room for, every small table, rows too many, faulty ones."""
+    """file_cases' files that `replay` has room for, every small table, rows too many, far places, faulty ones."""
     known = chain.from_iterable(file_cases.kinds(rng.randrange(2 ** 32), number).values())
-    faulty = (faulty_file(rng) for _ in range(number))
-    return (data for data in chain(known, every_table(), many_rows(rng), faulty) if len(data) <= ROOM)
+    large, faulty = map(file_of, at_far_rows(rng)), (faulty_file(rng) for _ in range(number))
+    made = chain(known, every_table(), many_rows(rng), contents_and_more(), large, faulty)
+    return (data for data in made if len(data) <= ROOM)
 
 
 def some_short(operation, rng, v):
-    """The case, and sometimes another with columns too short."""
+    """The case; where the file is short, and sometimes else, another with columns too short."""
     yield v
-    if rng.random() < 0.3:
+    if len(v['bytes']) < 100 or rng.random() < 0.3:
         short = {name: list(value) for name, value in v.items()}
         shorten(operation)(rng, short)
         yield short
@@ -122,6 +141,7 @@ def to_reduce(operation, rng, number):
             yield from every_room(rng, data, False)
     for data in (EXAMPLE, file_model.bytes_of(file_model.Table(1, 1, 0, [])), file_model.bytes_of(SMALL)):
         yield from every_room(rng, data, True)
+    yield from every_room(rng, file_model.bytes_of(file_cases.apart()), False)
 
 
 def little_room(rng, v):
@@ -153,6 +173,8 @@ def tables_to_write(rng):
 def to_write(operation, rng, number):
     yield from tables_to_write(rng)
     yield from large_tables(rng)
+    yield from (writing(rng, v, MOST_STATES) for v in at_far_rows(rng))
+    yield from far.one_short(operation, writing(rng, tables.full(rng, MOST_STATES), MOST_STATES))
     v = writing(rng, tables.given(2, 1, [(0, 0, 1), (1, 0, 1)]), 2)
     yield from every_length(operation, v, list(operation.lengths()))
     yield from ({**v, 'bytes': junk_bytes(rng, size)} for size in range(plain_file.size_written(v) + 2))
@@ -163,19 +185,21 @@ def to_write(operation, rng, number):
     yield from damaged(sound, rng, faults, number // 2)
 
 
-VALUES = {'read_file': to_read, 'write_file': to_write, 'reduce_file': to_reduce}
-
-
 def cases(operation, rng, number):
     """The long ones are written in runs."""
-    for v in VALUES[operation.name](operation, rng, number):
+    for v in globals()[operation.values](operation, rng, number):
         yield Case(operation, v, in_runs=sum(len(v[name]) for name in v if operation.is_slice(name)) > LONG)
+
+
+# A sound case of each way to make values.
+EXAMPLES = {
+    'to_read': {'bytes': list(EXAMPLE), **dict.fromkeys(ROWS, [7, 7])},
+    'to_write': {**tables.given(3, 2, [(0, 1, 1), (0, 1, 2)]), 'states': 3, 'state_blocks': [0, 1, 1],
+                 'bytes': [7] * 60},
+    'to_reduce': {'input': list(EXAMPLE), 'output': [7] * 60},
+}
 
 
 def example(operation):
     """A sound case of the operation."""
-    table = tables.given(3, 2, [(0, 1, 1), (0, 1, 2)])
-    v = {**table, 'states': 3, 'state_blocks': [0, 1, 1], 'bytes': [7] * 60, 'input': list(EXAMPLE), 'output': [7] * 60}
-    if operation.name == 'read_file':
-        v |= {'bytes': list(EXAMPLE), **dict.fromkeys(ROWS, [7, 7])}
-    return {name: v[name] for name in operation.parameters}
+    return EXAMPLES[operation.values]

@@ -5,7 +5,7 @@ import cases_partition
 from cases_partition import good_arguments
 from faults import every_length
 from lines import Case
-from operations import BLOCK, BY_NAME, RECORDS, RECORDS_ROOM, STATES
+from operations import BLOCK, BY_NAME, RECORDS_ROOM, STATES
 from partitions import LARGEST, laid_out, random_partition
 from refusals import MOST_STATES
 
@@ -21,7 +21,7 @@ def as_records(v):
 def every_short_list(operation):
     """A partition with its slices at every length."""
     v = as_records({**laid_out([1, 0], [(0, 1, 1), (1, 1, 2)]), 'left': 1, 'right': 0})
-    return every_length(operation, v, STATES + RECORDS)
+    return every_length(operation, v, (*STATES, 'blocks'))
 
 
 def long_list(rng):
@@ -36,7 +36,9 @@ def long_list(rng):
 
 def values(operation, rng, number):
     of_columns = (cases_partition.every_small(COLUMN_FORM), cases_partition.every_changed_cell(COLUMN_FORM, rng),
-                  cases_partition.large(COLUMN_FORM, rng), cases_partition.sound(COLUMN_FORM, rng, number),
+                  cases_partition.every_two_faults(COLUMN_FORM, rng),
+                  cases_partition.large(COLUMN_FORM, rng), cases_partition.at_far_blocks(COLUMN_FORM, rng),
+                  cases_partition.sound(COLUMN_FORM, rng, number),
                   cases_partition.damaged(COLUMN_FORM, rng, number // 2))
     yield from map(as_records, chain.from_iterable(of_columns))
     yield from every_short_list(operation)

@@ -5,6 +5,7 @@ import cases_quotient
 import partitions
 import tables
 from cases_table import takes_partition, with_slices
+from operations import FLAG
 from refusals import MOST_LABELS, MOST_ROWS, MOST_STATES
 
 N = MOST_STATES
@@ -35,16 +36,16 @@ def shapes(rng):
 def of_shapes(operation, rng):
     """Each shape; where a partition is taken in one block and in random ones, with every flag off and on."""
     for words, v in shapes(rng):
-        switches = cases_quotient.every_switch(operation, 1)
+        switches = cases_quotient.every_switch(operation, [N - 1])
         for chosen in (switches[0], switches[-1])[:len(switches)]:
-            chosen = {**chosen, 'state': N - 1} if 'state' in chosen else chosen
             for name, partition in divisions(operation, rng):
                 case = {**v, **partition, **chosen}
-                yield f'{words}{name}{switched(chosen)}', with_slices(operation, rng, case), None
+                yield f'{words}{name}{switched(operation, chosen)}', with_slices(operation, rng, case), None
 
 
-def switched(chosen):
-    flags = [f'{name} {value}' for name, value in chosen.items() if name != 'state']
+def switched(operation, chosen):
+    """The flags in words."""
+    flags = [f'{name} {chosen[name]}' for name in operation.of(FLAG)]
     return f' ({", ".join(flags)})' if flags else ''
 
 
@@ -90,4 +91,4 @@ def of_reduction(operation, rng):
 
 def values(operation, rng):
     """Words, values, and the outcome's numbers where they were found by hand."""
-    return of_reduction(operation, rng) if operation.name == 'strong_reduction' else of_shapes(operation, rng)
+    return globals()[operation.largest](operation, rng)

@@ -1,11 +1,11 @@
 """Cases of the operations on a partition: every small one, the limits, random sound ones, damaged ones."""
 from itertools import product
 
+import far
 import partitions
-import splits
-from faults import damage, every_length, shorten
+from faults import damage, every_length, every_two, of_partition, shorten
 from lines import Case
-from operations import BOUNDS, ROOM
+from operations import BYTES, ROOM
 from partitions import LARGEST, copied, laid_out, lengthen, random_partition
 from refusals import COLUMNS, MOST_STATES, shown
 
@@ -25,32 +25,34 @@ def every_argument(operation, v):
     """Every argument, the first that is out of range, and the largest number."""
     choices = []
     for name in argument_names(operation):
-        choices.append(rooms(v) if name == 'text' else [*range(v[BOUNDS[name]] + 1), LARGEST])
+        kind = operation.parameters[name]
+        choices.append(rooms(v) if kind == BYTES else [*range(v[kind.bound] + 1), LARGEST])
     for chosen in product(*choices):
         yield dict(zip(argument_names(operation), chosen))
+
+
+def below(bound):
+    """Makes a number below the bound."""
+    return lambda rng, v: rng.randrange(v[bound])
 
 
 def good_arguments(rng, operation, v):
     """Arguments in range for a sound partition."""
     chosen = {}
     for name in argument_names(operation):
-        if operation.maker == 'cases_split':
-            chosen[name] = splits.good_argument(rng, {**v, **chosen}, name)
-        elif name == 'text':
-            room = len(shown(v)) + rng.choice((0, 0, 1, 5))
-            chosen[name] = list(rng.randbytes(min(room, ROOM)))
-        else:
-            chosen[name] = rng.randrange(v[BOUNDS[name]])
+        made = operation.made.get(name) or below(operation.parameters[name].bound)
+        chosen[name] = made(rng, {**v, **chosen})
     return chosen
 
 
 def bad_arguments(rng, operation, v, chosen):
     """The arguments with one or more out of range."""
     for name in argument_names(operation):
-        if name == 'text':
+        kind = operation.parameters[name]
+        if kind == BYTES:
             del chosen[name][rng.randrange(max(len(chosen[name]), 1)):]
         elif rng.random() < 0.7:
-            bound = v[BOUNDS[name]]
+            bound = v[kind.bound]
             chosen[name] = rng.choice((bound, min(bound + 1, LARGEST), LARGEST, rng.randint(0, LARGEST)))
     return chosen
 
@@ -87,6 +89,13 @@ def every_short_column(operation, rng):
     return every_length(operation, {**v, **good_arguments(rng, operation, v)}, COLUMNS)
 
 
+def every_two_faults(operation, rng):
+    """A partition of two states with every two faults."""
+    v = laid_out([1, 0], [(0, 1, 2)])
+    v |= good_arguments(rng, operation, v)
+    return every_two(v, of_partition(operation))
+
+
 def large(operation, rng):
     """Partitions at the greatest n, and sums of lengths that would wrap."""
     for n, count in ((MOST_STATES, 1), (MOST_STATES, MOST_STATES), (MOST_STATES, 60), (MOST_STATES - 1, 2)):
@@ -102,6 +111,17 @@ def large(operation, rng):
     yield {**v, **good_arguments(rng, operation, v)}
     if 'text' in operation.takes:
         yield {**random_partition(rng, 5), 'text': [9] * ROOM}
+
+
+def at_far_blocks(operation, rng):
+    """As many blocks as there may be: arguments at the first number out of range and the last in it; little room."""
+    v = far.apart()
+    v |= good_arguments(rng, operation, v)
+    yield from far.at_bounds(operation, v)
+    yield far.at_last(operation, v)
+    if 'text' in operation.takes:
+        v = far.apart(marked=True)
+        yield from ({**v, 'text': [9] * (len(shown(v)) - less)} for less in (0, 1))
 
 
 def sound(operation, rng, number):
@@ -138,7 +158,9 @@ def values(operation, rng, number):
     yield from every_small(operation)
     yield from every_changed_cell(operation, rng)
     yield from every_short_column(operation, rng)
+    yield from every_two_faults(operation, rng)
     yield from large(operation, rng)
+    yield from at_far_blocks(operation, rng)
     yield from sound(operation, rng, number)
     yield from damaged(operation, rng, number // 2)
 
@@ -168,10 +190,9 @@ def junk_cell(rng):
 def example(operation):
     """A sound case of the operation."""
     v = laid_out([2, 3, 0, 1], [(0, 2, 3), (3, 4, 4)])
-    chosen = {name: [7] * 20 if name == 'text' else 1 for name in argument_names(operation)}
+    chosen = {name: [7] * 20 if operation.parameters[name] == BYTES else 1 for name in argument_names(operation)}
     return {**v, **chosen}
 
 
 def cases(operation, rng, number):
-    made = values_of_new if operation.name == 'BlockPartition::new' else values
-    return (Case(operation, v) for v in made(operation, rng, number))
+    return (Case(operation, v) for v in globals()[operation.values](operation, rng, number))

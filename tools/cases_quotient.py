@@ -2,13 +2,14 @@
 from itertools import chain, permutations, product
 
 import cases_table
+import far
 import partitions
 import tables
-from cases_table import argument_names, completed, takes_partition, with_slices
+from cases_table import completed, every_switch, takes_partition, with_slices
 from faults import damaged, several
 from lines import Case
 from partitions import laid_out, random_split, stretches
-from refusals import MOST_LABELS, MOST_ROWS, MOST_STATES
+from refusals import MOST_STATES
 
 example = cases_table.example
 
@@ -19,16 +20,10 @@ def every_partition(rng, n):
         yield laid_out(order, [(begin, random_split(rng, begin, end), end) for begin, end in cut])
 
 
-def every_switch(operation, n):
-    """Every flag and every state."""
-    choices = {name: range(n) if name == 'state' else (0, 1) for name in argument_names(operation)}
-    return [dict(zip(choices, chosen)) for chosen in product(*choices.values())]
-
-
 def every_small(operation, rng):
     """Every table of a few states with every partition, flag and state."""
     for n, labels in cases_table.SMALL:
-        for v, switches in product(tables.every(n, labels), every_switch(operation, n)):
+        for v, switches in product(tables.every(n, labels), every_switch(operation, range(n))):
             for partition in every_partition(rng, n) if takes_partition(operation) else ({},):
                 yield with_slices(operation, rng, {**v, **partition, **switches})
 
@@ -54,15 +49,13 @@ def whole(rng, n):
 def of_shape(operation, rng, v):
     """A table with one block, two and n blocks where partitions are taken, with every flag and two states."""
     for partition in whole(rng, v['n']) if takes_partition(operation) else ({},):
-        for switches in every_switch(operation, 1):
-            chosen = {**switches, 'state': v['n'] - 1} if 'state' in switches else switches
-            yield with_slices(operation, rng, {**v, **partition, **chosen})
+        for switches in every_switch(operation, [v['n'] - 1]):
+            yield with_slices(operation, rng, {**v, **partition, **switches})
 
 
 def of_size(operation, rng):
-    """Shapes of 120 states, the limits, and for the quotients, whose plain computation is quick, the greatest n."""
-    quick = takes_partition(operation)
-    largest = [*shapes(MOST_STATES), *cases_table.limits(rng)] if quick else cases_table.limits(rng)
+    """Shapes of 120 states, the limits, and where the plain computation is quick, shapes of the greatest n."""
+    largest = [*shapes(MOST_STATES), *cases_table.limits(rng)] if operation.quick else cases_table.limits(rng)
     for v in chain(shapes(120), largest):
         yield from of_shape(operation, rng, v)
 
@@ -109,6 +102,9 @@ def values(operation, rng, number):
     yield from cases_table.headers(operation, rng)
     yield from of_size(operation, rng)
     yield from cases_table.at_room(operation, rng)
+    yield from cases_table.at_far_rows(operation, rng)
+    if 'bottom' in operation.takes:
+        yield from (with_slices(operation, rng, v) for v in far.without_bottom())
     yield from cases_table.every_short_slice(operation, rng)
     yield from cases_table.every_changed_field(operation, rng)
     faultless = lambda: sound(operation, rng)

@@ -53,6 +53,7 @@ def of_size():
         yield from (given(pairs[:-1], pairs, excluded) for excluded in (pairs[-1], (0, LARGEST)))
         yield given(pairs, [*pairs[:-1], pairs[-2]], (0, 0))
         yield given([pairs[0], *pairs[:-1]], pairs, (0, 0))
+        yield given([*pairs[:-1], pairs[-2]], pairs, (0, 0))
     edges = list(product((0, 1, LARGEST - 1, LARGEST), repeat=2))
     for this, other in product(edges, repeat=2):
         yield from (given([this], [other], excluded) for excluded in (other, this, (0, 0)))
@@ -95,7 +96,8 @@ def disorder(columns):
     return fault
 
 
-def subset_values(rng, number):
+def of_lists(operation, rng, number):
+    """Two lists of pairs and an excluded pair."""
     yield from every_small()
     yield from every_length()
     yield from of_size()
@@ -103,7 +105,12 @@ def subset_values(rng, number):
     yield from several(lambda: sound(rng), rng, [disorder(SELF), disorder(OTHER)], number // 8)
 
 
-def label_values(rng, number):
+def of_numbers(operation, rng, number):
+    """Every number of labels."""
+    return ({'labels': labels} for labels in range(LARGEST + 1))
+
+
+def of_labels(operation, rng, number):
     """Labels around the number of labels, and anywhere."""
     for label, labels in product(EDGES, EDGES):
         yield {'label': label, 'labels': labels}
@@ -114,13 +121,7 @@ def label_values(rng, number):
 
 
 def cases(operation, rng, number):
-    """For `tau_hat`, every number."""
-    made = {
-        'is_subset_of': lambda: subset_values(rng, number),
-        'tau_hat': lambda: ({'labels': labels} for labels in range(LARGEST + 1)),
-        'is_tau_hat': lambda: label_values(rng, number),
-    }
-    return (Case(operation, v) for v in made[operation.name]())
+    return (Case(operation, v) for v in globals()[operation.values](operation, rng, number))
 
 
 def example(operation):

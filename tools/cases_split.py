@@ -1,9 +1,11 @@
 """Cases of the operations that split a block: every small one, equal sizes, the limits, random ones, faulty ones."""
 from itertools import chain, product
 
+import far
 import partitions
 import splits
-from cases_partition import every_changed_cell, every_short_column, good_arguments, large, small_size, sound
+from cases_partition import (every_changed_cell, every_short_column, every_two_faults, good_arguments, large,
+                             small_size, sound)
 from faults import damage, damaged, every_length, outside, several, shorten
 from lines import Case
 from operations import ROOM
@@ -85,7 +87,7 @@ def every_short_slice(operation, rng):
     """The slices besides the columns at every length."""
     v = laid_out([1, 0], [(0, 1, 2)])
     v |= good_arguments(rng, operation, v)
-    return every_length(operation, v, [name for name in splits.SLICES if name in v])
+    return every_length(operation, v, [name for name in operation.needs if name not in COLUMNS])
 
 
 def at_limit(operation, rng):
@@ -105,12 +107,21 @@ def at_limit(operation, rng):
 
 
 def at_room(operation, rng):
-    """The greatest n with every slice as long as `replay` takes it, and with one slice that is one short."""
+    """The greatest n with every slice as long as `replay` takes it, and with each slice one short."""
     v = random_partition(rng, MOST_STATES, 3)
     v |= good_arguments(rng, operation, v)
-    names = [name for name in COLUMNS + splits.SLICES if name in v]
-    yield {**v, **{name: v[name] + [1] * (ROOM - len(v[name])) for name in names}}
-    yield {**v, names[-1]: v[names[-1]][:MOST_STATES if names[-1] in WORK else MOST_STATES - 1]}
+    yield {**v, **{name: v[name] + [1] * (ROOM - len(v[name])) for name in operation.needs}}
+    yield from ({**v, name: v[name][:needed(v) - 1]} for name, needed in operation.needs.items())
+
+
+def at_far_blocks(operation, rng):
+    """The far places: a block and a number of the greatest n."""
+    v = far.apart(marked=True)
+    v |= good_arguments(rng, operation, v)
+    yield from far.at_bounds(operation, v)
+    yield far.at_last(operation, v)
+    if 'numbers' in operation.takes:
+        yield from (with_numbers(rng, v, numbers) for v, numbers in far.numbered())
 
 
 def faults_of(operation):
@@ -133,9 +144,11 @@ def values(operation, rng, number):
     yield from every_changed_cell(operation, rng)
     yield from every_short_column(operation, rng)
     yield from every_short_slice(operation, rng)
+    yield from every_two_faults(operation, rng)
     yield from large(operation, rng)
     yield from at_limit(operation, rng)
     yield from at_room(operation, rng)
+    yield from at_far_blocks(operation, rng)
     yield from sound(operation, rng, number)
     faults, faultless = faults_of(operation), lambda: some_sound(operation, rng)
     yield from several(faultless, rng, faults)

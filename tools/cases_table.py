@@ -1,6 +1,7 @@
 """Cases of the operations on a table: every small one, the limits, large ones, random ones, faulty ones."""
 from itertools import product
 
+import far
 import given_lists
 import partitions
 import signatures
@@ -9,7 +10,7 @@ import tables
 from cases_partition import small_size
 from faults import above, damage, damaged, every_length, outside, several, shorten
 from lines import Case, room
-from operations import FLAGS
+from operations import FLAG, STATE
 from partitions import LARGEST, random_partition
 from refusals import COLUMNS, GIVEN, MOST_LABELS, MOST_ROWS, MOST_STATES, ROWS
 from splits import junk_cells, more
@@ -25,7 +26,7 @@ def takes_partition(operation):
 
 def argument_names(operation):
     """The flags and the start state."""
-    return [name for name in operation.parameters if name in FLAGS + ('state',)]
+    return operation.of(FLAG, STATE)
 
 
 def rows_to_ask(operation, rows):
@@ -70,7 +71,12 @@ def every_argument(operation, n):
         return [{**v, 'block': block} for v in orderly_partitions(n) for block in range(v['count'])]
     if signs(operation):
         return signatures.every_argument(operation, n)
-    choices = {name: range(n) if name == 'state' else (0, 1) for name in argument_names(operation)}
+    return every_switch(operation, range(n))
+
+
+def every_switch(operation, states):
+    """Every flag, and each of these states."""
+    choices = {name: (0, 1) if operation.parameters[name] == FLAG else states for name in argument_names(operation)}
     return [dict(zip(choices, chosen)) for chosen in product(*choices.values())]
 
 
@@ -85,7 +91,7 @@ def every_small(operation, rng):
 
 def arguments(operation, rng, v):
     """Flags, a start state, a row to ask from, a partition and a block, all in range."""
-    chosen = {name: rng.randrange(2) for name in operation.parameters if name in FLAGS}
+    chosen = {name: rng.randrange(2) for name in operation.of(FLAG)}
     if 'state' in operation.takes:
         chosen['state'] = rng.choice((0, v['initial'], rng.randrange(v['n'])))
     if 'from' in operation.takes:
@@ -154,8 +160,7 @@ def many_arguments(operation, rng, v):
     if signs(operation):
         return [{**arguments(operation, rng, v), 'state': state} for state in {0, v['n'] - 1, v['initial']}]
     if not takes_partition(operation):
-        choices = {name: (0, v['n'] - 1) if name == 'state' else (0, 1) for name in argument_names(operation)}
-        ends = [dict(zip(choices, chosen)) for chosen in product(*choices.values())]
+        ends = every_switch(operation, (0, v['n'] - 1))
         return [{**one, **row} for one, row in product(ends, rows_to_ask(operation, sorted({0, v['m'] // 2, v['m']})))]
     order, cuts = list(range(v['n'])), sorted({max(v['n'] - 1, 0), 0, v['n'], v['n'] // 2})
     rng.shuffle(order)
@@ -175,6 +180,25 @@ def at_room(operation, rng):
     v = completed(operation, rng, tables.full(rng, MOST_STATES))
     yield {**v, **{name: v[name] + [1] * (room(operation, name) - len(v[name])) for name in operation.lengths()}}
     yield from ({**v, name: v[name][:needed(v) - 1]} for name, needed in operation.lengths().items())
+
+
+def at_far_rows(operation, rng):
+    """The far places of the largest table, its states one by one in blocks; just below the greatest n, accepted."""
+    v = tables.full(rng, MOST_STATES)
+    v |= {**arguments(operation, rng, v), **(far.apart() if takes_partition(operation) else {})}
+    v = with_slices(operation, rng, v)
+    yield from far.at_rows(v)
+    yield from far.at_bounds(operation, v)
+    for n in (MOST_STATES - 2, MOST_STATES - 1):
+        yield completed(operation, rng, tables.full(rng, n, rising=True))
+
+
+def at_far_pairs(operation, rng):
+    """The far places of given lists, and the most pairs with room for one less."""
+    v = far.many_given(rng) if takes_lists(operation) else far.many_pairs()
+    if takes_lists(operation):
+        yield from ({**bad, **lent(operation, rng, bad)} for bad in far.at_lists(v))
+    yield from far.one_short(operation, {**v, **lent(operation, rng, v)})
 
 
 def every_short_slice(operation, rng):
@@ -203,14 +227,15 @@ def faults_of_table(operation):
 
 
 # What makes faulty what an operation takes.
-FAULTS = {'order': tables.make_cycle, 'room': signatures.little_room, 'lists': given_lists.disorder,
+FAULTS = {'order': tables.make_cycle, 'lists': given_lists.disorder,
           'from': above('from', 'm'), 'state': outside('state', 'n'), 'block': outside('block', 'count'),
           'partition': damage}
 
 
 def faults_of(operation):
     """What makes each refusal due, in such an order."""
-    return [*(FAULTS[thing] for thing in operation.takes), *faults_of_table(operation)]
+    faults = {**FAULTS, 'room': signatures.little_room(operation)}
+    return [*(faults[thing] for thing in operation.takes if thing in faults), *faults_of_table(operation)]
 
 
 def values(operation, rng, number):
@@ -218,11 +243,13 @@ def values(operation, rng, number):
     yield from headers(operation, rng)
     yield from of_size(operation, rng)
     yield from at_room(operation, rng)
+    yield from at_far_rows(operation, rng)
     yield from every_short_slice(operation, rng)
     yield from every_changed_field(operation, rng)
     yield from (sound(operation, rng) for _ in range(number))
     if signs(operation):
-        yield from signatures.every_room(lambda: sound(operation, rng), 400)
+        yield from at_far_pairs(operation, rng)
+        yield from signatures.every_room(operation, lambda: sound(operation, rng), 400)
     if takes_lists(operation):
         yield from ({**v, **lent(operation, rng, v)} for v in given_lists.tried(rng))
     faults, faultless = faults_of(operation), lambda: sound(operation, rng)
@@ -232,7 +259,8 @@ def values(operation, rng, number):
 
 def example(operation):
     """A sound case of the operation."""
-    v = {**tables.given(4, 2, [(0, 0, 1), (1, 1, 2), (2, 0, 3)], 3), **dict.fromkeys(FLAGS, 1), 'state': 2, 'from': 1}
+    v = {**tables.given(4, 2, [(0, 0, 1), (1, 1, 2), (2, 0, 3)], 3), 'state': 2, 'from': 1}
+    v |= dict.fromkeys(operation.of(FLAG), 1)
     v |= {**partitions.laid_out([2, 3, 0, 1], [(0, 1, 3), (3, 4, 4)]), 'block': 0}
     v |= given_lists.laid_flat([[(0, 1)], [], [(1, 0), (1, 1)], [(0, 1), (2, 0)]]) if takes_lists(operation) else {}
     v |= {name: [7] * operation.lengths()[name](v) for name in slices_besides(operation) if name not in GIVEN}

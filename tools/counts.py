@@ -1,5 +1,5 @@
-"""The table of docs/DIFFERENCES.md: how many cases of each operation agreed, of each kind."""
-import re
+"""The table of docs/DIFFERENCES.md: how many cases of each operation agreed in one run of `compare`, of each kind."""
+import datetime
 
 import alike
 import document
@@ -7,7 +7,7 @@ import needs
 import operations
 import refusals
 
-PAGE = needs.ROOT / 'docs' / 'DIFFERENCES.md'
+# The part of the page that has it.
 PART = 'counts'
 
 
@@ -32,27 +32,15 @@ def row(operation, agreed, places):
     return f'`{operation.name}`', accepted(operation, agreed), found, f'{agreed["no case"]:,}'
 
 
-def rows_there():
-    """The rows that the page has, by the operation's name."""
-    before, after = document.around(PAGE, PART)
-    text = PAGE.read_text()[len(before):-len(after)]
-    found = (line.strip('| ').split(' | ') for line in text.splitlines() if line.startswith('| `'))
-    return {cells[0].strip('`'): tuple(cells) for cells in found}
+def head(tallies, given, seconds):
+    """The line above the table: when, on what kind of processor and with which cases it was counted."""
+    total = sum(sum(tally.agreed.values()) for tally in tallies.values())
+    run = f'{datetime.date.today()}, {needs.machine()}, seed {given.seed}, --cases {given.cases}'
+    return f'{run}, {seconds:,.0f} seconds: {total:,} cases together.'
 
 
-def numbers(cells):
-    """The numbers of a row that count cases."""
-    found = re.findall(r'\d[\d,]*', f'{cells[1]} {cells[3]}') + re.findall(r'\d+: ([\d,]*\d)', cells[2])
-    return [int(number.replace(',', '')) for number in found]
-
-
-def write(tallies):
-    """Puts the rows of the operations that were run in the place of theirs, and says how many cases all rows count.
-
-    A tally has how many cases of each kind agreed, and the places of each refusal.
-    """
-    rows = {**rows_there(), **{name: row(operations.BY_NAME[name], *tally) for name, tally in tallies.items()}}
-    listed = [rows[name] for name in operations.BY_NAME if name in rows]
-    total = sum(sum(numbers(cells)) for cells in listed)
-    table = document.table(('operation', 'Rust', 'refused', 'no case'), listed, left=4)
-    document.replace(PAGE, PART, f'{total:,} cases together.\n\n{table}')
+def part(tallies, given, seconds):
+    """The line and the table of a run: for each operation that was run what agreed, and the places of each refusal."""
+    rows = [row(operations.BY_NAME[name], tally.agreed, tally.places) for name, tally in tallies.items()]
+    table = document.table(('operation', 'Rust', 'refused', 'no case'), rows, left=4)
+    return f'{head(tallies, given, seconds)}\n\n{table}'

@@ -1,8 +1,9 @@
 """Faulty cases: a sound case with one fault, or with several at once. A fault changes the values of a case."""
 from itertools import chain, combinations, product
 
-from operations import RECORDS
+from operations import BYTES, RECORDS
 from partitions import DAMAGES, LARGEST, copied
+from refusals import COLUMNS, MOST_STATES
 
 
 def faulty(sound, rng, wrong):
@@ -26,6 +27,37 @@ def damaged(sound, rng, faults, number):
         first, second = rng.sample(range(len(faults)), 2)
         both = [faults[place] for place in sorted((first, second))]
         yield faulty(sound, rng, both if rng.random() < 0.2 else [faults[first]])
+
+
+def every_two(v, changes):
+    """A sound case with every two of the changes; a change is a parameter, and what is made of its value."""
+    for (one, first), (other, second) in combinations(changes, 2):
+        changed = {**v, one: first(v[one])}
+        yield {**changed, other: second(changed[other])}
+
+
+def to(number):
+    """Makes any value this number."""
+    return lambda value: number
+
+
+def first_wrong(cells):
+    return [LARGEST, *cells[1:]]
+
+
+def last_gone(cells):
+    return cells[:-1]
+
+
+def of_partition(operation):
+    """Changes of a partition of two states and of what is taken with it, each of which is wrong whatever the others do:
+    arguments, of different values; no room; the count, and a cell of each column; a slice too short; n."""
+    bounded = [name for name, kind in operation.parameters.items() if kind.bound]
+    arguments = [(name, to(LARGEST - place)) for place, name in enumerate(bounded)]
+    rooms = [(name, lambda room: []) for name in operation.changed if operation.parameters.get(name) == BYTES]
+    damages = [('count', to(0)), *((column, first_wrong) for column in COLUMNS)]
+    short = [(name, last_gone) for name in operation.needs]
+    return [*arguments, *rooms, *damages, *short, ('n', to(MOST_STATES + 1)), ('n', to(0))]
 
 
 def outside(argument, bound):
@@ -62,5 +94,5 @@ def every_length(operation, v, names):
     for changes in product((0, -1, None, 1), repeat=len(names)):
         needed = {name: operation.lengths()[name](v) for name in names}
         lengths = {name: 0 if change is None else needed[name] + change for name, change in zip(names, changes)}
-        more = {name: [(1, 1, 1)] if name in RECORDS else [1] for name in names}
+        more = {name: [(1, 1, 1)] if operation.parameters[name] == RECORDS else [1] for name in names}
         yield {**v, **{name: (v[name] + more[name])[:length] for name, length in lengths.items()}}

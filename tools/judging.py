@@ -2,6 +2,7 @@
 import needs
 import programs
 from lines import computed_line
+from operations import BY_NAME
 
 
 def refused(number, place):
@@ -24,6 +25,15 @@ def full(case, oracle):
         return None if oracle in ('none', 'error', 'panic', 'bad', '') else oracle
     line = computed_line(case.operation, case.values)
     return line if oracle is None or case.operation.alike(case.values, oracle, line) else None
+
+
+def never_reached(tallies):
+    """What the operations that were run can refuse with, and did not: names of operations, each with a number.
+
+    A tally's first part has how many cases of each kind agreed.
+    """
+    return [(name, number) for name, tally in tallies.items() for number in BY_NAME[name].refuses()
+            if not tally[0][f'refused {number}']]
 
 
 def shared_out(cases, answers):

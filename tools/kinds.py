@@ -4,7 +4,7 @@ The kinds that are wanted are those of the parameters in `operations`, which doc
 """
 import re
 
-from operations import BYTES, BY_NAME, FLAGS, RECORDS, WIDE
+from operations import BY_NAME
 from programs import ROOT
 
 SOURCE = ROOT / 'crates' / 'replay_calls' / 'src' / 'operations.rt'
@@ -18,18 +18,9 @@ CHANGING_BYTES = ('TEXTS', 'FILING')
 
 def kind(operation, parameter):
     """The letter of a parameter."""
-    changed = parameter in operation.changed
-    if not operation.is_slice(parameter):
-        return 'f' if parameter in FLAGS else 'n'
-    if parameter in RECORDS:
-        return 'r'
-    if parameter in WIDE:
-        return 'w'
-    if parameter in BYTES:
-        return 't' if changed else 'b'
-    if not changed:
-        return 'c'
-    return 's' if operation.holds else 'm'
+    letter = operation.parameters[parameter].letter
+    changed = {'b': 't', 'c': 's' if operation.holds else 'm'} if parameter in operation.changed else {}
+    return changed.get(letter, letter)
 
 
 def kinds(operation):

@@ -1,23 +1,15 @@
 """A case as a line, as docs/REPLAY.md has it, and the answer that is due to it."""
 import runs
-from operations import BY_NAME, BYTES, FLAGS, HELD_ROOM, RECORDS, RECORDS_ROOM, ROOM, WIDE
+from operations import BY_NAME, CELLS, HELD_ROOM, RECORDS, RECORDS_ROOM, ROOM
 from refusals import WORKED
 
 
 def room(operation, slice):
     """The longest such slice that `replay` takes."""
-    if slice in RECORDS:
+    kind = operation.parameters[slice]
+    if kind == RECORDS:
         return RECORDS_ROOM
-    return HELD_ROOM if operation.holds and slice in operation.changed and slice not in BYTES else ROOM
-
-
-def largest(parameter):
-    """The largest number that the parameter, or a cell of it, may be."""
-    if parameter in FLAGS:
-        return 1
-    if parameter in BYTES:
-        return 255
-    return 4294967295 if parameter in WIDE else 65535
+    return HELD_ROOM if operation.holds and slice in operation.changed and kind == CELLS else ROOM
 
 
 def is_number(words, place, most):
@@ -44,10 +36,10 @@ def slice_at(operation, parameter, words, place):
     """The slice that starts at a place, and the place after it; or None, and the place of the first wrong word."""
     if not is_number(words, place, room(operation, parameter)):
         return None, place
-    number = int(words[place])
-    if parameter not in RECORDS:
-        return cells_at(words, place + 1, number, largest(parameter))
-    found, after = cells_at(words, place + 1, number * 3, largest(parameter))
+    number, kind = int(words[place]), operation.parameters[parameter]
+    if kind != RECORDS:
+        return cells_at(words, place + 1, number, kind.largest)
+    found, after = cells_at(words, place + 1, number * 3, kind.largest)
     return found and list(zip(*[iter(found)] * 3)), after
 
 
@@ -55,7 +47,9 @@ def value_at(operation, parameter, words, place):
     """The number or slice that starts at a place, and the place after it; or None, and that of the first wrong word."""
     if operation.is_slice(parameter):
         return slice_at(operation, parameter, words, place)
-    return (int(words[place]), place + 1) if is_number(words, place, largest(parameter)) else (None, place)
+    if not is_number(words, place, operation.parameters[parameter].largest):
+        return None, place
+    return int(words[place]), place + 1
 
 
 def values_at(operation, words):
@@ -159,4 +153,6 @@ def refusal_line(operation, values, refused):
 def computed_line(operation, values):
     """The answer to an accepted case that is computed plainly."""
     numbers, slices = operation.computed(values)
+    if operation.answers_part:
+        return f'part {len(numbers)}{cells(numbers)}'
     return answer_line(operation, values, 'done' + cells(numbers), {**cleared(operation, values), **slices})

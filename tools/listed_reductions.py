@@ -1,9 +1,10 @@
 """The cases of absence and of limit of the operations that make a smaller table, or number its states."""
-from listed_cases import (MOST_BLOCKS, Listed, Section, at_bound, blocks, header, hidden, largest, no_room,
-                          only_self_loop, rows, unreached)
+from listed_cases import (COUNTS, NO_ROWS, ONE_STATE, Listed, Section, arguments, blocks, flags, header, hidden,
+                          is_ring, largest, no_room, only_self_loop, rows, unreached)
 from refusals import MOST_STATES
 
-CYCLES = 'tau_cycle_elimination_and_reorder'
+QUOTIENTS = ('quotient_lts_naive', 'quotient_lts_block')
+ON_CYCLES = ('tau_scc_decomposition', 'tau_cycle_elimination_and_reorder')
 
 
 def own_rows(v, state):
@@ -18,8 +19,8 @@ def rowless_choice(v):
 def of_tables(*more):
     """A table, small and largest."""
     return (
-        Listed('one state, no rows', 'done', lambda v: (v['n'], v['m']) == (1, 0)),
-        Listed('no rows', 'done', lambda v: v['n'] > 1 and v['m'] == 0),
+        ONE_STATE,
+        NO_ROWS,
         Listed('no hidden row', 'done', lambda v: v['m'] > 0 and not hidden(v)),
         Listed('a hidden self-loop alone', 'done', only_self_loop),
         Listed('a state with no way out among others', 'done',
@@ -30,11 +31,6 @@ def of_tables(*more):
         *header(),
         *largest(),
     )
-
-
-def linked(v):
-    """All states lie on one hidden ring, in their order."""
-    return v['n'] > 1 and all((state, 0, (state + 1) % v['n']) in rows(v) for state in range(v['n']))
 
 
 def is_longest_chain(v):
@@ -52,14 +48,9 @@ def sections(by_name):
         return redundant.computed(v)[0][2]
 
     return (
-        Section('Quotients by a partition', ('quotient_lts_naive', 'quotient_lts_block'), of_tables(
-            Listed('one block', 'done', lambda v: v['count'] == 1 < v['n']),
-            Listed('as many blocks as states', 'done', lambda v: v['count'] == v['n'] > 1),
-            MOST_BLOCKS,
-            *(Listed(f'switches {inerts} and {loops}', 'done',
-                     lambda v, inerts=inerts, loops=loops: v['m'] > 0
-                     and (v['eliminate_inert_taus'], v['eliminate_tau_loops']) == (inerts, loops),
-                     ('quotient_lts_naive',)) for inerts in (0, 1) for loops in (0, 1)),
+        Section('Quotients by a partition', QUOTIENTS, of_tables(
+            *COUNTS,
+            *flags(QUOTIENTS),
             Listed('a chosen state without rows', 'done', rowless_choice, ('quotient_lts_block',)),
             Listed('no bottom state in the last block', 'refused 12',
                    lambda v: chosen.refusal(v)[1] == v['count'] - 1 > 0, ('quotient_lts_block',)),
@@ -68,9 +59,11 @@ def sections(by_name):
             Listed('every row redundant', 'done', lambda v: v['m'] > 0 and left(v) == 0),
             Listed('no row redundant', 'done', lambda v: v['m'] > 0 and left(v) == v['m']),
         )),
-        Section('Hidden components and cycles', ('tau_scc_decomposition', CYCLES), of_tables(
-            Listed('all states on one hidden cycle', 'done', linked),
-            at_bound('state', 'n')._replace(only=(CYCLES,)),
+        Section('Hidden components and cycles', ON_CYCLES, of_tables(
+            Listed('all states on one hidden cycle', 'done', is_ring),
+            Listed('the same, 4,096 states', 'done', lambda v: v['n'] == MOST_STATES and is_ring(v)),
+            *flags(ON_CYCLES),
+            *arguments(ON_CYCLES),
         )),
         Section('The strong reduction', ('strong_reduction',), of_tables(
             Listed('every label used', 'done', lambda v: len({row[1] for row in rows(v)}) == v['labels'] > 1),

@@ -2,6 +2,7 @@
 import os
 import pathlib
 import shutil
+import subprocess
 import sys
 
 ROOT = pathlib.Path(__file__).resolve().parent.parent
@@ -50,9 +51,23 @@ def described():
     return f'{kind}, {(kit() / "KIT-ID").read_text().strip()}'
 
 
+def sources(name):
+    """The sources of a crate and of those that it depends on."""
+    import repository  # not above: that needs this module
+    crates = repository.in_order(repository.crates(), [name])
+    return [source for crate in crates for source in (ROOT / 'crates' / crate / 'src').rglob('*.rt')]
+
+
 def built(program):
+    """Ends if there is no such program. If it is ours and a source of it is newer, `rt check` is asked first."""
     if not program.is_file():
         stop(f'there is no program {program}: rt check builds those of this repository')
+    made, ours = program.stat().st_mtime, program.resolve().parent == ROOT / 'target' / 'bin'
+    if ours and any(source.stat().st_mtime > made for source in sources(program.name)):
+        rt = command('rt', 'the Rattle kit')
+        asked = subprocess.run([rt, 'check', program.name], cwd=ROOT, stdout=subprocess.DEVNULL)
+        if asked.returncode:
+            stop(f'rt check {program.name} does not prove the sources as they are')
 
 
 def run(main):

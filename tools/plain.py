@@ -25,13 +25,14 @@ def incoming(v):
 
 def reached_from(state, left):
     """The start, and what some step leads to from what is reached, until there is nothing new."""
-    reached = {state}
-    while True:
-        new = {target for source, target in left if source in reached} - reached
-        if not new:
-            return reached
-        left = [step for step in left if step[0] not in reached]
+    after = {}
+    for source, target in left:
+        after.setdefault(source, []).append(target)
+    reached, new = {state}, {state}
+    while new:
+        new = {target for source in new for target in after.get(source, ())} - reached
         reached |= new
+    return reached
 
 
 def reachable(v):
@@ -75,11 +76,36 @@ def sorted_pairs(v):
     return pushed
 
 
-def branching_bisim_signature_sorted(v):
-    """What is pushed as a set, ascending."""
-    pairs = sorted(set(sorted_pairs(v)))
-    columns = {'result_labels': [label for label, _ in pairs], 'result_blocks': [block for _, block in pairs]}
-    return [len(pairs)], {name: over(cells, v[name]) for name, cells in columns.items()}
+def strong_pairs(v):
+    """A pair for each step of the state."""
+    block_of = dict(enumerate(v['element_to_block'])).get
+    return [(label, block_of(target)) for source, label, target in rows(v) if source == v['state']]
+
+
+def inductive_pairs(v):
+    """The same, but for a hidden step to a marked state of the block tau_hat and the target's key."""
+    block_of = dict(enumerate(v['element_to_block'])).get
+
+    def pair(label, target):
+        block = block_of(target)
+        inner = label == 0 and block is not None and block == block_of(v['state'])
+        is_marked = inner and v['element_offset'][target] >= v['marked_split'][block]
+        return (v['labels'], v['state_to_key'][target]) if is_marked else (label, block)
+    return [pair(label, target) for source, label, target in rows(v) if source == v['state']]
+
+
+def branching_pairs(v):
+    block_of = dict(enumerate(v['element_to_block'])).get
+    return [(label, block_of(target)) for _, label, target in outer_rows(v)]
+
+
+def signature(pushes):
+    """The answer of the signature for which these pairs are pushed: as a set, ascending."""
+    def computed(v):
+        pairs = sorted(set(pushes(v)))
+        columns = {'result_labels': [label for label, _ in pairs], 'result_blocks': [block for _, block in pairs]}
+        return [len(pairs)], {name: over(cells, v[name]) for name, cells in columns.items()}
+    return computed
 
 
 def mark(v, elements, offsets, splits, state):

@@ -1,7 +1,6 @@
 """The two programs that are compared."""
 import pathlib
 import subprocess
-import sys
 import tempfile
 
 import needs
@@ -25,19 +24,22 @@ def command(program):
 
 
 def answers(asked):
-    """What each program answers to its lines, the programs running side by side: a list of lines for each."""
+    """What each program answers to its lines, the programs running side by side: a list of lines for each.
+
+    A line ends with a line feed alone. A program that fails ends the comparison.
+    """
     with tempfile.TemporaryDirectory() as folder:
         runs = [start(program, lines, pathlib.Path(folder, str(index)))
                 for index, (program, lines) in enumerate(asked.items())]
         for program, (run, _) in zip(asked, runs):
             if run.wait() != 0:
-                print(f'compare: {program} ended with status {run.returncode}', file=sys.stderr)
-        return [output.read_text(errors='replace').split('\n')[:-1] for _, output in runs]
+                needs.stop(f'{program} ended with status {run.returncode}')
+        return [output.read_bytes().decode(errors='replace').split('\n')[:-1] for _, output in runs]
 
 
 def start(program, lines, place):
     """Starts a program on these lines: the run, and the file that it writes to."""
     given, output = place.with_suffix('.given'), place.with_suffix('.answers')
-    given.write_text(''.join(line + '\n' for line in lines))
+    given.write_bytes(''.join(line + '\n' for line in lines).encode())
     with open(given, 'rb') as asked, open(output, 'wb') as answered:
         return subprocess.Popen(command(program), stdin=asked, stdout=answered), output

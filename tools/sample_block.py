@@ -1,5 +1,6 @@
 """The sample's part for the operations on one block: the limits, and bounds that are broken."""
 from lines import Case
+from refusals import constructor
 
 BOUNDS_OF_BLOCKS = (
     (0, 1), (3, 7), (0, 4096), (4095, 4096), (0, 0), (5, 5), (5, 4), (0, 4097), (4096, 4096), (4096, 4097),
@@ -13,5 +14,5 @@ BLOCKS = (
 
 
 def of(operation):
-    for chosen in BOUNDS_OF_BLOCKS if len(operation.parameters) == 2 else BLOCKS:
+    for chosen in BOUNDS_OF_BLOCKS if constructor in operation.tests else BLOCKS:
         yield Case(operation, dict(zip(operation.parameters, chosen)))

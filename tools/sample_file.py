@@ -49,7 +49,7 @@ def given_by_01():
 
 def header_faults():
     """The header's numbers out of range in a file."""
-    for at, values in zip((22, 24, 28), ((0, MOST_STATES + 1), (0, MOST_LABELS + 1), (3, 65535))):
+    for at, values in zip((22, 24, 28), ((0, MOST_STATES + 1, 65535), (0, MOST_LABELS + 1, 65535), (3, 65535))):
         yield from (put(EXAMPLE, at, 2, value) for value in values)
 
 
@@ -92,6 +92,7 @@ def of_read():
     yield '# read_file: columns one short, and empty'
     exact = reading(EXAMPLE).values
     yield from (Case(BY_NAME['read_file'], {**exact, name: cells}) for name in ROWS for cells in ([9], []))
+    yield reading(EXAMPLE, 0)
     yield '# read_file: several faults at once, with columns that are short and that are not'
     yield from (reading(data, cells) for data in at_once() for cells in (1, 2))
 
@@ -103,10 +104,12 @@ def of_write():
         needed = len(exact['bytes'])
         yield from (writing(table), writing(table, bytes=[9] * (needed + 2), state_blocks=exact['state_blocks'] + [7]))
         yield from (writing(table, bytes=[9] * room) for room in (needed - 1, 0))
+    yield '# write_file: one source state'
+    yield writing(SOUND[1][1], states=1, state_blocks=[0])
     table = SOUND[0][1]
     yield '# write_file: the header and the number of source states out of range'
-    outside = {'states': (0, MOST_STATES + 1, 65535), 'n': (0, MOST_STATES + 1), 'labels': (0, MOST_LABELS + 1),
-               'm': (MOST_ROWS + 1, 65535), 'initial': (3, 65535)}
+    outside = {'states': (0, MOST_STATES + 1, 65535), 'n': (0, MOST_STATES + 1, 65535),
+               'labels': (0, MOST_LABELS + 1, 65535), 'm': (MOST_ROWS + 1, 65535), 'initial': (3, 65535)}
     yield from (writing(table, **{name: number}) for name, numbers in outside.items() for number in numbers)
     yield '# write_file: columns one short, and empty'
     for name in (*ROWS, 'state_blocks'):
@@ -137,11 +140,12 @@ def of_reduce():
     yield from (reducing(data, 0) for data in at_once())
 
 
-SAMPLES = {'read_file': of_read, 'write_file': of_write, 'reduce_file': of_reduce}
+# By what is computed.
+SAMPLES = {plain_file.read_file: of_read, plain_file.write_file: of_write, plain_file.reduce_file: of_reduce}
 
 
 def of(operation):
-    return SAMPLES[operation.name]()
+    return SAMPLES[operation.computed]()
 
 
 def of_room():

@@ -3,12 +3,9 @@ from itertools import product
 
 import cases_partition
 from lines import Case
-from operations import ALL, BOUNDS
+from operations import ALL, BYTES
 from partitions import LARGEST, copied, laid_out
-from refusals import COLUMNS, MOST_STATES, shown
-
-# These are tried with every damage, the others with a third of them.
-EVERYTHING = ('mark_element', 'swap_blocks')
+from refusals import COLUMNS, MOST_STATES, partition, shown
 
 # Sound partitions, in words and in columns.
 SOUND = (
@@ -70,7 +67,8 @@ def good(operation, v):
     """Every argument in range; for a text, room that is exact and room to spare."""
     names = cases_partition.argument_names(operation)
     texts = [[7] * len(shown(v)), [255] * (len(shown(v)) + 3)]
-    choices = [texts if name == 'text' else range(v[BOUNDS[name]]) for name in names]
+    kinds = [operation.parameters[name] for name in names]
+    choices = [texts if kind == BYTES else range(v[kind.bound]) for kind in kinds]
     return [dict(zip(names, chosen)) for chosen in product(*choices)]
 
 
@@ -88,7 +86,8 @@ def of_bad_arguments(operation, v):
     """Each argument out of range, alone and together; room one short and none."""
     names = cases_partition.argument_names(operation)
     texts = [[7] * (len(shown(v)) - 1), []]
-    choices = [texts if name == 'text' else [0, v[BOUNDS[name]], LARGEST] for name in names]
+    kinds = [operation.parameters[name] for name in names]
+    choices = [texts if kind == BYTES else [0, v[kind.bound], LARGEST] for kind in kinds]
     for chosen in product(*choices) if names else ():
         case = Case(operation, {**v, **dict(zip(names, chosen))})
         if case.refused:
@@ -98,7 +97,8 @@ def of_bad_arguments(operation, v):
 def of_several_faults(operation, v):
     """Faults in the order in which 01 ranks them, the first taken away each time."""
     v = changed(v, [('elements', 1, 2)])
-    last = {name: [] if name == 'text' else LARGEST for name in cases_partition.argument_names(operation)}
+    names = cases_partition.argument_names(operation)
+    last = {name: [] if operation.parameters[name] == BYTES else LARGEST for name in names}
     yield Case(operation, {**v, **last, 'n': 0, 'end': []})
     yield Case(operation, {**v, **last, 'n': 4097})
     yield Case(operation, {**v, **last, 'end': v['end'][:3]})
@@ -127,6 +127,8 @@ def of_partition(operation, damages):
 
 
 def of(operation):
-    if operation.name == 'BlockPartition::new':
+    """What changes the partition is tried with every damage, the others with a third of them."""
+    if partition not in operation.tests:
         return of_new(operation)
-    return of_partition(operation, DAMAGED if operation.name in EVERYTHING else DAMAGED[ALL.index(operation) % 3::3])
+    changes = set(operation.changed) & set(COLUMNS)
+    return of_partition(operation, DAMAGED if changes else DAMAGED[ALL.index(operation) % 3::3])

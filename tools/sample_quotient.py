@@ -86,14 +86,14 @@ def of_sound(operation):
     """Every table with every flag and every state."""
     for words, v in sound(operation):
         yield f'# {operation.name}: {words}'
-        for switches in cases_quotient.every_switch(operation, v['n']):
+        for switches in cases_quotient.every_switch(operation, range(v['n'])):
             yield Case(operation, {**v, **switches, **lent(operation, v)})
 
 
 def of_size(operation):
     """More states than a byte counts."""
     v = {**tables.chain(300), **laid_out(range(300), [(place, place, place + 2) for place in range(0, 300, 2)], X)}
-    v |= {**cases_quotient.every_switch(operation, 1)[-1], 'state': 299}
+    v |= {**cases_quotient.every_switch(operation, [0])[-1], 'state': 299}
     yield f'# {operation.name}: a hidden chain of 300 states'
     yield Case(operation, {**v, **lent(operation, v)})
 

@@ -6,13 +6,12 @@ import cases_signature
 import cases_table
 import given_lists
 import sample_table
-import signatures
 import tables
 from cases_signature import given
 from lines import Case
-from operations import ALL, OTHER, SELF
+from operations import ALL, CELLS, OTHER, SELF
 from partitions import LARGEST, laid_out
-from refusals import GIVEN, MOST_LABELS, RESULT, pushed
+from refusals import GIVEN, MOST_LABELS, RESULT
 
 # Stands where nothing is read.
 X = LARGEST
@@ -97,7 +96,7 @@ def signed(operation, rows, blocks, lists=LISTS):
     v = {**tables.given(4, 3, rows, 3), **laid_out([3, 1, 0, 2], blocks, X), 'state': 1}
     v |= given_lists.laid_flat(lists) if cases_table.takes_lists(operation) else {}
     v |= sample_table.lent(operation, v)
-    return {**v, 'state_to_key': [5, 1, 0, 5]} if 'state_to_key' in v else v
+    return {**v, 'state_to_key': [5, 1, 0, 5]} if 'keys' in operation.takes else v
 
 
 def of_lists(operation):
@@ -120,7 +119,8 @@ def of_room(operation):
     """Room for the pairs pushed, one less, the distinct ones only, none, and more."""
     v = signed(operation, *(TAKEN[7] if cases_table.takes_lists(operation) else SIGNED[5])[1:])
     yield f'# {operation.name}: room'
-    for length in (pushed(v), pushed(v) - 1, signatures.distinct(v), 0, pushed(v) + 2):
+    pairs = operation.pushes(v)
+    for length in (len(pairs), len(pairs) - 1, len(set(pairs)), 0, len(pairs) + 2):
         yield Case(operation, {**v, **dict.fromkeys(RESULT, [8] * length)})
         yield Case(operation, {**v, RESULT[0]: [8] * length})
         yield Case(operation, {**v, RESULT[1]: [8] * length})
@@ -148,18 +148,19 @@ def of_subset(operation):
 def of_label(operation):
     """Numbers of labels around the limits, and labels around them."""
     numbers = (0, 1, 2, MOST_LABELS - 1, MOST_LABELS, MOST_LABELS + 1, X)
-    if operation.name == 'tau_hat':
-        yield from (Case(operation, {'labels': labels}) for labels in numbers)
-        return
+    seen = set()
     for labels in numbers:
-        near = sorted({0, max(labels - 1, 0), labels, min(labels + 1, X)})
-        yield from (Case(operation, {'label': label, 'labels': labels}) for label in near)
+        for label in sorted({0, max(labels - 1, 0), labels, min(labels + 1, X), X}):
+            case = Case(operation, {'label': label, 'labels': labels})
+            if case.line not in seen:
+                seen.add(case.line)
+                yield case
 
 
 def of(operation):
     if cases_table.signs(operation):
         return of_signature(operation)
-    return of_subset(operation) if operation.name == 'is_subset_of' else of_label(operation)
+    return of_subset(operation) if operation.of(CELLS) else of_label(operation)
 
 
 def of_no_case():

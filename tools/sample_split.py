@@ -4,7 +4,6 @@ import cases_split
 from lines import Case
 from operations import BY_NAME
 from partitions import LARGEST, laid_out
-from refusals import COLUMNS, WORK
 
 DIVIDE, SPLIT = BY_NAME['partition_marked_with'], BY_NAME['split_marked']
 # Stands where nothing is read.
@@ -38,6 +37,7 @@ DIVIDED = (
     ('one state: its number is not read', laid_out([0], [(0, 0, 1)]), 0, [X]),
     ('one state among others', TWO, 1, [1, X, X, X, X, X]),
     ('two blocks, something unmarked', TWO, 0, [1, 1, 0, X, X, X]),
+    ('as many blocks as states', laid_out([1, 2, 0], [(2, 2, 3), (0, 0, 1), (1, 2, 2)]), 1, [X, X, X]),
     ('three blocks, the first', THREE, 0, [X, 1, X, 0, X, X, X]),
     ('three blocks, the second', THREE, 1, [X, X, 1, X, X, 0, X]),
 )
@@ -58,6 +58,7 @@ CHOSEN = (
     ('one state, chosen', laid_out([0], [(0, 0, 1)]), 0, [1]),
     ('one state, not chosen', laid_out([0], [(0, 0, 1)]), 0, [0]),
     ('two blocks, bytes of the other one not read', TWO, 0, [1, 0, 0, 1, 1, 1]),
+    ('as many blocks as states', laid_out([1, 2, 0], [(2, 2, 3), (0, 0, 1), (1, 2, 2)]), 1, [1, 1, 1]),
     ('three blocks, the first', THREE, 0, [1, 1, 1, 0, 1, 1, 1]),
     ('three blocks, the second, all that is marked', THREE, 1, [0, 0, 1, 0, 0, 1, 0]),
 )
@@ -69,34 +70,30 @@ def works(n):
 
 def case(operation, v, block, cells):
     """A case of either operation: the cells are numbers or bytes."""
-    if operation is DIVIDE:
+    if 'numbers' in operation.takes:
         return Case(operation, {**v, 'block': block, 'numbers': cells, **works(v['n'])})
     return Case(operation, {**v, 'block': block, 'choice': cells})
 
 
-def slices_of(operation):
-    return [name for name in operation.parameters if name not in ('n', 'count', 'block')]
-
-
 def of_length(operation, values):
-    """Every slice longer than it need be; each slice one short; those besides the columns empty; n outside."""
-    yield f'# {operation.name}: slices longer, one short, empty; n outside its range'
-    yield Case(operation, {**values, **{name: values[name] + [7, 0, 3] for name in slices_of(operation)}})
-    needed = {name: values['n'] + (name in WORK) for name in slices_of(operation)}
-    yield from (Case(operation, {**values, name: values[name][:least - 1]}) for name, least in needed.items())
-    yield from (Case(operation, {**values, name: []}) for name in needed if name not in COLUMNS)
-    yield from (Case(operation, {**values, 'n': n}) for n in (0, 4097))
+    """Every slice longer than it need be; each slice one short; n outside."""
+    yield f'# {operation.name}: slices longer, one short; n outside its range'
+    yield Case(operation, {**values, **{name: values[name] + [7, 0, 3] for name in operation.needs}})
+    for name, needed in operation.needs.items():
+        yield Case(operation, {**values, name: values[name][:needed(values) - 1]})
+    yield from (Case(operation, {**values, 'n': n}) for n in (0, 4097, X))
 
 
 def of_order(operation, values):
     """Faults in the order in which 01 ranks them, the first taken away each time."""
-    last = slices_of(operation)[-1]
+    last = list(operation.needs)[-1]
     broken = {'elements': [values['elements'][1], *values['elements'][1:]]}
     faults = [{'n': 4097}, {last: values[last][:values['n'] - 1]}, broken, {'block': X}]
-    if operation is DIVIDE:
+    if 'numbers' in operation.takes:
         faults += [{'marked_split': values['end']}, {'numbers': [X] * values['n']}]
     yield f'# {operation.name}: a damaged partition, a block out of range, several faults at once'
-    yield from (Case(operation, {**values, **fault}) for fault in (broken, {'count': 0}, {'end': [7] * 7}))
+    yield from (Case(operation, {**values, **fault}) for fault in (broken, {'end': [7] * 7}))
+    yield from (Case(operation, {**values, 'count': count}) for count in (0, values['n'] + 1, X))
     yield from (Case(operation, {**values, 'block': block}) for block in (values['count'], X))
     for first in range(len(faults)):
         wrong = {}
@@ -150,7 +147,7 @@ def of_split():
 
 
 def of(operation):
-    return of_divide() if operation is DIVIDE else of_split()
+    return of_divide() if 'numbers' in operation.takes else of_split()
 
 
 def of_no_case():

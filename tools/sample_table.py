@@ -6,7 +6,7 @@ import cases_table
 import given_lists
 import tables
 from lines import Case, written
-from operations import ALL, BY_NAME, FLAGS
+from operations import ALL, BY_NAME, FLAG
 from partitions import LARGEST, laid_out
 from refusals import GIVEN, MOST_LABELS, MOST_ROWS, MOST_STATES
 
@@ -43,6 +43,7 @@ CLOSED = (
      [(1, 2, 3), (3, 3, 5), (0, 1, 1)]),
     ('a source of another block', [(3, 0, 2), (4, 0, 0)], [(0, 2, 3), (3, 5, 5)]),
     ('a block of one state', [(1, 0, 1), (3, 0, 1)], [(4, 4, 5), (0, 4, 4)]),
+    ('as many blocks as states', [(0, 0, 3), (3, 0, 3)], [(3, 3, 4), (0, 0, 1), (4, 5, 5), (2, 2, 3), (1, 2, 2)]),
 )
 
 
@@ -74,7 +75,7 @@ def of_closed(operation):
 
 def a_case(operation):
     """A sound case with two rows, to be made faulty."""
-    v = {**tables.given(3, 2, [(0, 0, 1), (1, 1, 2)], 2), **dict.fromkeys(FLAGS, 0), 'state': 1, 'from': 1}
+    v = {**tables.given(3, 2, [(0, 0, 1), (1, 1, 2)], 2), **dict.fromkeys(operation.of(FLAG), 0), 'state': 1, 'from': 1}
     v |= {**laid_out([2, 0, 1], [(0, 2, 3)], X), 'block': 0}
     v |= given_lists.laid_flat([[(0, 2)], [(X, X)], [(1, 0), (1, 1)]]) if cases_table.takes_lists(operation) else {}
     return {name: value for name, value in {**v, **lent(operation, v)}.items() if name in operation.parameters}
@@ -85,7 +86,7 @@ def of_length(operation, v):
     yield Case(operation, {**v, **{name: v[name] + [3, X] for name in operation.needs}})
     for name, needed in operation.needs.items():
         yield Case(operation, {**v, name: v[name][:needed(v) - 1]})
-    yield Case(operation, {**v, **dict.fromkeys(operation.needs, [])})
+    yield Case(operation, {**v, **dict.fromkeys(operation.lengths(), [])})
 
 
 def of_header(operation, v):
@@ -106,17 +107,23 @@ def of_rows(operation, v):
         yield Case(operation, {**v, **table, **lent(operation, {**v, **table})})
 
 
+def bounded(operation):
+    """The arguments that have a bound, with their kinds."""
+    return {name: kind for name, kind in operation.parameters.items() if kind.bound}
+
+
 def of_order(operation, v):
     """Faults in the order in which 01 ranks them, the first taken away each time."""
     last = list(operation.needs)[-1]
     faults = [{'n': 0}, {'labels': 0}, {'m': MOST_ROWS + 1}, {'initial': 3}, {last: v[last][:-1]}, {'target': [3, 2]},
               {'source': [1, 1], 'label': [1, 1], 'target': [2, 1]}]
-    faults += [{name: number} for name, number in (('count', 0), ('block', X), ('state', X), ('from', 3)) if name in v]
-    faults += [{'starts': [0, 1, 0, 9]}, {'given_blocks': [2, X, 1, 1]}] if 'starts' in v else []
+    faults += [{'count': 0}] if cases_table.takes_partition(operation) else []
+    faults += [{name: X} for name in bounded(operation)]
+    faults += [{'starts': [0, 1, 0, 9]}, {'given_blocks': [2, X, 1, 1]}] if cases_table.takes_lists(operation) else []
     faults += [dict.fromkeys(operation.rooms, [])] if operation.rooms else []
-    if 'places' in v:
+    if 'order' in operation.takes:
         faults.append({'source': [0, 1], 'label': [0, 0], 'target': [1, 0]})
-    if 'branching' in v:
+    if 'bottom' in operation.takes:
         faults.append({'branching': 1, 'source': [0, 2], 'label': [0, 0], 'target': [2, 0]})
     yield f'# {operation.name}: several faults at once'
     for first in range(len(faults)):
@@ -137,10 +144,10 @@ def of_partition(operation, v):
 
 def of_arguments(operation, v):
     """8."""
-    for name, numbers in (('block', (1, 3, X)), ('state', (3, X)), ('from', (3, X))):
-        if name in v:
-            yield f'# {operation.name}: a {name} out of range'
-            yield from (Case(operation, {**v, name: number}) for number in numbers)
+    for name, kind in bounded(operation).items():
+        yield f'# {operation.name}: a {name} out of range'
+        numbers = sorted({v[kind.bound] + kind.itself, v['n'], X})
+        yield from (Case(operation, {**v, name: number}) for number in numbers)
 
 
 def of_faults(operation):
@@ -149,7 +156,7 @@ def of_faults(operation):
     yield from of_header(operation, v)
     yield from of_length(operation, v)
     yield from of_rows(operation, v)
-    if 'count' in v:
+    if cases_table.takes_partition(operation):
         yield from of_partition(operation, v)
     yield from of_arguments(operation, v)
     yield from of_order(operation, v)
@@ -173,7 +180,7 @@ def no_cases(operation):
     """A word too few, a word too many, a flag of 2, and a cell that is too large in the last slice."""
     example = cases_table.example(operation)
     lines = list(cases_bad.cases(operation, example))
-    flags = [Case(operation, None, written(operation, {**example, flag: 2})) for flag in FLAGS if flag in example]
+    flags = [Case(operation, None, written(operation, {**example, flag: 2})) for flag in operation.of(FLAG)]
     return (lines[0], lines[2], *flags, lines[-1])
 
 

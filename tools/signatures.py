@@ -2,8 +2,7 @@
 from itertools import product
 
 import partitions
-import plain
-from refusals import RESULT, pushed, pushed_rows
+from refusals import RESULT
 
 # States and labels of the tables that are tried with every argument.
 SMALL = ((1, 1), (1, 2), (2, 1), (2, 2))
@@ -17,39 +16,26 @@ def number_of_rows(rng, n):
 def every_argument(operation, n):
     """Every partition and state; where there are keys, every two of them."""
     every = [{**v, 'state': state} for v, state in product(partitions.every(n), range(n))]
-    if 'state_to_key' not in operation.parameters:
+    if 'keys' not in operation.takes:
         return every
     return [{**v, 'state_to_key': list(keys)} for v, keys in product(every, product((0, 2), repeat=n))]
 
 
-def pair_of(v, label, target):
-    """What a row of the state pushes: its label and the target's block, or tau_hat and the target's key."""
-    block = v['element_to_block'][target]
-    stays = label == 0 and block == v['element_to_block'][v['state']]
-    marked = v['element_offset'][target] >= v['marked_split'][block]
-    return (v['labels'], v['state_to_key'][target]) if stays and marked and 'state_to_key' in v else (label, block)
-
-
-def distinct(v):
-    """How many pairs a sound case leaves of those that are pushed."""
-    if 'starts' in v:
-        return len(set(plain.sorted_pairs(v)))
-    return len({pair_of(v, label, target) for _, label, target in pushed_rows(v)})
-
-
-def little_room(rng, v):
+def little_room(operation):
     """16: room for one pair less than is pushed, for the distinct ones alone, for any fewer, or for none."""
-    needed = pushed(v)
-    lengths = (max(needed - 1, 0), distinct(v), rng.randrange(max(needed, 1)), 0)
-    for column in rng.choice((RESULT, RESULT[:1], RESULT[1:])):
-        del v[column][rng.choice(lengths):]
+    def fault(rng, v):
+        pairs = operation.pushes(v)
+        lengths = (max(len(pairs) - 1, 0), len(set(pairs)), rng.randrange(max(len(pairs), 1)), 0)
+        for column in rng.choice((RESULT, RESULT[:1], RESULT[1:])):
+            del v[column][rng.choice(lengths):]
+    return fault
 
 
-def every_room(sound, number):
+def every_room(operation, sound, number):
     """Random sound cases, each with room for the pairs pushed, one less, one more, the distinct ones and none."""
     for _ in range(number):
         v = sound()
-        needed = pushed(v)
-        lengths = sorted({needed, max(needed - 1, 0), needed + 1, distinct(v), 0})
+        pairs = operation.pushes(v)
+        lengths = sorted({len(pairs), max(len(pairs) - 1, 0), len(pairs) + 1, len(set(pairs)), 0})
         for chosen in product(lengths, repeat=len(RESULT)):
             yield {**v, **{column: [9] * length for column, length in zip(RESULT, chosen)}}

@@ -1,12 +1,10 @@
-"""What the operations that split a block take beside the partition: a block, a number or byte for each state, work."""
+"""What operations take beside the partition: a block, a number or byte for each state, work, room for the text."""
 from functools import cache
 from itertools import product
 
 from partitions import LARGEST
-from refusals import WORK, marked
-
-# The slices that only these operations take.
-SLICES = ('numbers', 'choice') + WORK
+from refusals import marked, shown
+from rooms import ROOM
 
 
 def junk_cells(rng, n, length):
@@ -75,13 +73,9 @@ def random_work(rng, v):
     return junk_cells(rng, v['n'], v['n'] + 1 + more(rng))
 
 
-def good_argument(rng, v, name):
-    """A good argument for what `v` holds already: the partition, and for a slice the block."""
-    if name == 'block':
-        return a_block(rng, v)
-    if name == 'numbers':
-        return random_numbers(rng, v)
-    return random_choice(rng, v) if name == 'choice' else random_work(rng, v)
+def some_room(rng, v):
+    """Room for the partition's text: exact or more, with any bytes."""
+    return list(rng.randbytes(min(len(shown(v)) + rng.choice((0, 0, 1, 5)), ROOM)))
 
 
 def unmark(rng, v):

@@ -54,11 +54,13 @@ def unfolded(rng, v, n):
     return given(n, v['labels'], sorted(rows)[:MOST_ROWS], rng.randrange(n))
 
 
-def full(rng, n):
-    """As many rows as there may be."""
+def full(rng, n, rising=False):
+    """As many rows as there may be: any, or each from a lower state to a higher one."""
     rows = set()
     while len(rows) < MOST_ROWS:
-        rows.add((rng.randrange(n), rng.choice((0, rng.randrange(MOST_LABELS))), rng.randrange(n)))
+        source, label, target = rng.randrange(n), rng.choice((0, rng.randrange(MOST_LABELS))), rng.randrange(n)
+        if not rising or source < target:
+            rows.add((source, label, target))
     return given(n, MOST_LABELS, sorted(rows), n - 1)
 
 
