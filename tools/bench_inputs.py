@@ -1,10 +1,13 @@
 """The inputs of the benchmark: five shapes of tables and partitions, with n states and about 2 n rows.
 
-An input is numbers, the columns of partitions, and the other columns, all of them u16 with the low byte first.
+An input is numbers, the columns of partitions, the other columns, all of them u16 with the low byte first, and the
+table once more, as an input file.
 """
 import random
 import struct
 from typing import NamedTuple
+
+import file_model
 
 SIZES = (512, 1024, 2048, 4096)
 SHAPES = {
@@ -91,6 +94,15 @@ def rows_and_blocks(shape, rng, n):
     return rows, numbers, [rng.randrange(2) for _ in range(n)], numbers
 
 
+def generator(shape, n):
+    """The random numbers of an input; the rows are made with the first of them."""
+    return random.Random(f'{shape} {n}')
+
+
+def rows_of(shape, n):
+    return rows_and_blocks(shape, generator(shape, n), n)[0]
+
+
 def inverse(order):
     offsets = [0] * len(order)
     for place, state in enumerate(order):
@@ -147,9 +159,14 @@ def packed(columns):
     return b''.join(struct.pack(f'<{len(cells)}H', *cells) for cells in columns)
 
 
+def input_file(n, labels, rows):
+    """The bytes of a table as an input file."""
+    return file_model.bytes_of(file_model.Table(n, labels, 0, rows))
+
+
 def made(shape, n, settings):
     """The bytes of an input."""
-    rng = random.Random(f'{shape} {n}')
+    rng = generator(shape, n)
     rows, numbers, choice, home = rows_and_blocks(shape, rng, n)
     rows, many, count = sorted(rows), blocks(home), max(home) + 1
     order = list(range(n)) if shape == 'chain' else shuffled(rng, n)
@@ -166,11 +183,12 @@ def made(shape, n, settings):
             *settings)
     columns = [*one, *many, *last, *signed, *listed, *fields(rows, 3), numbers, choice, keys, *fields(pairs, 2),
                *fields(others, 2), *fields(given, 2)]
-    return packed((head, *columns))
+    return packed((head, *columns)) + input_file(n, LABELS, rows)
 
 
 def table_alone(n, labels, rows, settings):
-    """The bytes of an input for calls on a table alone: the partitions are zero, and nothing follows the rows."""
+    """The bytes of an input for calls on a table alone: all other columns are zero, or have no cells."""
     head = (n, len(rows), labels, 1, 1, 1, 0, 0, 0, 0, *settings)
-    unused = [[0] * n] * (len(PARTITIONS) * len(SIX))
-    return packed((head, *unused, *fields(sorted(rows), 3)))
+    before, after = len(PARTITIONS) * len(SIX), list(GIVEN.values()).count('n')
+    rows = sorted(rows)
+    return packed((head, *[[0] * n] * before, *fields(rows, 3), *[[0] * n] * after)) + input_file(n, labels, rows)

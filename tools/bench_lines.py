@@ -1,4 +1,5 @@
 """The lines of the benchmark: for each operation its public entry and its core, with what they are called on."""
+from bench_files import FILES
 from bench_inputs import SIX
 from bench_line import Line, both, copy, one, present
 from bench_quotients import QUOTIENTS, REDUCTION
@@ -21,9 +22,10 @@ SOME = {'block_index': 'some', 'b': 'some'}
 ALPHABET = dict.fromkeys(('labels', 'label'), 'label_counts[state]')
 
 
-def reader(name):
+def reader(name, has_rust=True):
     """A call that reads a partition of many blocks. It has no core: once the check is made it reads a cell or two."""
-    return Line(name, 'public', one(f'partition_calls::readers::{name}'), partition='many', values=SOME, rust=name)
+    return Line(name, 'public', one(f'partition_calls::readers::{name}'), partition='many', values=SOME,
+                rust=name if has_rust else '')
 
 
 def of_block(name):
@@ -41,12 +43,14 @@ UNCLOSED = copy('closing', 'last', SIX[:2]) + 'closing_marked_split[0] = (n - 1)
 UNMARKED = copy('closing', 'one', SIX[:2]) + 'closing_marked_split[0] = n as u16;\n'
 SORTED = present(one('signatures_sorted::core::branching_bisim_signature_sorted'),
                  (('taken', 'signatures_sorted::core::take'), ('', 'signatures_sorted::core::finish')))
-# What stands beside the Rust. The readers come before the lines that swap blocks, so that both sides read the same.
+# What is called on the inputs of bench_inputs, beside the Rust where there is one. The readers come before the lines
+# that swap blocks, so that both sides read the same.
 CALLS = (
     Line('all columns copied', 'reset', (), before=ANEW, counted='now_elements[0]', rust='all columns copied'),
     Line('two columns copied', 'reset', (), before=UNCLOSED, counted='closing_marked_split[0]',
          rust='two columns copied'),
     *map(reader, ('num_of_blocks', 'len', 'block_number', 'is_element_marked', 'iter_block')),
+    reader('iter_block_refusal', has_rust=False),
     *both('read_block', one('partition_calls::readers::read_block'), one('partition::core::read_block'),
           partition='many', values=SOME),
     *map(of_block, ('new', 'new_unmarked', 'len', 'len_marked', 'has_marked', 'has_unmarked')),
@@ -94,6 +98,7 @@ CALLS = (
                'listed'),
     *both('is_subset_of', one('pairs::is_subset_of'), one('pairs::core::subset'), values={'label': '2000'}),
     *QUOTIENTS,
+    *FILES,
     Line('the check of a partition', 'check', one('partition::checks::check'), partition='signed'),
     Line('the check of a table', 'check', one('table::checks::check')),
     Line('the check of both', 'check', one('table_partition::check'), partition='signed'),

@@ -1,9 +1,10 @@
-"""The Rattle program of the benchmark, as text: it reads columns, and times one line after the other.
+"""The Rattle program of the benchmark, as text: it reads columns and a file, and times one line after the other.
 
 Nothing of it is proved, and it is no part of the port.
 """
 import bench_signatures
 import needs
+from bench_files import FILE_IN
 from bench_inputs import GIVEN, NUMBERS, PARTITIONS, SECOND, SIX
 from bench_line import COPIES, LENT, RESULTS, WORK, copy, functions, values_of
 from bench_lines import LINES
@@ -26,6 +27,9 @@ ANSWERS = {
                         'm + 0 * n + 0 * labels + 0 * initial + 0 * state'),
     'ReductionAnswer': ('reduction::answers', 'ReductionOutcome', 'Done { n, labels, m, initial, rounds }',
                         f'{BLOCK} * n + rounds + 0 * labels + 0 * m + 0 * initial'),
+    'FileAnswer': ('file_reduction::answers', 'FileOutcome',
+                   'Done { bytes, states, labels, rows, blocks, reduced_rows, rounds }',
+                   f'{BLOCK} * blocks + rounds + 0 * bytes + 0 * states + 0 * labels + 0 * rows + 0 * reduced_rows'),
 }
 REFUSED = 1_000_000_000
 # Room for columns of n, m and n + m + 1 cells, for results and for given lists, at the greatest n and m.
@@ -89,21 +93,23 @@ def uses():
 
 
 def arrays():
-    """Every array: the columns of the partitions, what is given, work, results."""
+    """Every array: the columns of the partitions, what is given, work, results, and the files."""
     columns = {f'{partition}_{column}': 'n' for partition in (*PARTITIONS, *COPIES) for column in SIX}
     made = {**columns, **GIVEN, **WORK, **RESULTS, **LENT}
-    kinds = {'text': '0u8; 70000', 'choice': '0u8; 4200', 'starts': '0u32; 4200', 'chosen': '0u16; 4200'}
+    kinds = {**dict.fromkeys(('text', 'file_in', 'file_out'), '0u8; 70000'), 'choice': '0u8; 4200',
+             'starts': '0u32; 4200', 'chosen': '0u16; 4200'}
     cells = {**{name: f'0u16; {ROOMS.get(length)}' for name, length in made.items()}, **kinds}
     return ''.join(f'let mut {name} = [{kind}];\n' for name, kind in cells.items())
 
 
 def reading():
-    """The numbers and the columns, in the order of the input, and the copies. The choice is read as `chosen`."""
+    """The numbers, the columns and the file, in the order of the input, and the copies; the choice as `chosen`."""
     made = ''.join(f'let {name} = head[{place}] as usize;\n' for place, name in enumerate(NUMBERS))
     made += 'if n == 0 {\nreturn;\n}\n' + arrays()
     columns = {f'{partition}_{column}': 'n' for partition in PARTITIONS for column in SIX}
     for name, length in {**columns, **GIVEN}.items():
         made += f'read_column(&mut buffer, &mut {"chosen" if name == "choice" else name}[..{length}]);\n'
+    made += f'let got = io::read_full(0, &mut {FILE_IN});\n'
     return made + ''.join(copy(to, origin) for to, origin in COPIES.items())
 
 
@@ -183,6 +189,7 @@ fn main() {
                 many_elements[4199] = round as u16;
                 records[4199].begin = round as u16;
                 label_counts[4199] = round as u16;
+                file_in[69999] = round as u8;
                 round += 1;
             }
             let took = now_ns() - from;

@@ -1,4 +1,5 @@
-"""The lines of the quotients, which stand beside the Rust, and of the strong reduction, which stands alone."""
+"""The lines of the quotients, which stand beside the Rust, and of the strong reduction, which stand alone."""
+from bench_files import FILE_IN, FILE_OUT
 from bench_line import RESULT_COLUMNS, WORK_SLICES, Line, both, one
 
 
@@ -19,7 +20,7 @@ NAIVE = {**BY_BLOCKS, **lent('a b c order spare')}
 BY_CHOSEN = {**BY_BLOCKS, 'branching': 'true', **lent('a b c order spare chosen')}
 SEARCHES = 'order back_source back_label back_target forward backward queue'
 COMPONENTS = {**lent(SEARCHES), 'numbers': 'places[..n]'}
-CYCLES = {'eliminate': 'true', **lent('numbers mid_source mid_label mid_target a b c order spare')}
+CYCLES = {'eliminate_tau_selfloops': 'true', **lent('numbers mid_source mid_label mid_target a b c order spare')}
 TEN = 'elements element_offset element_to_block begin marked_split end numbers labels blocks spare'
 REDUCED = {**lent(TEN), 'block': 'block_of[..n]'}
 
@@ -38,4 +39,5 @@ QUOTIENTS = (
 REDUCTION = (
     Line('strong_reduction', 'core', one('reduction::core::reduce'), values=REDUCED),
     Line('strong_reduction', 'public', one('reduction::strong_reduction'), values=REDUCED),
+    Line('reduce_file', 'public', one('file_reduction::reduce_file'), values={'input': FILE_IN, 'output': FILE_OUT}),
 )

@@ -1,4 +1,4 @@
-"""The tables on which the strong reduction is timed, and what it costs on them.
+"""The tables on which the strong reduction is timed, alone and from file to file, and what it costs on them.
 
 There is no Rust beside it. Its rounds and blocks are held against those that bench_refinement counts.
 """
@@ -9,8 +9,7 @@ import random
 import bench_inputs
 import bench_refinement
 import bench_table
-import document
-from bench_inputs import LABELS, SIZES, random_rows, shuffled, star_rows
+from bench_inputs import LABELS, SIZES, dense_rows, random_rows, shuffled, star_rows
 from bench_program import BLOCK
 from bench_quotients import REDUCTION
 
@@ -19,6 +18,8 @@ SHAPES = {
     'counter': 'the states are the numbers below n, in binary; a row leads to the next number, and its label tells how '
                'many bits change, a hidden row leads to 0; each round of the second half splits one pair of states',
     'random': 'two rows a state, hidden ones to later states; eight labels',
+    'dense': 'about 2 √n states with a hidden row to each later one, the others without rows; each round splits off '
+             'one state',
     'star': 'a hidden row from one state to each, and a visible one back, with one of seven labels',
     'hub': 'a chain through the states in random order, and a hidden row from its first state to each other; '
            'each round sorts the n pairs of that state',
@@ -54,7 +55,7 @@ def rows_of(shape, n):
     """The rows, and how many labels there are."""
     if shape == 'random':
         return random_rows(random.Random(f'{shape} {n}'), n), LABELS
-    rows = {'chain': chain_rows, 'counter': counter_rows, 'star': star_rows, 'hub': hub_rows,
+    rows = {'chain': chain_rows, 'counter': counter_rows, 'dense': dense_rows, 'star': star_rows, 'hub': hub_rows,
             'differing': differing_rows}
     return rows[shape](n), MORE_LABELS
 
@@ -82,18 +83,25 @@ def signing(shape, n):
     return (counted(shape, n).rounds + 1) * (n + len(rows) + sum(k * (k - 1).bit_length() for k in degrees))
 
 
+def times(best, shape, n):
+    """Those of each line, or None where it was not measured."""
+    return [best.get(bench_table.port_key(line, shape, n)) for line in REDUCTION]
+
+
 def row(best, shape, n):
-    core, public = (best[bench_table.port_key(line, shape, n)] for line in REDUCTION)
-    half = best.get(bench_table.port_key(REDUCTION[0], shape, n // 2)) if n in SIZES else None
+    core, public, of_file = times(best, shape, n)
+    half_core, _, half_file = times(best, shape, n // 2) if n in SIZES else (None, None, None)
     count, signed = counted(shape, n), signing(shape, n)
+    step = None if core is None else core / (signed + count.failing)
     return (shape, f'{n:,}', f'{len(rows_of(shape, n)[0]):,}', f'{count.rounds:,}', f'{count.blocks:,}', f'{signed:,}',
-            f'{count.failing:,}', bench_table.micros(core), bench_table.micros(public),
-            bench_table.short(bench_table.quotient(core, half)), f'{core / (signed + count.failing):.1f}')
+            f'{count.failing:,}', bench_table.micros(core), bench_table.short(bench_table.quotient(core, half_core)),
+            bench_table.short(step), bench_table.micros(public), bench_table.micros(of_file),
+            bench_table.short(bench_table.quotient(of_file, half_file)))
 
 
 def report(best):
-    """The shapes and the table as markdown."""
-    shapes = ''.join(f'- {shape}: {what}\n' for shape, what in SHAPES.items())
-    heads = ('shape', 'n', 'm', 'rounds', 'blocks', 'steps of signing', 'failing comparisons', 'core', 'public',
-             'growth', 'ns a step')
-    return f'{shapes}\n{document.table(heads, [row(best, *given) for given in INPUTS])}'
+    """The shapes and the table as markdown, or nothing where nothing was measured."""
+    heads = ('shape', 'n', 'm', 'rounds', 'blocks', 'steps of signing', 'failing comparisons', 'core', 'growth',
+             'ns a step', 'public', '`reduce_file`', 'its growth')
+    rows = [row(best, *given) for given in INPUTS if any(times(best, *given))]
+    return f'{bench_table.listed(SHAPES)}\n{bench_table.table(heads, rows)}' if rows else ''
