@@ -5,16 +5,16 @@ use mathlib.Core.Bool.{true}
 use mathlib.Core.List.{List}
 use Prim.Native.Nat.{ℕ, _≤_, _<_}
 use lib.ListN.{length}
-use Rattle.columns.specs.Sets.{Mem, Row, rowLt, Ascending}
+use Rattle.columns.specs.Sets.{Mem, Row, rowLt, Ascending, StepIn}
 use Rattle.columns.proofs.Orders.{row-order}
 use Rattle.columns.proofs.Sets.{ascending-unique}
-use Rattle.bisimulation.specs.Bisimulation.{Step, InRange, Match, Simulation, Bisimulation}
+use Rattle.bisimulation.specs.Bisimulation.{InRange, Match, Simulation, Bisimulation}
 use Rattle.bisimulation.specs.Quotient.{quotient, Shares, Belongs}
 use Rattle.bisimulation.proofs.Kept.{From, kept-in, kept-out, kept-ascending, kept-few}
 
 module _ (block : ℕ → ℕ) (rows : List Row) where
   -- ---- the steps of the quotient
-  pub quotient-in : (s a u : ℕ) → Step rows s a u → Step (quotient block rows) (block s) a (block u)
+  pub quotient-in : (s a u : ℕ) → StepIn rows s a u → StepIn (quotient block rows) (block s) a (block u)
   unfolding quotient
   quotient-in s a u k = kept-in (λ r. true) block rows s a u k refl
 
@@ -22,7 +22,7 @@ module _ (block : ℕ → ℕ) (rows : List Row) where
   abbrev pub Source : ℕ → ℕ → ℕ → Type 0
   Source b a c = From (λ r. true) block rows b a c
 
-  pub quotient-out : (b a c : ℕ) → Step (quotient block rows) b a c → Source b a c
+  pub quotient-out : (b a c : ℕ) → StepIn (quotient block rows) b a c → Source b a c
   unfolding quotient
   quotient-out b a c k = kept-out (λ r. true) block rows b a c k
 
@@ -44,15 +44,15 @@ module _ (block : ℕ → ℕ) (rows : List Row) where
             let f = quotient-out (z .0) (z .1 .0) (z .1 .1) k in
             let b : z .0 ≡ f .source = sym (f .from) ∙ own (f .source) (w .source _ _ _ (f .step)) in
             let c : z .1 .1 ≡ f .target = sym (f .to) ∙ own (f .target) (w .target _ _ _ (f .step)) in
-            subst (λ (x : ℕ). Step rows x (z .1 .0) (z .1 .1)) (sym b)
-            (subst (λ (y : ℕ). Step rows (f .source) (z .1 .0) y) (sym c) (f .step))
+            subst (λ (x : ℕ). StepIn rows x (z .1 .0) (z .1 .1)) (sym b)
+            (subst (λ (y : ℕ). StepIn rows (f .source) (z .1 .0) y) (sym c) (f .step))
 
         back : (z : Row) → Mem {A = Row} z rows → Mem {A = Row} z (quotient block rows)
         back z k =
             let b : block (z .0) ≡ z .0 = own (z .0) (w .source _ _ _ k) in
             let c : block (z .1 .1) ≡ z .1 .1 = own (z .1 .1) (w .target _ _ _ k) in
-            subst (λ (x : ℕ). Step (quotient block rows) x (z .1 .0) (z .1 .1)) b
-            (subst (λ (y : ℕ). Step (quotient block rows) (block (z .0)) (z .1 .0) y) c (quotient-in (z .0) (z .1 .0) (z .1 .1) k))
+            subst (λ (x : ℕ). StepIn (quotient block rows) x (z .1 .0) (z .1 .1)) b
+            (subst (λ (y : ℕ). StepIn (quotient block rows) (block (z .0)) (z .1 .0) y) c (quotient-in (z .0) (z .1 .0) (z .1 .1) k))
 
     pub shares-turned : {s t : ℕ} → Shares n block s t → Shares n block t s
     shares-turned h = record { left = h .right; right = h .left; same = sym (h .same) }
@@ -69,7 +69,7 @@ module _ (block : ℕ → ℕ) (rows : List Row) where
     module _ (w : InRange n rows) (b : Bisimulation rows rows (Shares n block)) where
       -- each step of a block is answered by every state in it, with a target in the right block
       pub block-answered :
-          (s c a d : ℕ) → Belongs n block s c → Step (quotient block rows) c a d → Match rows s a (λ u. Belongs n block u d)
+          (s c a d : ℕ) → Belongs n block s c → StepIn (quotient block rows) c a d → Match rows s a (λ u. Belongs n block u d)
       block-answered s c a d h k =
           let f = quotient-out c a d k in
           let here : Shares n block (f .source) s
@@ -87,7 +87,7 @@ module _ (block : ℕ → ℕ) (rows : List Row) where
         forth = λ s c a u h k.
             record {
               target = block u;
-              step = subst (λ (x : ℕ). Step (quotient block rows) x a (block u)) (h .home) (quotient-in s a u k);
+              step = subst (λ (x : ℕ). StepIn (quotient block rows) x a (block u)) (h .home) (quotient-in s a u k);
               related = record { state = w .target s a u k; home = refl };
             };
         back = λ c s a d h k. block-answered s c a d h k;

@@ -8,3 +8,5 @@ pub use Rattle.bisimulation.proofs.Quotients.{quotient-in, quotient-out
 pub use Rattle.bisimulation.proofs.Quotients.{shares-bisimulation, block-answered, quotient-bisimulation}
 -- Where each state is its own block, the quotient is the table.
 pub use Rattle.bisimulation.proofs.Quotients.{quotient-own}
+-- The rows between blocks make a valid table, and so do those of them that come from the rows that pass a test.
+pub use Rattle.bisimulation.proofs.Tables.{quotient-valid, kept-valid}

@@ -38,6 +38,10 @@ and-both p q = rw (p, q)
 pub and-no-left : (a b : Bool) → a ≡ false → (a && b) ≡ false
 and-no-left a b e = rw e
 
+pub and-one : (a b : Bool) → b ≡ true → (a && b) ≡ a
+and-one true b e = e
+and-one false b e = refl
+
 pub and-no-right : (a b : Bool) → b ≡ false → (a && b) ≡ false
 and-no-right true b e = e
 and-no-right false b e = refl

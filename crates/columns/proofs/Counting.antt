@@ -8,37 +8,32 @@ use mathlib.Core.Bool.{Bool, true, false, cond}
 use mathlib.Core.Path.{_≡_, refl, ap, sym, _∙_}
 use mathlib.Core.Logic.{⊎-elim}
 use lib.Dec.{eqb}
-use Rattle.columns.specs.Counting.{sum, many, first}
+use Rattle.columns.specs.Counting.{sum, many, first, bit}
 use Rattle.columns.proofs.Bools.{cases, contra, fails}
 use Rattle.columns.proofs.All.{top-or-below, same-or-not, lt-or-le, not-below}
 use Rattle.columns.proofs.Sums.{sum-mono, sum-cong, sum-tight, sum-add, sum-zero, sum-one}
 
--- 1 for true
-unfoldable pub one-if : Bool → ℕ
-one-if t = cond t 1 0
+-- ---- a flag as a number
+pub bit-true : (t : Bool) → t ≡ true → bit t ≡ 1
+bit-true t e = rw e
 
-pub one-if-true : (t : Bool) → t ≡ true → one-if t ≡ 1
-unfolding one-if
-one-if-true t e = rw e
+pub bit-false : (t : Bool) → t ≡ false → bit t ≡ 0
+bit-false t e = rw e
 
-pub one-if-false : (t : Bool) → t ≡ false → one-if t ≡ 0
-unfolding one-if
-one-if-false t e = rw e
+pub bit-imp : (s t : Bool) → (s ≡ true → t ≡ true) → bit s ≤ bit t
+bit-imp s t h = ⊎-elim (λ e. omega (arith, bit-true s e, bit-true t (h e))) (λ e. omega (arith, bit-false s e)) (cases s)
 
-pub one-if-imp : (s t : Bool) → (s ≡ true → t ≡ true) → one-if s ≤ one-if t
-one-if-imp s t h = ⊎-elim (λ e. omega (arith, one-if-true s e, one-if-true t (h e))) (λ e. omega (arith, one-if-false s e)) (cases s)
-
-pub one-if-most : (s : Bool) → one-if s ≤ 1
-one-if-most s = ⊎-elim (λ e. omega (arith, one-if-true s e)) (λ e. omega (arith, one-if-false s e)) (cases s)
+pub bit-most : (s : Bool) → bit s ≤ 1
+bit-most s = ⊎-elim (λ e. omega (arith, bit-true s e)) (λ e. omega (arith, bit-false s e)) (cases s)
 
 -- ---- how many pass
-pub many-sum : (n : ℕ) (f : ℕ → Bool) → many n f ≡ sum (λ k. one-if (f k)) n
-unfolding many sum one-if
+pub many-sum : (n : ℕ) (f : ℕ → Bool) → many n f ≡ sum (λ k. bit (f k)) n
+unfolding many sum
 many-sum zero f = refl
-many-sum (suc n) f = ap (λ (x : ℕ). x + cond (f n) 1 0) (many-sum n f)
+many-sum (suc n) f = ap (λ (x : ℕ). x + bit (f n)) (many-sum n f)
 
-pub many-suc : (n : ℕ) (f : ℕ → Bool) → many (n + 1) f ≡ many n f + one-if (f n)
-unfolding many one-if
+pub many-suc : (n : ℕ) (f : ℕ → Bool) → many (n + 1) f ≡ many n f + bit (f n)
+unfolding many
 many-suc n f = rw add-one
 
 pub many-none : (f : ℕ → Bool) → many 0 f ≡ 0
@@ -47,10 +42,10 @@ many-none f = refl
 
 pub many-mono : (n : ℕ) (f g : ℕ → Bool) → ((k : ℕ) → k < n → f k ≡ true → g k ≡ true) → many n f ≤ many n g
 many-mono n f g h =
-    omega (arith, many-sum n f, many-sum n g, sum-mono (λ k. one-if (f k)) (λ k. one-if (g k)) n (λ k w. one-if-imp (f k) (g k) (h k w)))
+    omega (arith, many-sum n f, many-sum n g, sum-mono (λ k. bit (f k)) (λ k. bit (g k)) n (λ k w. bit-imp (f k) (g k) (h k w)))
 
 pub many-cong : (n : ℕ) (f g : ℕ → Bool) → ((k : ℕ) → k < n → f k ≡ g k) → many n f ≡ many n g
-many-cong n f g h = many-sum n f ∙ sum-cong (λ k. one-if (f k)) (λ k. one-if (g k)) n (λ k w. ap one-if (h k w)) ∙ sym (many-sum n g)
+many-cong n f g h = many-sum n f ∙ sum-cong (λ k. bit (f k)) (λ k. bit (g k)) n (λ k w. ap bit (h k w)) ∙ sym (many-sum n g)
 
 -- the members of one test pass the other, which counts no more: they are the same tests
 pub many-full :
@@ -58,9 +53,9 @@ pub many-full :
 many-full n f g h m k w e =
     ⊎-elim (λ (q : f k ≡ true). q)
     (λ (q : f k ≡ false).
-    let t = sum-tight (λ k. one-if (f k)) (λ k. one-if (g k)) n (λ k w. one-if-imp (f k) (g k) (h k w))
+    let t = sum-tight (λ k. bit (f k)) (λ k. bit (g k)) n (λ k w. bit-imp (f k) (g k) (h k w))
     (omega (arith, many-sum n f, many-sum n g, many-mono n f g h)) k w in
-    absurd (omega (arith, one-if-false (f k) q, one-if-true (g k) e)))
+    absurd (omega (arith, bit-false (f k) q, bit-true (g k) e)))
     (cases (f k))
 
 -- one that passes only the second test makes the second count larger
@@ -70,15 +65,15 @@ many-less n s f g h w nf yg =
     ⊎-elim (λ (l : many n f < many n g). l) (λ (m : many n g ≤ many n f). absurd (contra (many-full n f g h m s w yg) nf))
     (lt-or-le (many n f) (many n g))
 
-pub many-add : (n : ℕ) (f g h : ℕ → Bool) → ((k : ℕ) → k < n → one-if (f k) ≡ one-if (g k) + one-if (h k)) → many n f ≡ many n g + many n h
+pub many-add : (n : ℕ) (f g h : ℕ → Bool) → ((k : ℕ) → k < n → bit (f k) ≡ bit (g k) + bit (h k)) → many n f ≡ many n g + many n h
 many-add n f g h e =
     omega (
       arith,
       many-sum n f,
       many-sum n g,
       many-sum n h,
-      sum-cong (λ k. one-if (f k)) (λ k. one-if (g k) + one-if (h k)) n e,
-      sum-add (λ k. one-if (g k)) (λ k. one-if (h k)) n,
+      sum-cong (λ k. bit (f k)) (λ k. bit (g k) + bit (h k)) n e,
+      sum-add (λ k. bit (g k)) (λ k. bit (h k)) n,
     )
 
 pub record Found (n : ℕ) (f : ℕ → Bool) : Type 0 where
@@ -98,10 +93,10 @@ many-some (suc n) f h = go (λ m. many-some n f m) (f n) refl
         record { at = r .at; below = omega (arith, r .below); passes = r .passes }
 
 pub many-nothing : (n : ℕ) (f : ℕ → Bool) → ((k : ℕ) → k < n → f k ≡ false) → many n f ≡ 0
-many-nothing n f h = many-sum n f ∙ sum-cong (λ k. one-if (f k)) (λ _. 0) n (λ k w. one-if-false (f k) (h k w)) ∙ sum-zero n
+many-nothing n f h = many-sum n f ∙ sum-cong (λ k. bit (f k)) (λ _. 0) n (λ k w. bit-false (f k) (h k w)) ∙ sum-zero n
 
 pub many-le : (n : ℕ) (f : ℕ → Bool) → many n f ≤ n
-many-le n f = omega (arith, many-sum n f, sum-one n, sum-mono (λ k. one-if (f k)) (λ _. 1) n (λ k w. one-if-most (f k)))
+many-le n f = omega (arith, many-sum n f, sum-one n, sum-mono (λ k. bit (f k)) (λ _. 1) n (λ k w. bit-most (f k)))
 
 -- ---- how many pass below a larger bound
 pub many-hit : (m : ℕ) (f : ℕ → Bool) → f m ≡ true → many (suc m) f ≡ suc (many m f)
@@ -212,19 +207,6 @@ first-cong (suc n) f g e =
     let ih : first n f ≡ first n g = first-cong n f g (λ k h. e k (omega arith)) in
     let b : first n g ≤ n = first-law n g .bound in
     rw (ih, e (first n g) (omega arith))
-
--- ---- one of many picked out
-unpicked : (a n : ℕ) (f : ℕ → ℕ) → n ≤ a → sum (λ k. cond (eqb a k) (f k) 0) n ≡ 0
-unfolding sum
-unpicked a zero f h = refl
-unpicked a (suc n) f h = rw (unpicked a n f (omega arith), ne-eqb a n (λ e. omega arith))
-
-pub sum-pick : (a n : ℕ) (f : ℕ → ℕ) → a < n → sum (λ k. cond (eqb a k) (f k) 0) n ≡ f a
-unfolding sum
-sum-pick a zero f h = absurd (omega arith)
-sum-pick a (suc n) f h =
-    ⊎-elim (λ (e : a ≡ n). rw (unpicked a n f (omega arith), eq-eqb a n e, e) (omega arith))
-    (λ (w : a < n). rw (sum-pick a n f w, ne-eqb a n (λ e. omega arith)) (omega arith)) (top-or-below h)
 
 pub eqb-same : (a b c d : ℕ) → (a ≡ b → c ≡ d) → (c ≡ d → a ≡ b) → eqb a b ≡ eqb c d
 eqb-same a b c d h g =

@@ -7,7 +7,8 @@ use mathlib.Core.Logic.{_⊎_, inl, inr, _↔_}
 use borrow.Author.Tests.{eqb-true}
 use lib.Dec.{eqb}
 use Rattle.columns.specs.declared.answers.Refusal.{Refusal}
-use Rattle.columns.specs.Answers.{Said, done, refused, answering, leaving, bit}
+use Rattle.columns.specs.Answers.{Said, done, refused, answering, unless, leaving}
+use Rattle.columns.specs.Counting.{bit}
 use Rattle.columns.proofs.Saying.{apart}
 use native.Mathlib.Omega.{arith}
 
@@ -23,21 +24,24 @@ answering-done r l values e = go (eqb (r .number) 0) refl e
     go true q e = (eqb-true (r .number) 0 q, same-values l values e)
     go false q e = absurd (apart _ _ _ e)
 
-module _ {A : Type 0} (r : Refusal) (before left after : A) where
-  pub leaving-done : (l values : List ℕ) → (done l, left) ≡ leaving r before values after
-      → (r .number ≡ 0) × (l ≡ values) × (left ≡ after)
-  unfolding leaving
-  leaving-done l values e = go (eqb (r .number) 0) refl e
+module _ {A : Type 0} (r : Refusal) (before left : A) where
+  pub unless-done : (l : List ℕ) (otherwise : Said × A) → (done l, left) ≡ unless r before otherwise
+      → (r .number ≡ 0) × ((done l, left) ≡ otherwise)
+  unfolding unless
+  unless-done l otherwise e = go (eqb (r .number) 0) refl e
     where
       go : (b : Bool) → eqb (r .number) 0 ≡ b
-          → _≡_ {A = Said × A} (done l, left) (cond b (done values, after) (refused (r .number) (r .place), before))
-          → (r .number ≡ 0) × (l ≡ values) × (left ≡ after)
-      go true q e = (
-        eqb-true (r .number) 0 q,
-        same-values l values (ap (λ (x : Said × A). x .0) e),
-        ap (λ (x : Said × A). x .1) e,
-      )
+          → _≡_ {A = Said × A} (done l, left) (cond b otherwise (refused (r .number) (r .place), before))
+          → (r .number ≡ 0) × ((done l, left) ≡ otherwise)
+      go true q e = (eqb-true (r .number) 0 q, e)
       go false q e = absurd (apart _ _ _ (ap (λ (x : Said × A). x .0) e))
+
+  pub leaving-done : (after : A) (l values : List ℕ) → (done l, left) ≡ leaving r before values after
+      → (r .number ≡ 0) × (l ≡ values) × (left ≡ after)
+  unfolding leaving
+  leaving-done after l values e =
+      let d = unless-done l (done values, after) e in
+      (d .0, same-values l values (ap (λ (x : Said × A). x .0) (d .1)), ap (λ (x : Said × A). x .1) (d .1))
 
 -- a flag that is said: yes or no, and yes exactly if P
 pub record SaysWhether (values : List ℕ) (P : Type 0) : Type 0 where

@@ -9,13 +9,13 @@ use mathlib.Core.Logic.{⊎-elim}
 use mathlib.Core.List.{List}
 use lib.ListN.{length, getD, length-set}
 use lib.Dec.{ltb, eqb}
-use Rattle.columns.specs.Counting.{sum, many}
+use Rattle.columns.specs.Counting.{sum, many, bit}
 use Rattle.columns.specs.Columns.{swapped}
 use Rattle.columns.specs.Inverse.{Inverse, inverseAt, inverseb, swappedInverse}
 use Rattle.columns.proofs.Bools.{and-left, and-right, and-both}
 use Rattle.columns.proofs.All.{all-at, all-of, same-or-not}
-use Rattle.columns.proofs.Sums.{sum-cong, sum-swap, sum-tight, sum-one}
-use Rattle.columns.proofs.Counting.{one-if, many-sum, many-once, many-some, Found, sum-pick, eqb-same}
+use Rattle.columns.proofs.Sums.{sum-cong, sum-swap, sum-tight, sum-one, sum-pick, hit, hits-one}
+use Rattle.columns.proofs.Counting.{many-sum, many-once, many-some, Found, eqb-same}
 use Rattle.columns.proofs.Swaps.{two-last, two-first, two-other, swapped-i, swapped-j, swapped-other}
 
 pub inverse-of : (a b : List ℕ) (n : ℕ) → inverseb a b n ≡ true → Inverse a b n
@@ -50,10 +50,6 @@ module _ (o e : List ℕ) (n : ℕ) (io : Inverse o e n) (ie : Inverse e o n) wh
       (λ q. ap (λ (x : ℕ). getD o x 0) (sym q) ∙ ie .back k w)))
       ∙ sum-pick (getD e k 0) n (λ _. f k) (ie .below k w))
 
-each : (a n : ℕ) → a < n → sum (λ k. one-if (eqb a k)) n ≡ 1
-unfolding one-if
-each a n w = sum-pick a n (λ _. 1) w
-
 -- what sends each number below n to one below n, with a way back, has every number below n as a value: the way back is the inverse
 module _ (o e : List ℕ) (n : ℕ) (io : Inverse o e n) where
   hits : ℕ → ℕ
@@ -66,12 +62,12 @@ module _ (o e : List ℕ) (n : ℕ) (io : Inverse o e n) where
       (λ i j a c p q. only-once o e n io i j a c (eqb-true (getD o i 0) k p ∙ sym (eqb-true (getD o j 0) k q)))
 
   all-hits : sum hits n ≡ n
-  unfolding hits
+  unfolding hits hit
   all-hits =
-      sum-cong (λ k. many n (λ s. eqb (getD o s 0) k)) (λ k. sum (λ s. one-if (eqb (getD o s 0) k)) n) n
+      sum-cong (λ k. many n (λ s. eqb (getD o s 0) k)) (λ k. sum (λ s. bit (eqb (getD o s 0) k)) n) n
       (λ k w. many-sum n (λ s. eqb (getD o s 0) k))
-      ∙ sum-swap (λ k s. one-if (eqb (getD o s 0) k)) n n
-      ∙ sum-cong (λ s. sum (λ k. one-if (eqb (getD o s 0) k)) n) (λ _. 1) n (λ s w. each (getD o s 0) n (io .below s w))
+      ∙ sum-swap (λ k s. bit (eqb (getD o s 0) k)) n n
+      ∙ sum-cong (λ s. sum (λ k. bit (eqb (getD o s 0) k)) n) (λ _. 1) n (λ s w. hits-one (getD o s 0) n (io .below s w))
       ∙ sum-one n
 
   one : (k : ℕ) → k < n → hits k ≡ 1

@@ -8,7 +8,7 @@ use mathlib.Core.List.{List, [], _∷_, _++_, append-nil, append-assoc}
 use lib.ListN.{length, length-set, getD, set, take}
 use lib.Seq.{take-suc-set, getD-set-other}
 use Rattle.columns.specs.Counting.{many, members}
-use Rattle.columns.proofs.Counting.{one-if-true, many-suc, many-nothing}
+use Rattle.columns.proofs.Counting.{bit-true, many-suc, many-nothing}
 use Rattle.columns.proofs.Members.{members-hit, members-rest, members-none, length-members}
 
 -- of the numbers from `first` to before `end`, those below i are seen, and those that pass stand behind the first h cells: k cells in all
@@ -37,7 +37,7 @@ module _ (f : ℕ → Bool) (first end h : ℕ) (l₀ : List ℕ) where
       list-more t q = record {
         low = omega (arith, p .low);
         high = omega arith;
-        exact = omega (arith, p .exact, many-suc i f, one-if-true (f i) t);
+        exact = omega (arith, p .exact, many-suc i f, bit-true (f i) t);
         cells =
             ap (λ (j : ℕ). take j (set l k i)) (add-one k) ∙ take-suc-set l k i q ∙ ap (λ (a : List ℕ). a ++ (i ∷ [])) (p .cells)
             ∙ append-assoc (take h l₀) (members i f) (i ∷ [])

@@ -204,7 +204,8 @@ module _ {A : Type 0} (l m : List A) (f : ℕ → A) (e : listed (length (l ++ m
       ∙ ap (drop (length l)) both
       ∙ drop-at l m (length l) refl
 
-listed-take : (n : ℕ) (l : List ℕ) → n ≤ length l → listed n (λ k. getD l k 0) ≡ take n l
+-- the first cells of a column
+pub listed-take : (n : ℕ) (l : List ℕ) → n ≤ length l → listed n (λ k. getD l k 0) ≡ take n l
 unfolding listed
 listed-take zero l h = refl
 listed-take (suc n) l h = ap (λ (t : List ℕ). t ++ (getD l n 0 ∷ [])) (listed-take n l (omega arith)) ∙ sym (take-suc l n 0 h)

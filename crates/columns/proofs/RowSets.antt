@@ -6,13 +6,14 @@ use Prim.Native.Nat.{ℕ, _≤_, _<_}
 use borrow.Author.Tests.{lt-ltb, le-ltb}
 use native.Mathlib.Omega.{arith}
 use lib.Dec.{ltb}
-use lib.ListN.{length, getD, take, drop, length-map, length-append, length-drop}
+use lib.ListN.{length, getD, take, drop, length-map, length-append}
 use lib.Seq.{take-append-le, length-take-le, drop-at}
 use Rattle.columns.specs.Sets.{insert, collect, lex, pairLt, rowLt, Row}
 use Rattle.columns.specs.Sort.{sort}
 use Rattle.columns.specs.Columns.{listed, cell, keyOf, comesBefore, sortBy}
 use Rattle.columns.specs.Rows.{firstsBy, pickRows, picked, rowsOf, rowSet, firstOf, secondOf, thirdOf}
 use Rattle.columns.proofs.Orders.{row-order}
+use Rattle.columns.proofs.Parts.{length-fronted}
 use Rattle.columns.proofs.Sorts.{firsts-sort, firsts-length, length-sort}
 use Rattle.columns.proofs.Lists.{getD-any, listed-cong, map-listed, length-listed, take-over}
 
@@ -114,7 +115,7 @@ lent m r a b c o p w e f n =
       count = e′;
       few = omega (arith, few-picked m a b c);
       wide = omega (arith, length-append p (drop m o));
-      long = length-append p (drop m o) ∙ omega (arith, length-drop m o);
+      long = length-fronted m o p w n;
       front = take-append-le r p (drop m o) (omega (arith, few-picked m a b c)) ∙ ap (λ (i : ℕ). take i p) e′ ∙
           ap (take (length (pickRows m a b c))) f′ ∙ take-picked m a b c;
       rest = drop-at p (drop m o) m (n ∙ k);

@@ -19,7 +19,6 @@ use Rattle.columns.specs.Answers.{
   Said,
   done,
   refused,
-  bit,
   said,
   saidOutcome,
   saidNumber,
@@ -27,8 +26,10 @@ use Rattle.columns.specs.Answers.{
   saidFlag,
   saidFlagOutcome,
   answering,
+  unless,
   leaving,
 }
+use Rattle.columns.specs.Counting.{bit}
 
 pub same-refusal : (r q : Refusal) → refused (r .number) (r .place) ≡ refused (q .number) (q .place) → r ≡ q
 same-refusal r q e =
@@ -82,11 +83,20 @@ module _ (r t : Refusal) (e : t ≡ r) where
   unfolding answering
   asked-done values z = rw (← e, eq-eqb (t .number) 0 z)
 
+  module _ {A : Type 0} (before : A) (otherwise : Said × A) where
+    pub unless-refused : (s : Said) → (t .number ≡ 0 → ⊥) → s ≡ refused (t .number) (t .place) → (s, before) ≡ unless r before otherwise
+    unfolding unless
+    unless-refused s n f = rw (← e, ne-eqb (t .number) 0 n, f)
+
+    pub unless-on : (now : Said × A) → t .number ≡ 0 → now ≡ otherwise → now ≡ unless r before otherwise
+    unfolding unless
+    unless-on now z f = rw (← e, eq-eqb (t .number) 0 z, f)
+
   module _ {A : Type 0} (before after : A) (values : List ℕ) (s : Said) where
     pub left-refused : (t .number ≡ 0 → ⊥) → s ≡ refused (t .number) (t .place) → (s, before) ≡ leaving r before values after
     unfolding leaving
-    left-refused n f = rw (← e, ne-eqb (t .number) 0 n, f)
+    left-refused n f = unless-refused before (done values, after) s n f
 
     pub left-done : (now : A) → t .number ≡ 0 → s ≡ done values → now ≡ after → (s, now) ≡ leaving r before values after
     unfolding leaving
-    left-done now z f g = rw (← e, eq-eqb (t .number) 0 z, f, g)
+    left-done now z f g = unless-on before (done values, after) (s, now) z (λ i. (f i, g i))

@@ -6,7 +6,7 @@ use mathlib.Core.Bool.{cond, _&&_}
 use mathlib.Core.Path.{_≡_, refl, ap, sym, _∙_}
 use mathlib.Core.Logic.{⊎-elim}
 use lib.Dec.{ltb, leb, eqb}
-use Rattle.columns.specs.Counting.{sum}
+use Rattle.columns.specs.Counting.{sum, bit}
 use Rattle.columns.proofs.All.{top-or-below, same-or-not, lt-or-le}
 
 pub sum-mono : (f g : ℕ → ℕ) (n : ℕ) → ((k : ℕ) → k < n → f k ≤ g k) → sum f n ≤ sum g n
@@ -56,9 +56,22 @@ unfolding sum
 sum-swap h zero n = sym (sum-zero n)
 sum-swap h (suc m) n = ap (λ (x : ℕ). x + sum (h m) n) (sum-swap h m n) ∙ sym (sum-add (λ k. sum (λ b. h b k) m) (h m) n)
 
+-- ---- one of many picked out
+unpicked : (a n : ℕ) (f : ℕ → ℕ) → n ≤ a → sum (λ k. cond (eqb a k) (f k) 0) n ≡ 0
+unfolding sum
+unpicked a zero f h = refl
+unpicked a (suc n) f h = rw (unpicked a n f (omega arith), ne-eqb a n (λ e. omega arith))
+
+pub sum-pick : (a n : ℕ) (f : ℕ → ℕ) → a < n → sum (λ k. cond (eqb a k) (f k) 0) n ≡ f a
+unfolding sum
+sum-pick a zero f h = absurd (omega arith)
+sum-pick a (suc n) f h =
+    ⊎-elim (λ (e : a ≡ n). rw (unpicked a n f (omega arith), eq-eqb a n e, e) (omega arith))
+    (λ (w : a < n). rw (sum-pick a n f w, ne-eqb a n (λ e. omega arith)) (omega arith)) (top-or-below h)
+
 -- 1 where the two are equal
-pub hit : ℕ → ℕ → ℕ
-hit a b = cond (eqb a b) 1 0
+unfoldable pub hit : ℕ → ℕ → ℕ
+hit a b = bit (eqb a b)
 
 pub hit-same : (a b : ℕ) → a ≡ b → hit a b ≡ 1
 unfolding hit
@@ -71,22 +84,13 @@ hit-other a b e = rw (ne-eqb a b e)
 pub hit-of : (a b : ℕ) → hit a b ≡ 1 → a ≡ b
 hit-of a b e = ⊎-elim (λ q. q) (λ n. absurd (omega (arith, hit-other a b n))) (same-or-not a b)
 
-hits-none : (a m : ℕ) → m ≤ a → sum (hit a) m ≡ 0
-unfolding sum
-hits-none a zero h = refl
-hits-none a (suc m) h = omega (arith, hits-none a m (omega arith), hit-other a m (λ e. omega arith))
-
 pub hits-one : (a m : ℕ) → a < m → sum (hit a) m ≡ 1
-unfolding sum
-hits-one a zero h = absurd (omega arith)
-hits-one a (suc m) h =
-    ⊎-elim (λ e. omega (arith, hits-none a m (omega arith), hit-same a m e))
-    (λ l. omega (arith, hits-one a m l, hit-other a m (λ e. omega arith)))
-    (top-or-below h)
+unfolding hit
+hits-one a m h = sum-pick a m (λ _. 1) h
 
 -- 1 from x to before z
 pub ins : ℕ → ℕ → ℕ → ℕ
-ins x z k = cond (leb x k && ltb k z) 1 0
+ins x z k = bit (leb x k && ltb k z)
 
 pub ins-in : (x z k : ℕ) → x ≤ k → k < z → ins x z k ≡ 1
 unfolding ins

@@ -1,8 +1,9 @@
 -- What an answer says, in document 01's numbers.
 use Prim.Native.Nat.{ℕ}
-use mathlib.Core.Bool.{Bool, cond}
+use mathlib.Core.Bool.{cond}
 use mathlib.Core.List.{List, [], _∷_}
 use lib.Dec.{eqb}
+use Rattle.columns.specs.Counting.{bit}
 use Rattle.columns.specs.declared.answers.Refusal.{Refusal}
 use Rattle.columns.specs.declared.answers.Outcome.{Outcome}
 use Rattle.columns.specs.declared.answers.Outcome.the-variants as O
@@ -18,10 +19,6 @@ use Rattle.columns.specs.declared.answers.FlagAnswer.{FlagAnswer}
 pub data Said : Type 0 where
   done : List ℕ → Said
   refused : ℕ → ℕ → Said
-
--- a flag as a number
-abbrev pub bit : Bool → ℕ
-bit b = cond b 1 0
 
 abbrev pub saidOutcome : Outcome → Said
 saidOutcome O.Done = done []
@@ -55,6 +52,11 @@ none = refusal 0 0
 unfoldable pub answering : Refusal → List ℕ → Said
 answering r values = cond (eqb (r .number) 0) (done values) (refused (r .number) (r .place))
 
--- what a call says, with what it leaves: a refusal leaves everything as it was
+-- what a call says, with what it leaves: a refusal leaves everything as it was, and any other call does `otherwise`
+unfoldable pub unless : {A : Type 0} → Refusal → A → Said × A → Said × A
+unless r before otherwise = cond (eqb (r .number) 0) otherwise (refused (r .number) (r .place), before)
+
+-- the same, where any other call is done
 unfoldable pub leaving : {A : Type 0} → Refusal → A → List ℕ → A → Said × A
-leaving r before values after = cond (eqb (r .number) 0) (done values, after) (refused (r .number) (r .place), before)
+unfolding unless
+leaving r before values after = unless r before (done values, after)

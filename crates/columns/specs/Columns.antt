@@ -2,7 +2,7 @@
 use mathlib.Core.Bool.{Bool}
 use mathlib.Core.List.{List, [], _∷_, _++_, map}
 use mathlib.Core.Path.{_≡_}
-use Prim.Native.Nat.{ℕ, zero, suc, _-_, _≤_}
+use Prim.Native.Nat.{ℕ, zero, suc, _-_, _≤_, _<_}
 use lib.ListN.{length, getD, set, drop, replicate}
 use Rattle.columns.specs.Sets.{Row, rowLt}
 use Rattle.columns.specs.Sort.{sort}
@@ -52,13 +52,22 @@ unfoldable pub wiped : ℕ → List ℕ → List ℕ
 unfolding over
 wiped n l = over (zeros n) l
 
+-- the first n cells never fall
+abbrev pub NeverFalls : List ℕ → ℕ → Type 0
+NeverFalls l n = (i j : ℕ) → i ≤ j → j < n → getD l i 0 ≤ getD l j 0
+
 -- the length of stretch b, from begin to before end
 unfoldable pub lengthIn : List ℕ → List ℕ → ℕ → ℕ
 lengthIn begin end b = getD end b 0 - getD begin b 0
 
+-- the members i and j of a list exchanged; `none` is what a list that is too short for one of them is read as
+unfoldable pub exchanged : {A : Type 0} → A → ℕ → ℕ → List A → List A
+exchanged none i j l = set (set l i (getD l j none)) j (getD l i none)
+
 -- the cells i and j exchanged
 unfoldable pub swapped : ℕ → ℕ → List ℕ → List ℕ
-swapped i j l = set (set l i (getD l j 0)) j (getD l i 0)
+unfolding exchanged
+swapped i j l = exchanged 0 i j l
 
 -- the cell of a column that a number names; a column that is too short for it gives the number itself
 unfoldable pub cell : List ℕ → ℕ → ℕ

@@ -15,10 +15,14 @@ unfoldable pub all : ℕ → (ℕ → Bool) → Bool
 all zero f = true
 all (suc n) f = all n f && f n
 
+-- a flag as a number
+abbrev pub bit : Bool → ℕ
+bit b = cond b 1 0
+
 -- how many numbers below n pass
 unfoldable pub many : ℕ → (ℕ → Bool) → ℕ
 many zero f = 0
-many (suc n) f = many n f + cond (f n) 1 0
+many (suc n) f = many n f + bit (f n)
 
 -- the least number below n that passes, and n if none does
 unfoldable pub first : ℕ → (ℕ → Bool) → ℕ

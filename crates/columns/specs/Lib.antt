@@ -7,6 +7,7 @@ pub mod Sets
 pub mod Sort
 pub mod Rows
 pub mod Number
+pub mod Blocks
 pub mod Lent
 pub mod Limits
 pub mod Due

@@ -1,7 +1,8 @@
 // Answers: what was asked for, or a refusal with its number and place.
 ghost use mathlib.Core.Path.{_≡_};
 ghost use mathlib.Core.List.{[], _∷_};
-ghost use Rattle.columns.specs.Answers.{said, saidNumber, saidFlag, done, refused, bit, refusal};
+ghost use Rattle.columns.specs.Answers.{said, saidNumber, saidFlag, done, refused, refusal};
+ghost use Rattle.columns.specs.Counting.{bit};
 
 // A refusal: its number and its place. As the result of a check, number 0 stands for none.
 pub struct Refusal {

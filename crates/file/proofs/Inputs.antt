@@ -18,7 +18,7 @@ use Rattle.columns.proofs.Rooms.{roomy-of, of-roomy}
 use Rattle.table.specs.declared.Table.{Table}
 use Rattle.table.specs.Lts.{lts, Valid}
 use Rattle.table.specs.Checks.{tableTests}
-use Rattle.table.specs.Tables.{Three}
+use Rattle.table.specs.Tables.{Three, columnsIn, columnsOver}
 use Rattle.table.proofs.Refusals.{checked-of, of-checked}
 use Rattle.file.specs.Bytes.{little}
 use Rattle.file.specs.Layout.{rowSize, rowsLengthAt, rowCountAt, inputRows, firstSource, firstLabel, firstTarget}
@@ -35,7 +35,6 @@ use Rattle.file.specs.Input.{
   contentsTests,
   fileTests,
   fileRefusal,
-  columnsOver,
 }
 
 -- ---- a field: cut off, or read
@@ -82,7 +81,7 @@ module _ (s : List ℕ) (from m : ℕ) where
 
 -- the first m cells of columns that the rows were read into
 pub rows-front :
-    (t : Table) (s : List ℕ) (out : Three) (x y z : List ℕ) → _≡_ {A = Three} (x, (y, z)) (columnsOver (withRows t s) out)
+    (t : Table) (s : List ℕ) (out : Three) (x y z : List ℕ) → _≡_ {A = Three} (x, (y, z)) (columnsOver (columnsIn (withRows t s)) out)
     → lts t (take (t .m) x) (take (t .m) y) (take (t .m) z) ≡ withRows t s
 unfolding columnsOver withRows
 rows-front t s out x y z e =

@@ -11,16 +11,16 @@ use lib.Dec.{leb, eqb}
 use lib.ListN.{length, length-append, getD, take, drop}
 use lib.Seq.{getD-append-add, getD-take, length-take-le, take-at, drop-at}
 use Rattle.columns.specs.Answers.{done, none}
-use Rattle.columns.specs.Columns.{listed, laid}
+use Rattle.columns.specs.Columns.{laid}
 use Rattle.columns.proofs.All.{top-or-below}
 use Rattle.columns.proofs.Bools.{and-both}
 use Rattle.columns.proofs.Chains.{Holds}
-use Rattle.columns.proofs.Lists.{listed-cong, listed-cells}
+use Rattle.columns.proofs.Lists.{listed-take, listed-cong}
 use Rattle.columns.specs.Due.{Roomy}
 use Rattle.columns.proofs.Saying.{left-done}
 use Rattle.columns.specs.Rows.{rowIn}
 use Rattle.table.specs.Lts.{Lts, Valid, rowAt}
-use Rattle.table.specs.Tables.{Three, lengthsOf}
+use Rattle.table.specs.Tables.{Three, lengthsOf, columnsIn, columnsOver}
 use Rattle.file.specs.Bytes.{little, bytesOf, words}
 use Rattle.file.specs.Layout.{
   statesAt,
@@ -36,7 +36,7 @@ use Rattle.file.specs.Layout.{
   firstLabel,
   firstTarget,
 }
-use Rattle.file.specs.Input.{headerIn, column, tableIn, fieldTests, fileRefusal, headerNumbers, columnsOver, readFile}
+use Rattle.file.specs.Input.{headerIn, column, tableIn, fieldTests, fileRefusal, headerNumbers, readFile}
 use Rattle.file.specs.Output.{
   headerBytes,
   rowBytes,
@@ -75,13 +75,6 @@ laid-at h i (suc m) l =
           ∙ ap (λ (x : List ℕ). laid h i ++ x) (append-assoc (h i) (q .0) (h m)),
     ))
     (top-or-below l)
-
--- the first m cells of a column
-front : (m : ℕ) (l : List ℕ) → m ≤ length l → listed m (λ i. getD l i 0) ≡ take m l
-front m l h =
-    listed-cong m (λ i. getD l i 0) (λ i. getD (take m l) i 0) (λ i w. sym (getD-take m l i 0 w))
-    ∙ ap (λ (k : ℕ). listed k (λ i. getD (take m l) i 0)) (sym (length-take-le m l h))
-    ∙ listed-cells (take m l)
 
 -- ---- the fields of a row
 module _ (a b c : ℕ) (r : List ℕ) where
@@ -174,7 +167,7 @@ module _ (t : Lts) (v : Valid t) where
   read-field j cells long right =
       listed-cong (t .m) (λ i. little 2 s (inputRows + j + rowSize * i)) (λ i. getD cells i 0)
       (λ i w. let q = in-row i j w in q .1 ∙ right i (q .0) w)
-      ∙ front (t .m) cells long
+      ∙ listed-take (t .m) cells long
 
   read-source : column s firstSource (t .m) ≡ take (t .m) (t .source)
   unfolding rowBytes
@@ -273,12 +266,12 @@ module _ (t : Lts) (v : Valid t) where
   -- Reading it says the header, and leaves the rows over the first cells.
   pub read-back :
       (out : Three) → Roomy (t .m) (lengthsOf out)
-      → readFile (inputBytes t) out ≡ (done (t .n ∷ t .labels ∷ t .m ∷ t .initial ∷ []), columnsOver (cutTo t) out)
+      → readFile (inputBytes t) out ≡ (done (t .n ∷ t .labels ∷ t .m ∷ t .initial ∷ []), columnsOver (columnsIn (cutTo t)) out)
   unfolding readFile
   read-back out room =
       sym (left-done (fileRefusal s (lengthsOf out)) none (sym (of-accepted s (lengthsOf out) (accepted-input (lengthsOf out) room))) out
-      (columnsOver (tableIn s) out) (headerNumbers (headerIn s)) (done (headerNumbers (headerIn s))) _ refl refl refl)
-      ∙ ap (λ (u : Lts). (done (u .n ∷ u .labels ∷ u .m ∷ u .initial ∷ []), columnsOver u out)) table-back
+      (columnsOver (columnsIn (tableIn s)) out) (headerNumbers (headerIn s)) (done (headerNumbers (headerIn s))) _ refl refl refl)
+      ∙ ap (λ (u : Lts). (done (u .n ∷ u .labels ∷ u .m ∷ u .initial ∷ []), columnsOver (columnsIn u) out)) table-back
 
 -- ---- an output file: the number in the place of a block is the block
 module _ (l r : List ℕ) where

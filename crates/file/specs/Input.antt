@@ -6,13 +6,13 @@ use lib.Dec.{leb, eqb}
 use lib.ListN.{length}
 use Rattle.columns.specs.declared.answers.Refusal.{Refusal}
 use Rattle.columns.specs.Answers.{Said, leaving}
-use Rattle.columns.specs.Columns.{listed, over}
+use Rattle.columns.specs.Columns.{listed}
 use Rattle.columns.specs.Due.{Test, test, due, allLong}
 use Rattle.columns.specs.Limits.{wrongContents}
 use Rattle.table.specs.declared.Table.{Table}
 use Rattle.table.specs.Lts.{Lts, lts}
 use Rattle.table.specs.Checks.{rowsLong, badRow, tableTests}
-use Rattle.table.specs.Tables.{Three, lengthsOf}
+use Rattle.table.specs.Tables.{Three, lengthsOf, columnsIn, columnsOver}
 use Rattle.file.specs.Bytes.{little}
 use Rattle.file.specs.Layout.{
   headerKind,
@@ -106,10 +106,6 @@ fileRefusal s columns = due (fileTests s (allLong (headerIn s .m) columns))
 abbrev pub headerNumbers : Table → List ℕ
 headerNumbers t = t .n ∷ t .labels ∷ t .m ∷ t .initial ∷ []
 
-unfoldable pub columnsOver : Lts → Three → Three
-unfolding over
-columnsOver t out = (over (t .source) (out .0), (over (t .label) (out .1 .0), over (t .target) (out .1 .1)))
-
 unfoldable pub readFile : List ℕ → Three → Said × Three
 unfolding leaving fileRefusal headerIn columnsOver tableIn
-readFile s out = leaving (fileRefusal s (lengthsOf out)) out (headerNumbers (headerIn s)) (columnsOver (tableIn s) out)
+readFile s out = leaving (fileRefusal s (lengthsOf out)) out (headerNumbers (headerIn s)) (columnsOver (columnsIn (tableIn s)) out)

@@ -7,8 +7,8 @@ ghost use Rattle.columns.specs.Columns.{over};
 ghost use Rattle.columns.specs.Lent.{was, is};
 ghost use Rattle.table.specs.Lent.{ltsNow, ltsOf};
 ghost use Rattle.table.specs.Lts.{RowsLong};
-ghost use Rattle.table.specs.Tables.{Three};
-ghost use Rattle.file.specs.Input.{headerIn, column, withRows, columnsOver};
+ghost use Rattle.table.specs.Tables.{Three, columnsIn, columnsOver};
+ghost use Rattle.file.specs.Input.{headerIn, column, withRows};
 ghost use Rattle.file.specs.Layout.{rowSize, inputRows, outputHeader, outputRows};
 ghost use Rattle.file.specs.Output.{entry, rowsBytes, outputBlocks, outputContents, outputBytes, outputSize};
 use crate::layout::BLOCK_SIZE;
@@ -77,7 +77,7 @@ pub fn read_rows(
         × (table .m ≤ length (now source)) × (table .m ≤ length (now label)) × (table .m ≤ length (now target)) ⌝ }
     ensures { λ _.
         let left : Three = (is source, (is label, is target)) in
-        ⌜ left ≡ columnsOver (withRows table (was bytes)) (was source, (was label, was target)) ⌝ }
+        ⌜ left ≡ columnsOver (columnsIn (withRows table (was bytes))) (was source, (was label, was target)) ⌝ }
 {
     let m = table.m as usize;
     read_column(bytes, FIRST_SOURCE, m, source);

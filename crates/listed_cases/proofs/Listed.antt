@@ -7,7 +7,8 @@ use Rattle.columns.specs.Due.{due, allLong}
 use Rattle.columns.specs.Inverse.{inverseb, inverseAt}
 use Rattle.partition.specs.Partition.{withinb, blockAt, boundsb, insideb, lieAt, liesb, lengths, consistentb, longb}
 use Rattle.partition.specs.SwapBlocks.{swap}
-use Rattle.partition_division.specs.Marked.{markedFrom, markedIn, numbered, below, absent, missing, denseb, lenAt}
+use Rattle.partition_division.specs.Marked.{numbered, below, absent, missing, denseb, lenAt}
+use Rattle.partition.specs.Marked.{markedIn, markedFrom}
 use Rattle.partition_division.specs.Divide.{
   numberedBefore,
   start,

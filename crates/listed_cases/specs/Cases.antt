@@ -5,7 +5,8 @@ use mathlib.Core.Bool.{Bool, true, false, _&&_}
 use mathlib.Core.List.{List, [], _∷_}
 use lib.Dec.{eqb}
 use lib.ListN.{length}
-use Rattle.columns.specs.Answers.{Said, done, refused, bit}
+use Rattle.columns.specs.Answers.{Said, done, refused}
+use Rattle.columns.specs.Counting.{bit}
 use Rattle.columns.specs.Columns.{zeros}
 use Rattle.columns.specs.Rows.{firstOf, lastOf}
 use Rattle.columns.specs.Sets.{Pair, Row, same}

@@ -1,4 +1,4 @@
--- Table P of document 01, P10, and what is absent: what `is_subset_of` says. Then 15 for given lists.
+-- What is absent: what `is_subset_of` says. Then 15 for given lists.
 use mathlib.Core.Path.{_≡_, refl}
 use mathlib.Core.List.{[], _∷_}
 use Rattle.columns.specs.Limits.{wrongList}
@@ -6,13 +6,10 @@ use Rattle.columns.specs.Answers.{done, refused, none, refusal}
 use Rattle.pairs.specs.Subset.{isSubsetOf}
 use Rattle.pairs.specs.Lists.{listsRefusal}
 
--- P10: (0,3), (2,1) in (1,0), (2,1), without (0,3) and without (0,2). Then: an empty self; an empty other; both empty;
--- only the excluded pair in other; the excluded pair absent; a cell beyond the shorter column. Then 15: self before other;
--- an equal pair in other
+-- an empty self; an empty other; both empty; only the excluded pair in other; the excluded pair absent; a cell beyond the shorter
+-- column. Then 15: self before other; an equal pair in other
 pub examples :
-    (isSubsetOf (1 ∷ 2 ∷ []) (0 ∷ 1 ∷ []) (0 ∷ 2 ∷ []) (3 ∷ 1 ∷ []) (0, 3)
-    ∷ isSubsetOf (1 ∷ 2 ∷ []) (0 ∷ 1 ∷ []) (0 ∷ 2 ∷ []) (3 ∷ 1 ∷ []) (0, 2)
-    ∷ isSubsetOf [] [] (0 ∷ 2 ∷ []) (3 ∷ 1 ∷ []) (0, 3)
+    (isSubsetOf [] [] (0 ∷ 2 ∷ []) (3 ∷ 1 ∷ []) (0, 3)
     ∷ isSubsetOf (1 ∷ 2 ∷ []) (0 ∷ 1 ∷ []) [] [] (0, 3)
     ∷ isSubsetOf [] [] [] [] (0, 0)
     ∷ isSubsetOf [] [] (0 ∷ []) (3 ∷ []) (0, 3)
@@ -21,9 +18,7 @@ pub examples :
     ∷ isSubsetOf (0 ∷ 1 ∷ 1 ∷ []) (0 ∷ 1 ∷ 0 ∷ []) (1 ∷ 0 ∷ []) (0 ∷ 0 ∷ []) (0, 0)
     ∷ isSubsetOf [] [] (1 ∷ 1 ∷ []) (0 ∷ 0 ∷ []) (0, 0)
     ∷ [])
-    ≡ (done (1 ∷ [])
-    ∷ done (0 ∷ [])
-    ∷ done (0 ∷ [])
+    ≡ (done (0 ∷ [])
     ∷ done (1 ∷ [])
     ∷ done (1 ∷ [])
     ∷ done (1 ∷ [])

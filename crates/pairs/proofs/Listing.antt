@@ -8,6 +8,7 @@ use mathlib.Core.Path.{_≡_, refl, ap, ap₂, sym, _∙_}
 use mathlib.Core.Logic.{⊎-elim}
 use mathlib.Core.List.{List, [], _∷_}
 use lib.Dec.{ltb, leb}
+use Rattle.columns.specs.Columns.{NeverFalls}
 use Rattle.columns.specs.Limits.{wrongList}
 use Rattle.columns.specs.Answers.{refusal, none}
 use Rattle.columns.specs.Counting.{first}
@@ -54,7 +55,7 @@ module _ (starts : List ℕ) (end : ℕ) where
     inside-of : NoneBelow (badStart starts end) (n + 1) → (u : ℕ) → u ≤ n → startAt starts u ≤ end
     inside-of r u h = not-below (λ l. contra (sym (start-past u l)) (r u (omega arith)))
 
-    rising-starts : NoneBelow (badStart starts end) (n + 1) → (u v : ℕ) → u ≤ v → v ≤ n → startAt starts u ≤ startAt starts v
+    rising-starts : NoneBelow (badStart starts end) (n + 1) → NeverFalls starts (n + 1)
     rising-starts r u zero h w = let e : u ≡ 0 = omega arith in omega (arith, ap (startAt starts) e)
     rising-starts r u (suc v) h w =
         ⊎-elim (λ (e : u ≡ suc v). omega (arith, ap (startAt starts) e))

@@ -3,7 +3,8 @@ use mathlib.Core.Path.{_≡_}
 use mathlib.Core.Logic.{_⊎_}
 use mathlib.Core.List.{List, [], _∷_}
 use Prim.Native.Nat.{ℕ}
-use Rattle.columns.specs.Answers.{done, bit}
+use Rattle.columns.specs.Answers.{done}
+use Rattle.columns.specs.Counting.{bit}
 use Rattle.columns.specs.Sets.{Mem, Pair, pairLt, Ascending}
 use Rattle.columns.proofs.Doing.{answering-done, SaysWhether, says-whether}
 use Rattle.pairs.specs.Pairs.{pairs}

@@ -4,6 +4,7 @@ use mathlib.Core.Bool.{Bool, _&&_, _||_}
 use mathlib.Core.List.{List, [], _∷_}
 use lib.Dec.{ltb}
 use lib.ListN.{getD}
+use Rattle.columns.specs.Columns.{NeverFalls}
 use Rattle.columns.specs.declared.answers.Refusal.{Refusal}
 use Rattle.columns.specs.Counting.{first, some}
 use Rattle.columns.specs.Due.{Test, due}
@@ -40,7 +41,7 @@ listsRefusal starts n labels blocks = due (listsTests starts n labels blocks)
 
 -- the starts never fall, and none is past the end
 pub record Starts (starts : List ℕ) (n end : ℕ) : Type 0 where
-  pub rising : (u v : ℕ) → u ≤ v → v ≤ n → startAt starts u ≤ startAt starts v
+  pub rising : NeverFalls starts (n + 1)
   pub inside : (u : ℕ) → u ≤ n → startAt starts u ≤ end
 
 -- what a call may go by once the lists are checked

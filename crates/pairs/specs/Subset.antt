@@ -4,24 +4,24 @@ use mathlib.Core.Bool.{Bool, not, _&&_, _||_}
 use mathlib.Core.List.{List, [], _∷_}
 use lib.Dec.{leb}
 use Rattle.columns.specs.declared.answers.Refusal.{Refusal}
-use Rattle.columns.specs.Answers.{Said, bit, answering}
-use Rattle.columns.specs.Counting.{first, some, all}
+use Rattle.columns.specs.Answers.{Said, answering}
+use Rattle.columns.specs.Counting.{bit, first, all}
 use Rattle.columns.specs.Due.{due}
-use Rattle.columns.specs.Sets.{Pair, pairLt, pairEq}
-use Rattle.columns.specs.Rows.{pairAt}
-use Rattle.pairs.specs.Pairs.{shorter, endOf, badPair, listTest}
+use Rattle.columns.specs.Sets.{Pair, pairLt, pairEq, among}
+use Rattle.columns.specs.Rows.{pairAt, pairsOf}
+use Rattle.pairs.specs.Pairs.{shorter, endOf, pairs, badPair, listTest}
 
 -- a pair is in a list
-unfoldable pub amongPairs : List ℕ → List ℕ → Pair → Bool
-unfolding some shorter pairEq pairAt
-amongPairs labels blocks x = some (endOf labels blocks) (λ i. pairEq (pairAt labels blocks i) x)
+unfoldable pub hasPair : List Pair → Pair → Bool
+unfolding among pairEq
+hasPair l x = among pairEq x l
 
 -- every pair of other, apart from the excluded one, is in self
 unfoldable pub subsetb : List ℕ → List ℕ → List ℕ → List ℕ → Pair → Bool
-unfolding all shorter pairEq pairAt amongPairs
+unfolding all shorter pairEq pairAt pairsOf hasPair
 subsetb selfLabels selfBlocks otherLabels otherBlocks x =
     all (endOf otherLabels otherBlocks)
-    (λ j. pairEq (pairAt otherLabels otherBlocks j) x || amongPairs selfLabels selfBlocks (pairAt otherLabels otherBlocks j))
+    (λ j. let y = pairAt otherLabels otherBlocks j in pairEq y x || hasPair (pairs selfLabels selfBlocks) y)
 
 -- the first of the pairs from i to before n that is not below x, n if there is none
 unfoldable pub notBelow : List ℕ → List ℕ → ℕ → ℕ → Pair → ℕ

@@ -3,54 +3,48 @@ use mathlib.Core.Path.{_≡_, refl, ap, sym, _∙_, subst}
 use mathlib.Core.Logic.{⊎-elim}
 use mathlib.Core.Bool.{Bool, true, false, cond}
 use mathlib.Core.List.{List, [], _∷_, _++_, append-nil, List·Memᴰ·head, List·Memᴰ·tail, List·Memᴰ·cases-cons, List·Memᴰ·not-nil}
-use Rattle.columns.specs.Sets.{Mem, Pair, pairLt, pairEq, insert, addAll, Ascending}
+use Rattle.columns.specs.Sets.{Mem, Pair, pairLt, insert, addAll, Ascending}
 use Rattle.columns.proofs.Bools.{contra}
 use Rattle.columns.proofs.Orders.{pair-order}
-use Rattle.columns.proofs.Sets.{pairEq-eq, pairEq-refl, insert-there, addAll-right, addAll-ascending, among-in, among-out}
-use Rattle.pairs_merge.specs.Union.{has, without}
+use Rattle.columns.proofs.Sets.{insert-there, addAll-right, addAll-ascending}
+use Rattle.pairs.specs.Subset.{hasPair}
+use Rattle.pairs.proofs.Subsets.{has-in, has-out}
+use Rattle.pairs_merge.specs.Union.{without}
 
 -- ---- the test
-pub has-in : (m : List Pair) (x : Pair) → Mem x m → has m x ≡ true
-unfolding has
-has-in m x k = among-in pairEq pairEq-refl x m k
-
-pub has-out : (m : List Pair) (x : Pair) → has m x ≡ true → Mem x m
-unfolding has
-has-out m x h = among-out pairEq pairEq-eq x m h
-
 -- ---- one more at the end
 module _ (m : List Pair) where
-  snoc-without : (l : List Pair) (x : Pair) → without m (l ++ (x ∷ [])) ≡ without m l ++ cond (has m x) [] (x ∷ [])
+  snoc-without : (l : List Pair) (x : Pair) → without m (l ++ (x ∷ [])) ≡ without m l ++ cond (hasPair m x) [] (x ∷ [])
   unfolding without
   snoc-without [] x = refl
-  snoc-without (y ∷ l) x = go (snoc-without l x) (has m y)
+  snoc-without (y ∷ l) x = go (snoc-without l x) (hasPair m y)
     where
-      go : without m (l ++ (x ∷ [])) ≡ without m l ++ cond (has m x) [] (x ∷ []) → (b : Bool)
+      go : without m (l ++ (x ∷ [])) ≡ without m l ++ cond (hasPair m x) [] (x ∷ []) → (b : Bool)
           → cond b (without m (l ++ (x ∷ []))) (y ∷ without m (l ++ (x ∷ []))) ≡ cond b (without m l) (y ∷ without m l) ++
-          cond (has m x) [] (x ∷ [])
+          cond (hasPair m x) [] (x ∷ [])
       go ih true = ih
       go ih false = ap (λ (t : List Pair). y ∷ t) ih
 
-  pub without-old : (l : List Pair) (x : Pair) → has m x ≡ true → without m (l ++ (x ∷ [])) ≡ without m l
+  pub without-old : (l : List Pair) (x : Pair) → hasPair m x ≡ true → without m (l ++ (x ∷ [])) ≡ without m l
   without-old l x h = snoc-without l x ∙ ap (λ (b : Bool). without m l ++ cond b [] (x ∷ [])) h ∙ append-nil (without m l)
 
-  pub without-new : (l : List Pair) (x : Pair) → has m x ≡ false → without m (l ++ (x ∷ [])) ≡ without m l ++ (x ∷ [])
+  pub without-new : (l : List Pair) (x : Pair) → hasPair m x ≡ false → without m (l ++ (x ∷ [])) ≡ without m l ++ (x ∷ [])
   without-new l x h = snoc-without l x ∙ ap (λ (b : Bool). without m l ++ cond b [] (x ∷ [])) h
 
   -- ---- its members
-  pub without-out : (l : List Pair) (z : Pair) → Mem z (without m l) → Mem z l × (has m z ≡ false)
+  pub without-out : (l : List Pair) (z : Pair) → Mem z (without m l) → Mem z l × (hasPair m z ≡ false)
   unfolding without
   without-out [] z k = absurd (List·Memᴰ·not-nil k)
-  without-out (x ∷ l) z k = go (without-out l z) (has m x) refl k
+  without-out (x ∷ l) z k = go (without-out l z) (hasPair m x) refl k
     where
-      up : Mem z l × (has m z ≡ false) → Mem z (x ∷ l) × (has m z ≡ false)
+      up : Mem z l × (hasPair m z ≡ false) → Mem z (x ∷ l) × (hasPair m z ≡ false)
       up t = (List·Memᴰ·tail (t .0), t .1)
 
-      go : (Mem z (without m l) → Mem z l × (has m z ≡ false)) → (b : Bool) → has m x ≡ b
-          → Mem z (cond b (without m l) (x ∷ without m l)) → Mem z (x ∷ l) × (has m z ≡ false)
+      go : (Mem z (without m l) → Mem z l × (hasPair m z ≡ false)) → (b : Bool) → hasPair m x ≡ b
+          → Mem z (cond b (without m l) (x ∷ without m l)) → Mem z (x ∷ l) × (hasPair m z ≡ false)
       go ih true e k = up (ih k)
       go ih false e k =
-          ⊎-elim (λ (q : z ≡ x). (List·Memᴰ·head q, ap (has m) q ∙ e)) (λ (i : Mem z (without m l)). up (ih i)) (List·Memᴰ·cases-cons k)
+          ⊎-elim (λ (q : z ≡ x). (List·Memᴰ·head q, ap (hasPair m) q ∙ e)) (λ (i : Mem z (without m l)). up (ih i)) (List·Memᴰ·cases-cons k)
 
   pub without-apart : (l : List Pair) (z : Pair) → Mem z (without m l) → Mem z m → ⊥
   without-apart l z k i = contra (has-in m z i) (without-out l z k .1)
@@ -58,7 +52,7 @@ module _ (m : List Pair) where
   pub without-ascending : (l : List Pair) → Ascending pairLt l → Ascending pairLt (without m l)
   unfolding without Ascending
   without-ascending [] a = tt
-  without-ascending (x ∷ l) a = go (without-ascending l (a .1)) (has m x)
+  without-ascending (x ∷ l) a = go (without-ascending l (a .1)) (hasPair m x)
     where
       go : Ascending pairLt (without m l) → (b : Bool) → Ascending pairLt (cond b (without m l) (x ∷ without m l))
       go ih true = ih
@@ -68,9 +62,9 @@ module _ (m : List Pair) where
 pub union-without : (m : List Pair) → Ascending pairLt m → (l : List Pair) → addAll pairLt (without m l) m ≡ addAll pairLt l m
 unfolding without addAll
 union-without m a [] = refl
-union-without m a (x ∷ l) = go (union-without m a l) (has m x) refl
+union-without m a (x ∷ l) = go (union-without m a l) (hasPair m x) refl
   where
-    go : addAll pairLt (without m l) m ≡ addAll pairLt l m → (b : Bool) → has m x ≡ b
+    go : addAll pairLt (without m l) m ≡ addAll pairLt l m → (b : Bool) → hasPair m x ≡ b
         → addAll pairLt (cond b (without m l) (x ∷ without m l)) m ≡ insert pairLt x (addAll pairLt l m)
     go ih true e = ih ∙ sym (insert-there pairLt pair-order x (addAll pairLt l m) (addAll-ascending pairLt pair-order l m a)
         (addAll-right pairLt pair-order x l m (has-out m x e)))

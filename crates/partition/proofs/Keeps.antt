@@ -6,14 +6,14 @@ use mathlib.Core.Bool.{Bool, true, false, cond}
 use mathlib.Core.Path.{_≡_, refl, ap, sym, subst, _∙_}
 use mathlib.Core.Logic.{⊎-elim}
 use lib.ListN.{getD, set}
-use lib.Seq.{getD-set-same, getD-set-other}
 use lib.Dec.{ltb}
 use Rattle.columns.specs.Inverse.{swappedInverse}
 use Rattle.columns.proofs.All.{same-or-not}
 use Rattle.columns.proofs.Inverses.{swap-order, swap-places, offset-i, offset-j, offset-other}
 use Rattle.partition.specs.Mark.{mark, moved}
 use Rattle.partition.specs.Partition.{Partition, Consistent, Within, Long}
-use Rattle.partition.specs.Readers.{unmarkedb}
+use Rattle.partition.specs.Marked.{unmarkedb}
+use Rattle.partition.proofs.Changed.{marks-bounds}
 use Rattle.partition.proofs.Owned.{owned}
 
 module _ (p : Partition) (h : Consistent p) (l : Long p) (s : ℕ) (w : s < p .n) where
@@ -58,19 +58,7 @@ module _ (p : Partition) (h : Consistent p) (l : Long p) (s : ℕ) (w : s < p .n
 
     moved-bounds : (k : ℕ) → k < p .count → Within (getD (p .begin) k 0) (getD (set (p .marked-split) b (m - 1)) k 0) (getD (p .end) k 0)
         (p .n)
-    moved-bounds k lk =
-        let v = h .bounds k lk in
-        ⊎-elim
-        (λ (e : k ≡ b).
-        let x : getD (set (p .marked-split) b (m - 1)) k 0 ≡ m - 1 = ap (λ (y : ℕ). getD (set (p .marked-split) b (m - 1)) y 0) e ∙
-        getD-set-same (p .marked-split) b (m - 1) 0 (omega (arith, known, h .most, l .marked-split)) in
-        let f : getD (p .begin) k 0 ≤ o = subst (λ (y : ℕ). getD (p .begin) y 0 ≤ o) (sym e) from in
-        let t : m ≤ getD (p .end) k 0 = subst (λ (y : ℕ). m ≤ getD (p .end) y 0) (sym e) least in
-        record { some = v .some; from = omega arith; to = omega arith; most = v .most })
-        (λ (ne : k ≡ b → ⊥).
-        let x = getD-set-other (p .marked-split) b k (m - 1) 0 ne in
-        record { some = v .some; from = omega (arith, v .from); to = omega (arith, v .to); most = v .most })
-        (same-or-not k b)
+    moved-bounds = marks-bounds p h l b (m - 1) known (omega (arith, from)) (omega (arith, least))
 
     -- a state of block b that stands at o or m - 1
     at-block : (t k : ℕ) → getD (p .element-to-block) t 0 ≡ b → getD (p .begin) b 0 ≤ k → k < getD (p .end) b 0

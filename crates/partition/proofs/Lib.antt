@@ -1,8 +1,12 @@
 pub mod Lengths
 pub mod Holds
 pub mod Refusals
+pub mod Places
 pub mod Owned
 pub mod Whole
+pub mod Marked
+pub mod Standing
+pub mod Changed
 pub mod Marks
 pub mod Keeps
 pub mod Renumbering

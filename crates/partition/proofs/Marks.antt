@@ -14,7 +14,7 @@ use Rattle.columns.proofs.All.{lt-or-le}
 use Rattle.partition.specs.Mark.{Marks, marks, marksOf, withMarks, mark, moved, markIn, movedIn}
 use Rattle.partition.specs.Cores.{Markable}
 use Rattle.partition.specs.Partition.{Partition, Sound}
-use Rattle.partition.specs.Readers.{unmarkedb}
+use Rattle.partition.specs.Marked.{unmarkedb}
 
 pub block-known : (p : Partition) (s b : ℕ) → b ≡ getD (p .element-to-block) s 0 → Sound p → s < p .n → b < length (p .marked-split)
 block-known p s b eb g w = let h = g .consistent in omega (arith, h .lies s w .known, h .most, g .long .marked-split)

@@ -7,7 +7,8 @@ use mathlib.Core.List.{List, [], _∷_}
 use lib.Dec.{ltb}
 use lib.ListN.{getD}
 use Rattle.columns.specs.Limits.{maxStates, inconsistent}
-use Rattle.columns.specs.Answers.{done, bit, answering}
+use Rattle.columns.specs.Answers.{done, answering}
+use Rattle.columns.specs.Counting.{bit}
 use Rattle.columns.specs.Due.{Test, test, due}
 use Rattle.columns.proofs.All.{not-below}
 use Rattle.columns.proofs.Bools.{contra, fails}
@@ -17,7 +18,8 @@ use Rattle.partition.specs.declared.block.Block.{Block}
 use Rattle.partition.specs.Partition.{Partition, Within, Sound}
 use Rattle.partition.specs.Block.{boundedb, brokenBlock, len, lenMarked, hasMarked, hasUnmarked}
 use Rattle.partition.specs.Checks.{partitionRefusal, stateRefusal, blockRefusal}
-use Rattle.partition.specs.Readers.{numOfBlocks, lenOf, blockNumber, unmarkedb, isElementMarked, readBlock, iterBlockRefusal}
+use Rattle.partition.specs.Readers.{numOfBlocks, lenOf, blockNumber, isElementMarked, readBlock, iterBlockRefusal}
+use Rattle.partition.specs.Marked.{unmarkedb}
 use Rattle.partition.proofs.Holds.{sound-of}
 use Rattle.partition.proofs.Refusals.{partition-sound, argument-ready}
 use native.Mathlib.Omega.{arith}

@@ -1,5 +1,5 @@
 -- Exchanging two blocks: renumbering the two stretches renumbers the states of the two blocks, and consistency is kept.
-use Prim.Native.Nat.{ℕ, _-_, _≤_, _<_}
+use Prim.Native.Nat.{ℕ, _≤_, _<_}
 use native.Mathlib.Omega.{arith}
 use borrow.Author.Tests.{eq-eqb, ne-eqb}
 use mathlib.Core.Path.{_≡_, ap, sym, subst, _∙_}

@@ -17,7 +17,7 @@ use Rattle.partition.specs.Partition.{Partition, Consistent, Sound, cons
 use Rattle.partition.specs.Checks.{blocksRefusal, stateRefusal}
 use Rattle.partition.specs.Fresh.{fresh, newRefusal, newPartition}
 use Rattle.partition.specs.Mark.{moved, mark, markElement}
-use Rattle.partition.specs.Readers.{unmarkedb}
+use Rattle.partition.specs.Marked.{unmarkedb}
 use Rattle.partition.specs.SwapBlocks.{exchange, swap, swapBlocks}
 use Rattle.partition.proofs.Freshness.{fresh-sound}
 use Rattle.partition.proofs.Holds.{consistent-of, of-consistent}
@@ -41,6 +41,9 @@ pub use Rattle.partition.proofs.Readings.{
 }
 -- That blocks do not overlap follows from their lengths: a state that stands in the stretch of a block is of that block.
 pub use Rattle.partition.proofs.Owned.{owned}
+-- A state of a block is a marked one of it exactly if it is marked; the states of a block stand between its bounds, each once.
+pub use Rattle.partition.proofs.Marked.{marked-in}
+pub use Rattle.partition.proofs.Standing.{stands}
 -- `iter_block` answers the empty part exactly where it is refused.
 pub use Rattle.partition.proofs.Stretches.{iter-some, iter-empty}
 

@@ -7,22 +7,9 @@ use lib.ListN.{getD}
 use Rattle.columns.specs.Counting.{sum}
 use Rattle.columns.specs.Inverse.{Inverse}
 use Rattle.columns.proofs.All.{lt-or-le, top-or-below}
-use Rattle.columns.proofs.Sums.{
-  hit,
-  sum-mono,
-  sum-cong,
-  sum-one,
-  sum-swap,
-  hit-same,
-  hit-other,
-  hits-one,
-  ins,
-  ins-in,
-  ins-before,
-  ins-after,
-  sum-ins,
-}
+use Rattle.columns.proofs.Sums.{hit, sum-mono, sum-cong, sum-one, hit-same, hit-other, ins, ins-in, ins-before, ins-after}
 use Rattle.partition.specs.Partition.{Partition, Consistent, Within, Lies, lengths}
+use Rattle.partition.proofs.Places.{homeAt, stretch-long, home-holds, all-homes}
 use Rattle.partition.proofs.Owned.{lengths-sum}
 
 module _ (q : Partition) (order : Inverse (q .elements) (q .element-offset) (q .n))
@@ -30,49 +17,30 @@ module _ (q : Partition) (order : Inverse (q .elements) (q .element-offset) (q .
     (lies : (s : ℕ) → s < q .n → Lies q s)
     (own : (b k : ℕ) → b < q .count → getD (q .begin) b 0 ≤ k → k < getD (q .end) b 0 →
     getD (q .element-to-block) (getD (q .elements) k 0) 0 ≡ b) where
-  at : ℕ → ℕ
-  at k = getD (q .element-to-block) (getD (q .elements) k 0) 0
-
-  known : (k : ℕ) → k < q .n → at k < q .count
-  unfolding at
-  known k w = lies _ (order .below k w) .known
-
-  in-own : (k : ℕ) → k < q .n → (getD (q .begin) (at k) 0 ≤ k) × (k < getD (q .end) (at k) 0)
-  unfolding at
-  in-own k w =
-      let l = lies _ (order .below k w) in
-      let e = order .back k w in
-      (omega (arith, l .from, e), omega (arith, l .to, e))
-
-  same : (b k : ℕ) → b < q .count → k < q .n → ins (getD (q .begin) b 0) (getD (q .end) b 0) k ≡ hit (at k) b
-  unfolding at
+  same : (b k : ℕ) → b < q .count → k < q .n → ins (getD (q .begin) b 0) (getD (q .end) b 0) k ≡ hit (homeAt q k) b
+  unfolding homeAt
   same b k wb w =
-      ⊎-elim (λ (l : k < getD (q .begin) b 0). ins-before _ _ k l ∙ sym (hit-other (at k) b (λ e. bad e (λ f t. omega (arith, l, f)))))
+      ⊎-elim
+      (λ (l : k < getD (q .begin) b 0). ins-before _ _ k l ∙ sym (hit-other (homeAt q k) b (λ e. bad e (λ f t. omega (arith, l, f)))))
       (λ (g : getD (q .begin) b 0 ≤ k).
-      ⊎-elim (λ (l : k < getD (q .end) b 0). ins-in _ _ k g l ∙ sym (hit-same (at k) b (own b k wb g l)))
-      (λ (g' : getD (q .end) b 0 ≤ k). ins-after _ _ k g g' ∙ sym (hit-other (at k) b (λ e. bad e (λ f t. omega (arith, g', t)))))
+      ⊎-elim (λ (l : k < getD (q .end) b 0). ins-in _ _ k g l ∙ sym (hit-same (homeAt q k) b (own b k wb g l)))
+      (λ (g' : getD (q .end) b 0 ≤ k). ins-after _ _ k g g' ∙ sym (hit-other (homeAt q k) b (λ e. bad e (λ f t. omega (arith, g', t)))))
       (lt-or-le k (getD (q .end) b 0)))
       (lt-or-le k (getD (q .begin) b 0))
     where
-      bad : at k ≡ b → (getD (q .begin) b 0 ≤ k → k < getD (q .end) b 0 → ⊥) → ⊥
+      bad : homeAt q k ≡ b → (getD (q .begin) b 0 ≤ k → k < getD (q .end) b 0 → ⊥) → ⊥
       bad e no' =
-          let i = in-own k w in
+          let i = home-holds q order lies k w in
           no' (subst (λ (x : ℕ). getD (q .begin) x 0 ≤ k) e (i .0)) (subst (λ (x : ℕ). k < getD (q .end) x 0) e (i .1))
-
-  long : (b : ℕ) → b < q .count → getD (q .end) b 0 - getD (q .begin) b 0 ≡ sum (ins (getD (q .begin) b 0) (getD (q .end) b 0)) (q .n)
-  long b w =
-      let i = bounds b w in
-      omega (arith, sum-ins (getD (q .begin) b 0) (getD (q .end) b 0) (q .n) (omega (arith, i .some)), i .some, i .most)
 
   pub whole-of : lengths (q .begin) (q .end) (q .count) ≡ q .n
   whole-of =
       lengths-sum (q .begin) (q .end) (q .count)
-      ∙ sum-cong (λ b. getD (q .end) b 0 - getD (q .begin) b 0) (λ b. sum (λ k. hit (at k) b) (q .n)) (q .count)
+      ∙ sum-cong (λ b. getD (q .end) b 0 - getD (q .begin) b 0) (λ b. sum (λ k. hit (homeAt q k) b) (q .n)) (q .count)
       (λ b w.
-      long b w ∙ sum-cong (ins (getD (q .begin) b 0) (getD (q .end) b 0)) (λ k. hit (at k) b) (q .n) (λ k wk. same b k w wk))
-      ∙ sum-swap (λ b k. hit (at k) b) (q .count) (q .n)
-      ∙ sum-cong (λ k. sum (hit (at k)) (q .count)) (λ _. 1) (q .n) (λ k w. hits-one (at k) (q .count) (known k w))
-      ∙ sum-one (q .n)
+      sym (stretch-long _ _ _ _ (bounds b w))
+      ∙ sum-cong (ins (getD (q .begin) b 0) (getD (q .end) b 0)) (λ k. hit (homeAt q k) b) (q .n) (λ k wk. same b k w wk))
+      ∙ all-homes q order lies
 
 sum-all : (f : ℕ → ℕ) (c : ℕ) → ((j : ℕ) → j < c → 1 ≤ f j) → c ≤ sum f c
 sum-all f c h = omega (arith, sum-one c, sum-mono (λ _. 1) f c h)

@@ -6,7 +6,8 @@ use lib.ListN.{getD}
 use lib.Dec.{ltb}
 use Rattle.columns.specs.Limits.{inconsistent, maxStates, outOfRange}
 use Rattle.columns.specs.declared.answers.Refusal.{Refusal}
-use Rattle.columns.specs.Answers.{Said, done, refused, bit, answering}
+use Rattle.columns.specs.Answers.{Said, done, refused, answering}
+use Rattle.columns.specs.Counting.{bit}
 use Rattle.columns.specs.Due.{test, due}
 use Rattle.partition.specs.Partition.{withinb}
 use Rattle.partition.specs.declared.block.Block.{Block}

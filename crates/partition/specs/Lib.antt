@@ -1,4 +1,6 @@
 pub mod Partition
+pub mod Marked
+pub mod Stand
 pub mod Checks
 pub mod Block
 pub mod Readers

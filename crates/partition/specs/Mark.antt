@@ -2,14 +2,14 @@
 use Prim.Native.Nat.{ℕ, _-_}
 use mathlib.Core.Bool.{cond}
 use mathlib.Core.List.{List, []}
-use lib.Dec.{ltb}
 use lib.ListN.{getD, set}
 use Rattle.columns.specs.Answers.{Said, leaving}
+use Rattle.columns.specs.Blocks.{blockOf}
 use Rattle.columns.specs.Columns.{swapped}
 use Rattle.columns.specs.Inverse.{swappedInverse}
 use Rattle.partition.specs.Partition.{Partition, parts}
 use Rattle.partition.specs.Checks.{argumentRefusal, stateRefusal}
-use Rattle.partition.specs.Readers.{unmarkedb}
+use Rattle.partition.specs.Marked.{unmarkedBy, unmarkedb}
 
 -- the columns that marking a state changes
 pub record Marks : Type 0 where
@@ -24,15 +24,15 @@ marks e o m = record { elements = e; element-offset = o; marked-split = m }
 unfoldable pub movedIn : List ℕ → Marks → ℕ → Marks
 unfolding swapped swappedInverse
 movedIn home c s =
-    let b = getD home s 0 in
+    let b = blockOf home s in
     let o = getD (c .element-offset) s 0 in
     let m = getD (c .marked-split) b 0 - 1 in
     marks (swapped o m (c .elements)) (swappedInverse o m (c .elements) (c .element-offset)) (set (c .marked-split) b m)
 
 -- state s is marked: an unmarked one moves; a marked one: no change
 unfoldable pub markIn : List ℕ → Marks → ℕ → Marks
-unfolding movedIn
-markIn home c s = cond (ltb (getD (c .element-offset) s 0) (getD (c .marked-split) (getD home s 0) 0)) (movedIn home c s) c
+unfolding unmarkedBy movedIn
+markIn home c s = cond (unmarkedBy (c .element-offset) home (c .marked-split) s) (movedIn home c s) c
 
 -- ---- the same of a partition
 abbrev pub marksOf : Partition → Marks

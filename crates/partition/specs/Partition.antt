@@ -1,10 +1,11 @@
 -- When six columns hold a partition of n states into count blocks.
-use Prim.Native.Nat.{ℕ, _-_, _≤_, _<_}
+use Prim.Native.Nat.{ℕ, _≤_, _<_}
 use mathlib.Core.Bool.{Bool, _&&_}
 use mathlib.Core.List.{List, [], _∷_}
 use mathlib.Core.Path.{_≡_}
-use lib.ListN.{length, getD}
+use lib.ListN.{length, getD, set}
 use lib.Dec.{ltb, leb, eqb}
+use Rattle.columns.specs.Blocks.{blockOf}
 use Rattle.columns.specs.Limits.{maxStates}
 use Rattle.columns.specs.Due.{allLong}
 use Rattle.columns.specs.Inverse.{Inverse, inverseb}
@@ -26,6 +27,19 @@ abbrev pub parts : List ℕ → List ℕ → List ℕ → List ℕ → List ℕ 
 parts e o b x m z n count =
     record { elements = e; element-offset = o; element-to-block = b; begin = x; marked-split = m; end = z; n = n; count = count }
 
+-- the same blocks over another order
+abbrev pub reordered : Partition → List ℕ → List ℕ → Partition
+reordered p l o = parts l o (p .element-to-block) (p .begin) (p .marked-split) (p .end) (p .n) (p .count)
+
+-- the same with the marks of block b from position m on
+abbrev pub withSplit : Partition → ℕ → ℕ → Partition
+withSplit p b m =
+    parts (p .elements) (p .element-offset) (p .element-to-block) (p .begin) (set (p .marked-split) b m) (p .end) (p .n) (p .count)
+
+-- the block of state s
+abbrev pub homeOf : Partition → ℕ → ℕ
+homeOf p s = blockOf (p .element-to-block) s
+
 -- a block's bounds: begin < end, begin <= marked_split <= end <= n
 pub record Within (x m z n : ℕ) : Type 0 where
   pub some : x < z
@@ -35,9 +49,9 @@ pub record Within (x m z n : ℕ) : Type 0 where
 
 -- state s's position lies in its block
 pub record Lies (p : Partition) (s : ℕ) : Type 0 where
-  pub known : getD (p .element-to-block) s 0 < p .count
-  pub from : getD (p .begin) (getD (p .element-to-block) s 0) 0 ≤ getD (p .element-offset) s 0
-  pub to : getD (p .element-offset) s 0 < getD (p .end) (getD (p .element-to-block) s 0) 0
+  pub known : homeOf p s < p .count
+  pub from : getD (p .begin) (homeOf p s) 0 ≤ getD (p .element-offset) s 0
+  pub to : getD (p .element-offset) s 0 < getD (p .end) (homeOf p s) 0
 
 -- the lengths of the first blocks, added up
 unfoldable pub lengths : List ℕ → List ℕ → ℕ → ℕ

@@ -1,11 +1,13 @@
 -- What the calls say that read a partition and change nothing.
 use Prim.Native.Nat.{ℕ, _-_}
-use mathlib.Core.Bool.{Bool, not, cond}
+use mathlib.Core.Bool.{not, cond}
 use mathlib.Core.List.{List, [], _∷_}
 use lib.ListN.{getD, take, drop}
-use lib.Dec.{ltb, eqb}
-use Rattle.columns.specs.Answers.{Said, bit, answering}
-use Rattle.partition.specs.Partition.{Partition}
+use lib.Dec.{eqb}
+use Rattle.columns.specs.Answers.{Said, answering}
+use Rattle.columns.specs.Counting.{bit}
+use Rattle.partition.specs.Partition.{Partition, homeOf}
+use Rattle.partition.specs.Marked.{unmarkedb}
 use Rattle.partition.specs.Checks.{partitionRefusal, argumentRefusal, stateRefusal, blockRefusal}
 
 unfoldable pub numOfBlocks : Partition → Said
@@ -18,11 +20,7 @@ lenOf p = answering (partitionRefusal p) (p .n ∷ [])
 
 unfoldable pub blockNumber : Partition → ℕ → Said
 unfolding answering argumentRefusal
-blockNumber p s = answering (stateRefusal p s) (getD (p .element-to-block) s 0 ∷ [])
-
--- state s stands before its block's marked_split
-unfoldable pub unmarkedb : Partition → ℕ → Bool
-unmarkedb p s = ltb (getD (p .element-offset) s 0) (getD (p .marked-split) (getD (p .element-to-block) s 0) 0)
+blockNumber p s = answering (stateRefusal p s) (homeOf p s ∷ [])
 
 unfoldable pub isElementMarked : Partition → ℕ → Said
 unfolding answering argumentRefusal unmarkedb

@@ -2,8 +2,16 @@
 ghost use mathlib.Core.Path.{_≡_};
 ghost use Rattle.columns.specs.Answers.{said, saidNumber, saidFlag};
 ghost use Rattle.partition.specs.Block.{saidBlock};
-ghost use Rattle.partition.specs.Readers.{numOfBlocks, lenOf, blockNumber, isElementMarked, readBlock};
-ghost use Rattle.partition.specs.Readers.{iterBlock, iterBegin, iterBlockRefusal};
+ghost use Rattle.partition.specs.Readers.{
+  numOfBlocks,
+  lenOf,
+  blockNumber,
+  isElementMarked,
+  readBlock,
+  iterBlock,
+  iterBegin,
+  iterBlockRefusal,
+};
 ghost use Rattle.partition.specs.Lent.{before, BeginsAt};
 use crate::BlockPartition;
 use columns::answers::Answer;

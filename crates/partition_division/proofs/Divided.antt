@@ -1,7 +1,7 @@
 -- What `divided` leaves, cell by cell; and it leaves a consistent partition.
 use Prim.Native.Nat.{ℕ, zero, suc, _+_, _-_, _≤_, _<_}
 use native.Mathlib.Omega.{arith}
-use borrow.Author.Tests.{eq-eqb, ne-eqb, lt-ltb, ltb-true}
+use borrow.Author.Tests.{lt-ltb, ltb-true}
 use mathlib.Core.Bool.{Bool, true, false}
 use mathlib.Core.Path.{_≡_, refl, ap, sym, subst, _∙_}
 use mathlib.Core.Logic.{_⊎_, inl, inr, ⊎-elim}
@@ -14,12 +14,12 @@ use Rattle.columns.proofs.All.{same-or-not, lt-or-le}
 use Rattle.columns.proofs.Bools.{cases, contra}
 use Rattle.columns.proofs.Inverses.{other-way}
 use Rattle.columns.proofs.Stores.{stores-hit, stores-miss, length-stores}
-use Rattle.partition_passes.specs.Passes.{homeBy}
+use Rattle.partition_passes.proofs.PassLaws.{by-end, by-zero, by-new}
 use Rattle.partition_division.specs.Divide.{start, position, hasUnmarkedAt, home, divided}
-use Rattle.partition_division.specs.Marked.{markedIn, missing, denseb}
+use Rattle.partition_division.specs.Marked.{missing, denseb}
+use Rattle.partition.specs.Marked.{markedIn}
 use Rattle.partition.specs.Partition.{Partition, Consistent, Long, Within, Lies}
 use Rattle.partition_division.proofs.Marked.{
-  marked-of,
   start-mono,
   start-zero,
   start-less,
@@ -33,22 +33,23 @@ use Rattle.partition_division.proofs.Marked.{
   place-least,
   place-most,
 }
+use Rattle.partition.proofs.Marked.{marked-of}
 use Rattle.partition.proofs.Owned.{owned}
 use Rattle.partition.proofs.Whole.{whole-of, room}
 
 -- ---- home, the block of a number
 module _ (p : Partition) (b k : ℕ) where
   pub home-end : hasUnmarkedAt p b ≡ true → home p b k ≡ p .count + k
-  unfolding home homeBy
-  home-end u = rw u
+  unfolding home
+  home-end u = sym (by-end (hasUnmarkedAt p b) (p .count) b k u)
 
   pub home-zero : hasUnmarkedAt p b ≡ false → k ≡ 0 → home p b k ≡ b
-  unfolding home homeBy
-  home-zero u e = rw (u, eq-eqb k 0 e)
+  unfolding home
+  home-zero u e = sym (by-zero (hasUnmarkedAt p b) (p .count) b k u e)
 
   pub home-new : hasUnmarkedAt p b ≡ false → (k ≡ 0 → ⊥) → home p b k ≡ p .count + k - 1
-  unfolding home homeBy
-  home-new u e = rw (u, ne-eqb k 0 e)
+  unfolding home
+  home-new u e = sym (by-new (hasUnmarkedAt p b) (p .count) b k u e)
 
   pub home-where : 1 ≤ p .count → ((home p b k ≡ b) × ((hasUnmarkedAt p b ≡ false) × (k ≡ 0))) ⊎ (p .count ≤ home p b k)
   home-where h =
@@ -351,7 +352,7 @@ module _ (p : Partition) (b : ℕ) (v : List ℕ) (h : Consistent p) (g : Long p
       subst (λ (x : ℕ). getD (p .begin) x 0 ≤ getD (p .element-offset) s 0) e (h .lies s w .from) in
       ⊎-elim (λ (l : getD (p .element-offset) s 0 < getD (p .marked-split) b 0).
       (f, (l, lt-ltb (getD (p .begin) b 0) (getD (p .marked-split) b 0) (omega (arith, f, l)))))
-      (λ (l : getD (p .marked-split) b 0 ≤ getD (p .element-offset) s 0). absurd (contra (marked-of p b v s e l) y))
+      (λ (l : getD (p .marked-split) b 0 ≤ getD (p .element-offset) s 0). absurd (contra (marked-of p b s e l) y))
       (lt-or-le (getD (p .element-offset) s 0) (getD (p .marked-split) b 0))
 
   -- an old block other than b

@@ -1,5 +1,5 @@
 -- Laws of `largest`: it is one of the blocks, none is longer, and the later ones are shorter.
-use Prim.Native.Nat.{ℕ, zero, suc, _+_, _-_, _≤_, _<_}
+use Prim.Native.Nat.{ℕ, zero, suc, _+_, _≤_, _<_}
 use native.Mathlib.Omega.{arith}
 use borrow.Author.Tests.{leb-true, leb-false}
 use mathlib.Core.Bool.{Bool, true, false, cond}

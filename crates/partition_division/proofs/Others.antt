@@ -15,7 +15,8 @@ use Rattle.partition.specs.Partition.{Partition, Consistent, Long, Sound}
 use Rattle.partition.specs.SwapBlocks.{exchange, swap}
 use Rattle.partition.proofs.SwapKeeps.{swap-begin, swap-split, swap-end}
 use Rattle.partition.proofs.SwapLaws.{exchange-other}
-use Rattle.partition_division.specs.Marked.{markedIn, missing, denseb, lenAt}
+use Rattle.partition_division.specs.Marked.{missing, denseb, lenAt}
+use Rattle.partition.specs.Marked.{markedIn}
 use Rattle.partition_division.specs.Steps.{Dividable}
 use Rattle.partition_division.specs.Divide.{position, hasUnmarkedAt, home, divided, largestOf, blockUnmarked, partitionMarked}
 use Rattle.partition_division.proofs.Marked.{place-least, place-most}

@@ -6,15 +6,16 @@ use mathlib.Core.Bool.{true, false}
 use mathlib.Core.Path.{_≡_, refl, ap, sym, subst, _∙_}
 use mathlib.Core.Logic.{_⊎_, inl, inr, ⊎-elim}
 use mathlib.Core.List.{List}
-use lib.ListN.{length, getD, set, length-set}
-use lib.Seq.{getD-set-same, getD-set-other}
+use lib.ListN.{length, getD, set}
+use lib.Seq.{getD-set-same}
 use Rattle.columns.specs.Counting.{first}
 use Rattle.columns.proofs.All.{same-or-not}
 use Rattle.columns.proofs.Bools.{cases, contra}
 use Rattle.columns.specs.Columns.{lengthIn}
 use Rattle.partition_division.specs.Divide.{home, divided, largest, largestOf, blockUnmarked, partitionMarked}
 use Rattle.partition_passes.specs.Passes.{largestIn}
-use Rattle.partition_division.specs.Marked.{markedIn, missing, denseb, lenAt}
+use Rattle.partition_division.specs.Marked.{missing, denseb, lenAt}
+use Rattle.partition.specs.Marked.{markedIn}
 use Rattle.partition_division.specs.Steps.{Dividable}
 use Rattle.partition.specs.Partition.{Partition, parts, Consistent, Long, Sound}
 use Rattle.partition.specs.SwapBlocks.{exchange, swap}
@@ -32,7 +33,8 @@ use Rattle.partition_division.proofs.Divided.{
   block-marked,
 }
 use Rattle.partition_division.proofs.Largest.{Largest, largest-law}
-use Rattle.partition_division.proofs.Marked.{marked-block, marked-of}
+use Rattle.partition.proofs.Changed.{marks-long, marks-consistent}
+use Rattle.partition.proofs.Marked.{marked-block, whole-marked}
 use Rattle.partition.proofs.SwapKeeps.{
   exchange-only,
   exchange-below,
@@ -139,7 +141,7 @@ module _ (p : Partition) (b : ℕ) (v : List ℕ) (h : Consistent p) (g : Long p
     spread =
         record {
           outside = λ s w m.
-              let y : markedIn p b s ≡ false = ⊎-elim (λ y. absurd (m (marked-block p b v s y))) (λ y. y) (cases (markedIn p b s)) in
+              let y : markedIn p b s ≡ false = ⊎-elim (λ y. absurd (m (marked-block p b s y))) (λ y. y) (cases (markedIn p b s)) in
               let k = h .lies s w .known in
               r-block s w ∙ ap (exchange b l) (block-k s w y)
               ∙ exchange-other b l (getD (p .element-to-block) s 0) m (λ e. ⊎-elim (λ a. m (e ∙ a)) (λ a. omega (arith, e, a, k)) l-where);
@@ -240,9 +242,7 @@ module _ (p : Partition) (b : ℕ) (v : List ℕ) (h : Consistent p) (g : Long p
 
     alone-marked : (s : ℕ) → s < p .n → getD (p .element-to-block) s 0 ≡ b → markedIn p b s ≡ true
     unfolding lenAt lengthIn
-    alone-marked s w e =
-        let x = there p h b s w e in
-        marked-of p b v s e (omega (arith, a, mk, h .bounds b hb .from, x .0, x .1 .0))
+    alone-marked = whole-marked p h b (omega (arith, a, mk, h .bounds b hb .from))
 
     alone-spread : Splits p b v (blockUnmarked p b)
     unfolding blockUnmarked
@@ -250,48 +250,19 @@ module _ (p : Partition) (b : ℕ) (v : List ℕ) (h : Consistent p) (g : Long p
         record {
           outside = λ s w m. refl;
           inside = λ s w e. inl e;
-          together = λ s t ws wt ys yt e. marked-block p b v s ys ∙ sym (marked-block p b v t yt);
-          numbers = λ s t ws wt ys yt e. ap (λ (x : ℕ). getD v x 0) (alone s t ws wt (marked-block p b v s ys) (marked-block p b v t yt));
+          together = λ s t ws wt ys yt e. marked-block p b s ys ∙ sym (marked-block p b t yt);
+          numbers = λ s t ws wt ys yt e. ap (λ (x : ℕ). getD v x 0) (alone s t ws wt (marked-block p b s ys) (marked-block p b t yt));
           rest = λ s t ws wt es et ys yt. es ∙ sym et;
           apart = λ s t ws wt ys et yt e. contra (alone-marked t wt et) yt;
         }
 
     alone-ok : Consistent (blockUnmarked p b)
     unfolding blockUnmarked
-    alone-ok =
-        record {
-          some = h .some;
-          most = h .most;
-          order = h .order;
-          places = h .places;
-          bounds = λ j w.
-              let i = h .bounds j w in
-              ⊎-elim
-              (λ (e : j ≡ b).
-              let x : getD (set (p .marked-split) b (getD (p .end) b 0)) j 0 ≡ getD (p .end) j 0
-              = ap (λ (y : ℕ). getD (set (p .marked-split) b (getD (p .end) b 0)) y 0) e
-              ∙ getD-set-same (p .marked-split) b (getD (p .end) b 0) 0 (omega (arith, hb, h .most, g .marked-split))
-              ∙ ap (λ (y : ℕ). getD (p .end) y 0) (sym e) in
-              record { some = i .some; from = omega (arith, x, i .some); to = omega (arith, x); most = i .most })
-              (λ (m : j ≡ b → ⊥).
-              let x = getD-set-other (p .marked-split) b j (getD (p .end) b 0) 0 m in
-              record { some = i .some; from = omega (arith, x, i .from); to = omega (arith, x, i .to); most = i .most })
-              (same-or-not j b);
-          lies = λ s w. let i = h .lies s w in record { known = i .known; from = i .from; to = i .to };
-          whole = h .whole;
-        }
+    alone-ok = let i = h .bounds b hb in marks-consistent p h g b (getD (p .end) b 0) hb (omega (arith, i .some)) (omega arith)
 
     alone-long : Long (blockUnmarked p b)
     unfolding blockUnmarked
-    alone-long =
-        record {
-          elements = g .elements;
-          element-offset = g .element-offset;
-          element-to-block = g .element-to-block;
-          begin = g .begin;
-          marked-split = omega (arith, g .marked-split, length-set (p .marked-split) b (getD (p .end) b 0));
-          end = g .end;
-        }
+    alone-long = marks-long p h g b (getD (p .end) b 0) hb
 
 alone-unmarked : (p : Partition) (b : ℕ) → Consistent p → Long p → b < p .count
     → (j : ℕ) → (j ≡ b) ⊎ (p .count ≤ j) → j < blockUnmarked p b .count

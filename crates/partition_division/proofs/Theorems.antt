@@ -15,7 +15,8 @@ use Rattle.columns.proofs.Doing.{leaving-done}
 use Rattle.partition.specs.Partition.{Partition, Consistent, Long, Sound}
 use Rattle.partition.specs.SwapBlocks.{exchange, swap}
 use Rattle.partition.proofs.SwapKeeps.{swap-block}
-use Rattle.partition_division.specs.Marked.{markedIn, missing, denseb, lenAt}
+use Rattle.partition_division.specs.Marked.{missing, denseb, lenAt}
+use Rattle.partition.specs.Marked.{markedIn}
 use Rattle.partition_division.specs.Divide.{home, divided, largestOf, blockUnmarked, partitionMarked}
 use Rattle.partition_division.specs.Division.{Work, divisionRefusal, clearedWork, partitionMarkedWith}
 use Rattle.partition_division.specs.Steps.{Dividable}

@@ -19,7 +19,8 @@ use Rattle.columns.specs.Columns.{lengthIn}
 use Rattle.partition.specs.Partition.{Partition}
 use Rattle.partition.specs.Checks.{partitionTests}
 use Rattle.partition.proofs.Refusals.{checked-of}
-use Rattle.partition_division.specs.Marked.{markedFrom, markedIn, numbered, absent, missing, denseb, lenAt}
+use Rattle.partition_division.specs.Marked.{numbered, absent, missing, denseb, lenAt}
+use Rattle.partition.specs.Marked.{markedIn, markedFrom}
 use Rattle.partition_division.specs.Steps.{Dividable}
 use Rattle.partition_passes.specs.Invariants.{tallied}
 use Rattle.partition_division.specs.Division.{unfitTests, roomb, refusalFor}

@@ -3,18 +3,11 @@ use Prim.Native.Nat.{ℕ}
 use mathlib.Core.Bool.{Bool, true, _&&_, cond}
 use mathlib.Core.List.{List}
 use lib.ListN.{getD}
-use lib.Dec.{ltb, leb, eqb}
+use lib.Dec.{ltb, eqb}
 use Rattle.columns.specs.Counting.{many, first, all}
 use Rattle.columns.specs.Columns.{lengthIn}
+use Rattle.partition.specs.Marked.{markedIn}
 use Rattle.partition.specs.Partition.{Partition}
-
--- state s is a marked one of block b, whose marks begin at position m
-unfoldable pub markedFrom : List ℕ → List ℕ → ℕ → ℕ → ℕ → Bool
-markedFrom offset block b m s = eqb (getD block s 0) b && leb m (getD offset s 0)
-
--- state s is a marked one of block b
-unfoldable pub markedIn : Partition → ℕ → ℕ → Bool
-markedIn p b s = markedFrom (p .element-offset) (p .element-to-block) b (getD (p .marked-split) b 0) s
 
 -- state s is a marked one of block b, and its number is k; is below k
 unfoldable pub numbered : Partition → ℕ → List ℕ → ℕ → ℕ → Bool

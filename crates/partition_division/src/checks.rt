@@ -7,7 +7,7 @@ ghost use lib.Dec.{eqb, ltb};
 ghost use lib.ListN.{length, getD, set};
 ghost use Rattle.columns.specs.Due.{due};
 ghost use Rattle.columns.specs.Counting.{first, all};
-ghost use Rattle.partition_division.specs.Marked.{markedFrom};
+ghost use Rattle.partition.specs.Marked.{markedFrom};
 ghost use Rattle.partition_passes.specs.Invariants.{tallied};
 ghost use Rattle.partition_division.specs.Division.{unfitTests, refusalFor};
 ghost use Rattle.columns.specs.Lent.{was, is};

@@ -9,6 +9,7 @@ use mathlib.Core.List.{List, [], _∷_, map}
 use lib.Dec.{eqb}
 use lib.ListN.{length, getD, take, length-map}
 use lib.Seq.{getD-take, length-take-le, take-all}
+use Rattle.columns.specs.Columns.{exchanged}
 use Rattle.columns.specs.Limits.{inconsistent, maxStates, tooShort, wrongStates}
 use Rattle.columns.specs.declared.answers.Refusal.{Refusal}
 use Rattle.columns.specs.Answers.{Said, done, refused, refusal, leaving}
@@ -22,7 +23,7 @@ use Rattle.partition.specs.Partition.{Partition, parts, Long, Consistent, Withi
 use Rattle.partition.specs.SwapBlocks.{swap, swapBlocks}
 use Rattle.partition.proofs.Holds.{long-of, of-long, consistent-of, of-consistent}
 use Rattle.partition.proofs.Refusals.{blocks-ready}
-use Rattle.partition_records.specs.Records.{begins, splits, ends, lent, noBlock, exchanged, swapRecords}
+use Rattle.partition_records.specs.Records.{begins, splits, ends, lent, noBlock, swapRecords}
 use Rattle.partition_records.specs.Tables.{went, swapNumbers}
 use Rattle.partition_records.proofs.Fields.{field-at, take-map}
 
@@ -212,6 +213,6 @@ module _ (e o b : List ℕ) (bs : List Block) (n count l r m : ℕ) (h : m ≤ l
       let f : n ≤ length bs = omega (arith, q .sound .long .begin, length-map bs (λ (b : Block). b .begin)) in
       (omega (arith, q .left, q .sound .consistent .most), omega (arith, q .right, q .sound .consistent .most))
 
-  pub records-left : (ws : List Block) → ws ≡ cond go (exchanged l r bs) bs → (a, (z, ws)) ≡ swapRecords e o b bs n count l r
+  pub records-left : (ws : List Block) → ws ≡ cond go (exchanged noBlock l r bs) bs → (a, (z, ws)) ≡ swapRecords e o b bs n count l r
   unfolding swapRecords
-  records-left ws w = both-left (blocksRefusal p l r) b (swap p l r .element-to-block) z a go g bs (exchanged l r bs) ws w list-left
+  records-left ws w = both-left (blocksRefusal p l r) b (swap p l r .element-to-block) z a go g bs (exchanged noBlock l r bs) ws w list-left

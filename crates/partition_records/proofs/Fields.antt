@@ -7,10 +7,10 @@ use mathlib.Core.Path.{_≡_, refl, ap, sym, _∙_}
 use mathlib.Core.List.{List, [], _∷_, map, _++_}
 use lib.ListN.{length, getD, set, take, drop, length-map, List·getD-map}
 use lib.Seq.{ext-getD, length-take-le, take-suc, drop-cons, set-at, take-at, length-front, append-snoc}
-use Rattle.columns.specs.Columns.{listed, swapped}
+use Rattle.columns.specs.Columns.{listed, swapped, exchanged}
 use Rattle.columns.proofs.Lists.{listed-at, length-listed, Painted, painted-done, over-all}
 use Rattle.partition.specs.declared.block.Block.{Block}
-use Rattle.partition_records.specs.Records.{begins, splits, ends, noBlock, exchanged}
+use Rattle.partition_records.specs.Records.{begins, splits, ends, noBlock}
 
 map-set : {A B : Type 0} (f : A → B) (l : List A) (i : ℕ) (v : A) → map f (set l i v) ≡ set (map f l) i (f v)
 map-set f [] i v = refl
@@ -27,7 +27,7 @@ module _ (f : Block → ℕ) (z : f noBlock ≡ 0) where
   pub field-at : (bs : List Block) (k : ℕ) → getD (map f bs) k 0 ≡ f (getD bs k noBlock)
   field-at bs k = ap (λ (d : ℕ). getD (map f bs) k d) (sym z) ∙ List·getD-map f bs k noBlock
 
-  field-exchanged : (i j : ℕ) (bs : List Block) → map f (exchanged i j bs) ≡ swapped i j (map f bs)
+  field-exchanged : (i j : ℕ) (bs : List Block) → map f (exchanged noBlock i j bs) ≡ swapped i j (map f bs)
   unfolding exchanged swapped
   field-exchanged i j bs =
       map-set f (set bs i (getD bs j noBlock)) j (getD bs i noBlock)
@@ -51,13 +51,13 @@ module _ (f : Block → ℕ) (z : f noBlock ≡ 0) where
         ∙ over-all (map f t) l (long ∙ sym e)
 
 module _ (i j : ℕ) (bs : List Block) where
-  pub begins-exchanged : begins (exchanged i j bs) ≡ swapped i j (begins bs)
+  pub begins-exchanged : begins (exchanged noBlock i j bs) ≡ swapped i j (begins bs)
   begins-exchanged = field-exchanged (λ (b : Block). b .begin) refl i j bs
 
-  pub splits-exchanged : splits (exchanged i j bs) ≡ swapped i j (splits bs)
+  pub splits-exchanged : splits (exchanged noBlock i j bs) ≡ swapped i j (splits bs)
   splits-exchanged = field-exchanged (λ (b : Block). b .«marked_split») refl i j bs
 
-  pub ends-exchanged : ends (exchanged i j bs) ≡ swapped i j (ends bs)
+  pub ends-exchanged : ends (exchanged noBlock i j bs) ≡ swapped i j (ends bs)
   ends-exchanged = field-exchanged (λ (b : Block). b .end) refl i j bs
 
 -- ---- the first i of xs over the front of t

@@ -6,6 +6,7 @@ use mathlib.Core.Bool.{Bool, true, false, cond}
 use mathlib.Core.Path.{_≡_, refl, ap, sym, subst}
 use mathlib.Core.List.{List, []}
 use lib.Dec.{eqb}
+use Rattle.columns.specs.Columns.{exchanged}
 use Rattle.columns.specs.declared.answers.Refusal.{Refusal}
 use Rattle.columns.specs.Answers.{Said, done, refused, leaving}
 use Rattle.partition.specs.declared.block.Block.{Block}
@@ -14,7 +15,7 @@ use Rattle.partition.specs.Partition.{Partition, parts, Consistent}
 use Rattle.partition.specs.SwapBlocks.{swap, swapBlocks}
 use Rattle.partition.proofs.Refusals.{blocks-ready}
 use Rattle.partition.proofs.SwapKeeps.{swap-consistent}
-use Rattle.partition_records.specs.Records.{lent, exchanged, swapRecords}
+use Rattle.partition_records.specs.Records.{lent, swapRecords, noBlock}
 use Rattle.partition_records.proofs.Fields.{begins-exchanged, splits-exchanged, ends-exchanged}
 
 module _ (e o b : List ℕ) (bs : List Block) (n count l r : ℕ) where
@@ -29,7 +30,7 @@ module _ (e o b : List ℕ) (bs : List Block) (n count l r : ℕ) where
   abbrev left : Refusal → Partition → List Block → Bool → Said × (List ℕ × List Block)
   left q x ex y = cond y (done [], (x .element-to-block, ex)) (refused (q .number) (q .place), (b, bs))
 
-  swap-lent : lent e o (swap p l r .element-to-block) (exchanged l r bs) n count ≡ swap p l r
+  swap-lent : lent e o (swap p l r .element-to-block) (exchanged noBlock l r bs) n count ≡ swap p l r
   unfolding swap
   swap-lent = λ i. parts e o (swap p l r .element-to-block) (begins-exchanged l r bs i) (splits-exchanged l r bs i)
       (ends-exchanged l r bs i) n count
@@ -37,7 +38,7 @@ module _ (e o b : List ℕ) (bs : List Block) (n count l r : ℕ) where
   pub forms-agree : _≡_ {A = Said × Partition} (swapRecords e o b bs n count l r .0, after (swapRecords e o b bs n count l r))
       (swapBlocks p l r)
   unfolding swapRecords swapBlocks leaving
-  forms-agree = by (blocksRefusal p l r) (swap p l r) (exchanged l r bs) swap-lent (eqb (blocksRefusal p l r .number) 0)
+  forms-agree = by (blocksRefusal p l r) (swap p l r) (exchanged noBlock l r bs) swap-lent (eqb (blocksRefusal p l r .number) 0)
     where
       by : (q : Refusal) (x : Partition) (ex : List Block) → lent e o (x .element-to-block) ex n count ≡ x → (y : Bool)
           → _≡_ {A = Said × Partition} (left q x ex y .0, after (left q x ex y)) (cond y (done [], x) (refused (q .number) (q .place), p))

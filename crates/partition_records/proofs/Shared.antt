@@ -13,8 +13,39 @@ use base.Fml.{GName, Share, Fml, fsep, fat, froom}
 use prog.Wp.{Heap, Env, Calls, Loops, spotOf}
 use ghost.Atoms.{Atoms}
 use contract.Monad.{fact}
-use types.Kit.{Given, Item, Post, Goal, Soaks, Seq, Step, step, runs, mean, nth, put, ‵, raw, _⊛_, some, later, _$_}
-use types.Kit.{move, drop, use1, split, pick, rewrite, fsplit, fjoin, fpick, fpack, feqL, feqI, await}
+use types.Kit.{
+  Given,
+  Item,
+  Post,
+  Goal,
+  Soaks,
+  Seq,
+  Step,
+  step,
+  runs,
+  mean,
+  nth,
+  put,
+  ‵,
+  raw,
+  _⊛_,
+  some,
+  later,
+  _$_,
+  move,
+  drop,
+  use1,
+  split,
+  pick,
+  rewrite,
+  fsplit,
+  fjoin,
+  fpick,
+  fpack,
+  feqL,
+  feqI,
+  await,
+}
 use types.Run.{Opd, Rv, look, init, store, stop, from, load, assigns}
 use types.Share.{arr-parts}
 use base.Logic.{id⊢}

@@ -1,8 +1,8 @@
 -- A partition whose block table is a list of block records, and what `swap_blocks` says and leaves of it.
 use Prim.Native.Nat.{ℕ}
 use mathlib.Core.List.{List, [], map}
-use lib.ListN.{getD, set}
 use Rattle.columns.specs.Answers.{Said, leaving}
+use Rattle.columns.specs.Columns.{exchanged}
 use Rattle.partition.specs.declared.block.Block.{Block}
 use Rattle.partition.specs.Checks.{blocksRefusal}
 use Rattle.partition.specs.Partition.{Partition, parts}
@@ -22,16 +22,13 @@ ends bs = map (λ b. b .end) bs
 abbrev pub lent : List ℕ → List ℕ → List ℕ → List Block → ℕ → ℕ → Partition
 lent e o b bs n count = parts e o b (begins bs) (splits bs) (ends bs) n count
 
+-- what a table is read as that has no such record
 abbrev pub noBlock : Block
 noBlock = record { begin = 0; «marked_split» = 0; end = 0 }
-
--- the records i and j exchanged
-unfoldable pub exchanged : ℕ → ℕ → List Block → List Block
-exchanged i j bs = set (set bs i (getD bs j noBlock)) j (getD bs i noBlock)
 
 -- the column form's refusals; where there is none, its renumbering, and the two records exchanged
 unfoldable pub swapRecords : List ℕ → List ℕ → List ℕ → List Block → ℕ → ℕ → ℕ → ℕ → Said × (List ℕ × List Block)
 unfolding leaving blocksRefusal swap exchanged
 swapRecords e o b bs n count l r =
     let p = lent e o b bs n count in
-    leaving (blocksRefusal p l r) (b, bs) [] (swap p l r .element-to-block, exchanged l r bs)
+    leaving (blocksRefusal p l r) (b, bs) [] (swap p l r .element-to-block, exchanged noBlock l r bs)

@@ -2,19 +2,18 @@
 -- state has the block that it had. And when a split happens.
 use Prim.Native.Nat.{ℕ, _-_, _≤_, _<_}
 use native.Mathlib.Omega.{arith}
-use borrow.Author.Tests.{ltb-false, eqb-true, le-ltb, eq-eqb, not-true}
-use mathlib.Core.Bool.{Bool, true, false, not, _&&_, cond}
+use mathlib.Core.Bool.{Bool, true, false, cond}
 use mathlib.Core.Path.{_≡_, ap, sym, subst, _∙_}
 use mathlib.Core.Logic.{⊎-elim}
 use mathlib.Core.List.{List}
 use lib.ListN.{getD}
-use lib.Dec.{eqb}
 use Rattle.columns.proofs.All.{lt-or-le, not-below}
 use Rattle.columns.proofs.Bools.{cases, contra, fails, and-left, and-right, and-both}
-use Rattle.partition.specs.Partition.{Partition, Sound}
-use Rattle.partition.specs.Readers.{unmarkedb}
+use Rattle.partition.specs.Partition.{Partition, Sound, reordered}
+use Rattle.partition.specs.Marked.{markedIn}
+use Rattle.partition.proofs.Marked.{marked-block, marked-from, marked-of}
 use Rattle.partition.proofs.Owned.{owned}
-use Rattle.partition_split.specs.Split.{chosen, Sifted, siftedIn, reordered, splitsb, split, taken}
+use Rattle.partition_split.specs.Split.{chosen, Sifted, siftedIn, splitsb, split, taken}
 use Rattle.partition_split.proofs.Cutting.{home-in, home-out}
 use Rattle.partition_split.proofs.Reordering.{
   sieved,
@@ -38,39 +37,20 @@ use Rattle.partition_split.proofs.Splits.{
   table-stays,
 }
 
--- ---- `taken` is three tests
+-- ---- `taken` is two tests
 module _ (p : Partition) (b : ℕ) (c : List ℕ) (s : ℕ) where
-  abbrev home : Bool
-  home = eqb (getD (p .element-to-block) s 0) b
-
-  abbrev marked : Bool
-  marked = not (unmarkedb p s)
-
   module _ (t : taken p b c s ≡ true) where
-    pub taken-home : getD (p .element-to-block) s 0 ≡ b
+    pub taken-marked : markedIn p b s ≡ true
     unfolding taken
-    taken-home = eqb-true _ _ (and-left home (marked && chosen c s) t)
-
-    pub taken-marked : unmarkedb p s ≡ false
-    unfolding taken
-    taken-marked = not-true _ (and-left marked (chosen c s) (and-right home (marked && chosen c s) t))
+    taken-marked = and-left (markedIn p b s) (chosen c s) t
 
     pub taken-chosen : chosen c s ≡ true
     unfolding taken
-    taken-chosen = and-right marked (chosen c s) (and-right home (marked && chosen c s) t)
+    taken-chosen = and-right (markedIn p b s) (chosen c s) t
 
-  pub is-taken : getD (p .element-to-block) s 0 ≡ b → unmarkedb p s ≡ false → chosen c s ≡ true → taken p b c s ≡ true
+  pub is-taken : markedIn p b s ≡ true → chosen c s ≡ true → taken p b c s ≡ true
   unfolding taken
-  is-taken q u t = and-both (eq-eqb _ _ q) (and-both (ap not u) t)
-
-  -- a state of block b is marked if it stands from the split on
-  pub marked-of : getD (p .element-to-block) s 0 ≡ b → getD (p .marked-split) b 0 ≤ getD (p .element-offset) s 0 → unmarkedb p s ≡ false
-  unfolding unmarkedb
-  marked-of q h = le-ltb _ _ (subst (λ (y : ℕ). getD (p .marked-split) y 0 ≤ getD (p .element-offset) s 0) (sym q) h)
-
-  pub of-marked : getD (p .element-to-block) s 0 ≡ b → unmarkedb p s ≡ false → getD (p .marked-split) b 0 ≤ getD (p .element-offset) s 0
-  unfolding unmarkedb
-  of-marked q h = subst (λ (y : ℕ). getD (p .marked-split) y 0 ≤ getD (p .element-offset) s 0) q (ltb-false _ _ h)
+  is-taken m t = and-both m t
 
 module _ (p : Partition) (b : ℕ) (c : List ℕ) (g : Sound p) (w : b < p .count) where
   abbrev block : ℕ → ℕ
@@ -104,20 +84,20 @@ module _ (p : Partition) (b : ℕ) (c : List ℕ) (g : Sound p) (w : b < p .coun
 
   pub taken-stands : (s : ℕ) → s < p .n → taken p b c s ≡ true → (e ≤ stands s) × (stands s < z)
   taken-stands s ws t =
-      let q = taken-home p b c s t in
+      let m = taken-marked p b c s t in
+      let q = marked-block p b s m in
       let u : stood s < z = subst (λ (y : ℕ). stood s < getD (p .end) y 0) q (g .consistent .lies s ws .to) in
-      let i = marked-stay p b c g w s ws (of-marked p b c s q (taken-marked p b c s t)) u in
+      let i = marked-stay p b c g w s ws (marked-from p b s m) u in
       (not-below (λ a. contra (taken-chosen p b c s t) (same-choice s ws ∙ v .passed (stands s) (i .0) a)), i .1)
 
   pub stands-taken : (s : ℕ) → s < p .n → e ≤ stands s → stands s < z → taken p b c s ≡ true
   stands-taken s ws a y =
       let i = marked-stood p b c g w s ws (omega (arith, v .low)) y in
       let q = marked-home p b c g w s ws (i .0) (i .1) in
-      is-taken p b c s q (marked-of p b c s q (i .0)) (same-choice s ws ∙ v .took (stands s) a y)
+      is-taken p b c s (marked-of p b s q (i .0)) (same-choice s ws ∙ v .took (stands s) a y)
 
   -- the other states of block b stand before e
   pub untaken-stands : (s : ℕ) → s < p .n → block s ≡ b → taken p b c s ≡ false → (x ≤ stands s) × (stands s < e)
-  unfolding reordered
   untaken-stands s ws q k =
       let i = reordered-sound p b c g w .consistent .lies s ws in
       let u : stands s < z = subst (λ (y : ℕ). stands s < getD (p .end) y 0) q (i .to) in (
@@ -128,7 +108,6 @@ module _ (p : Partition) (b : ℕ) (c : List ℕ) (g : Sound p) (w : b < p .coun
   -- ---- the blocks after a split
   pub split-home : splitsb p b c ≡ true → (s : ℕ) → s < p .n → getD (split p b c .element-to-block) s 0 ≡ cond (taken p b c s) (p .count)
       (block s)
-  unfolding reordered
   split-home t s ws =
       let a = apart p b c g w t in
       let q = reordered-sound p b c g w in
@@ -193,10 +172,10 @@ module _ (p : Partition) (b : ℕ) (c : List ℕ) (g : Sound p) (w : b < p .coun
       let s = getD (p .elements) k 0 in
       let r = g .consistent .order .back k wk in
       let q = owned p (g .consistent) b k w (omega (arith, i .from)) y in
-      fails (λ t. contra (is-taken p b c s q (marked-of p b c s q (omega (arith, r))) t) (h s (g .consistent .order .below k wk)))
+      fails (λ t. contra (is-taken p b c s (marked-of p b s q (omega (arith, r))) t) (h s (g .consistent .order .below k wk)))
 
   pub untouched : ((s : ℕ) → s < p .n → taken p b c s ≡ false) → split p b c ≡ p
-  unfolding siftedIn reordered
+  unfolding siftedIn
   untouched h =
       let i = g .consistent .bounds b w in
       split-stays p b c (nothing-taken h)

@@ -11,9 +11,10 @@ use lib.ListN.{getD}
 use lib.Dec.{ltb}
 use Rattle.columns.proofs.Bools.{cases}
 use Rattle.partition.specs.Partition.{Partition, Sound}
-use Rattle.partition.specs.Readers.{unmarkedb}
-use Rattle.partition_split.specs.Split.{siftedIn, reordered, splitsb, split, taken}
-use Rattle.partition_split.proofs.Homes.{marked-of, taken-stands, taken-move, untaken-stands, untaken-stay}
+use Rattle.partition.specs.Marked.{unmarkedb}
+use Rattle.partition.proofs.Marked.{marked-of, marked-in}
+use Rattle.partition_split.specs.Split.{siftedIn, splitsb, split, taken}
+use Rattle.partition_split.proofs.Homes.{taken-stands, taken-move, untaken-stands, untaken-stay}
 use Rattle.partition_split.proofs.Reordering.{marked-stay, marked-home, unmoved}
 use Rattle.partition_split.proofs.Sieves.{inside}
 use Rattle.partition_split.proofs.Splits.{sifted-of, split-stays, split-offset, split-old-block, split-new-block}
@@ -29,13 +30,14 @@ module _ (p : Partition) (b : ℕ) (c : List ℕ) (g : Sound p) (w : b < p .coun
   stands = getD (siftedIn p b c .element-offset) s 0
 
   pub marks-stay : splitsb p b c ≡ false → unmarkedb (split p b c) s ≡ unmarkedb p s
-  unfolding reordered unmarkedb
+  unfolding unmarkedb
   marks-stay t =
       ap (λ (q : Partition). unmarkedb q s) (split-stays p b c t)
       ∙ ⊎-elim
       (λ (i : (getD (p .marked-split) b 0 ≤ stood) × (stood < getD (p .end) b 0)).
       let q = marked-home p b c g w s ws (i .0) (i .1) in
-      marked-of (sifted-of p b c) b c s q (marked-stay p b c g w s ws (i .0) (i .1) .0) ∙ sym (marked-of p b c s q (i .0)))
+      let now = marked-of (sifted-of p b c) b s q (marked-stay p b c g w s ws (i .0) (i .1) .0) in
+      marked-in (sifted-of p b c) b s q .0 now ∙ sym (marked-in p b s q .0 (marked-of p b s q (i .0))))
       (λ (out : getD (p .marked-split) b 0 ≤ stood → stood < getD (p .end) b 0 → ⊥).
       ap (λ (y : ℕ). ltb y (getD (p .marked-split) block 0)) (unmoved p b c g w s ws out))
       (inside (getD (p .marked-split) b 0) stood (getD (p .end) b 0))

@@ -7,9 +7,10 @@ use mathlib.Core.List.{List}
 use lib.ListN.{getD}
 use Rattle.columns.specs.Inverse.{Inverse}
 use Rattle.columns.proofs.Inverses.{other-way}
-use Rattle.partition.specs.Partition.{Partition, Consistent, Lies, Sound}
+use Rattle.partition.specs.Partition.{Partition, Consistent, Lies, Sound, reordered}
+use Rattle.partition.proofs.Changed.{order-sound}
 use Rattle.partition.proofs.Owned.{owned}
-use Rattle.partition_split.specs.Split.{siftedIn, reordered}
+use Rattle.partition_split.specs.Split.{siftedIn}
 use Rattle.partition_split.proofs.Sieves.{Sieved, sieve, rests, stays, inside}
 
 module _ (p : Partition) (b : ℕ) (c : List ℕ) (g : Sound p) (w : b < p .count) where
@@ -73,7 +74,6 @@ module _ (p : Partition) (b : ℕ) (c : List ℕ) (g : Sound p) (w : b < p .coun
       (λ (out : m ≤ k → k < z → ⊥). ap (λ (t : ℕ). getD (p .element-to-block) t 0) (sieved .outside k out)) (inside m k z)
 
   lies : (s : ℕ) → s < p .n → Lies (reordered p l o) s
-  unfolding reordered
   lies s ws =
       let k = getD o s 0 in
       let wk = sieved-places .below s ws in
@@ -89,25 +89,6 @@ module _ (p : Partition) (b : ℕ) (c : List ℕ) (g : Sound p) (w : b < p .coun
       }
 
   pub reordered-sound : Sound (reordered p l o)
-  unfolding reordered
   reordered-sound =
-      record {
-        small = g .small;
-        long = record {
-          elements = omega (arith, g .long .elements, sieved .long);
-          element-offset = omega (arith, g .long .element-offset, sieved .long-offset);
-          element-to-block = g .long .element-to-block;
-          begin = g .long .begin;
-          marked-split = g .long .marked-split;
-          end = g .long .end;
-        };
-        consistent = record {
-          some = h .some;
-          most = h .most;
-          order = sieved .order;
-          places = sieved-places;
-          bounds = h .bounds;
-          lies = lies;
-          whole = h .whole;
-        };
-      }
+      order-sound p g l o (omega (arith, g .long .elements, sieved .long)) (omega (arith, g .long .element-offset, sieved .long-offset))
+      (sieved .order) sieved-places lies

@@ -9,12 +9,12 @@ use mathlib.Core.Logic.{⊎-elim}
 use mathlib.Core.List.{List}
 use lib.ListN.{getD}
 use lib.Dec.{eqb}
-use Rattle.columns.specs.Answers.{bit}
+use Rattle.columns.specs.Counting.{bit}
 use Rattle.columns.proofs.All.{not-below}
 use Rattle.columns.proofs.Bools.{cases, and-left, and-right, and-both, and-no-left, and-no-right}
-use Rattle.partition.specs.Partition.{Partition, Sound}
+use Rattle.partition.specs.Partition.{Partition, Sound, reordered}
 use Rattle.partition.proofs.Owned.{owned}
-use Rattle.partition_split.specs.Split.{siftedIn, reordered, cut, makesBlock, splitsb, split}
+use Rattle.partition_split.specs.Split.{siftedIn, cut, makesBlock, splitsb, split}
 use Rattle.partition_split.proofs.Cutting.{Unmarked, SameEntry, cut-sound, cut-new, cut-old, cut-other}
 use Rattle.partition_split.proofs.Reordering.{sieved, reordered-sound}
 use Rattle.partition_split.proofs.Sieves.{Sieved}
@@ -86,21 +86,20 @@ module _ (p : Partition) (b : ℕ) (c : List ℕ) where
       (cases (splitsb p b c))
 
   pub split-elements : split p b c .elements ≡ siftedIn p b c .elements
-  unfolding reordered cut
+  unfolding cut
   split-elements = by-case (λ q. q .elements ≡ siftedIn p b c .elements) (λ t. refl) (λ t. refl)
 
   pub split-offset : split p b c .element-offset ≡ siftedIn p b c .element-offset
-  unfolding reordered cut
+  unfolding cut
   split-offset = by-case (λ q. q .element-offset ≡ siftedIn p b c .element-offset) (λ t. refl) (λ t. refl)
 
   pub split-count : split p b c .count ≡ p .count + bit (splitsb p b c)
-  unfolding reordered cut
+  unfolding cut
   split-count =
       by-case (λ q. q .count ≡ p .count + bit (splitsb p b c)) (λ t. rw t) (λ t. rw t (omega arith))
 
   -- nothing chosen, or the whole block
   pub table-stays : splitsb p b c ≡ false → SameTable p (split p b c)
-  unfolding reordered
   table-stays t =
       subst (SameTable p) (sym (split-stays t))
       (record { element-to-block = refl; begin = refl; marked-split = refl; end = refl; count = refl })
@@ -118,7 +117,6 @@ module _ (p : Partition) (b : ℕ) (c : List ℕ) where
     apart t = parts-of p b place-of t (omega (arith, v .low, g .consistent .bounds b w .from)) (v .high)
 
     pub split-sound : Sound (split p b c)
-    unfolding reordered
     split-sound = by-case Sound (λ t. let a = apart t in cut-sound sifted-of s b w place-of (a .0) (a .1)) (λ t. s)
 
     -- ---- what stays
@@ -127,7 +125,6 @@ module _ (p : Partition) (b : ℕ) (c : List ℕ) where
     outside-stays k out = ap (λ (y : List ℕ). getD y k 0) split-elements ∙ v .outside k out
 
     pub others-stay : (j : ℕ) → j < p .count → (j ≡ b → ⊥) → SameBlock p (split p b c) j
-    unfolding reordered
     others-stay j wj m =
         record {
           entry =
@@ -147,14 +144,12 @@ module _ (p : Partition) (b : ℕ) (c : List ℕ) where
     -- ---- the two blocks that a split leaves
     module _ (t : splitsb p b c ≡ true) where
       pub split-old-block : Unmarked (split p b c) b (getD (p .begin) b 0) place-of
-      unfolding reordered
       split-old-block =
           let a = apart t in
           subst (λ (q : Partition). Unmarked q b (getD (p .begin) b 0) place-of) (sym (split-made t))
           (cut-old sifted-of s b w place-of (a .0) (a .1))
 
       pub split-new-block : Unmarked (split p b c) (p .count) place-of (getD (p .end) b 0)
-      unfolding reordered
       split-new-block =
           let a = apart t in
           subst (λ (q : Partition). Unmarked q (p .count) place-of (getD (p .end) b 0)) (sym (split-made t))

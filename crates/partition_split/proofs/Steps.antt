@@ -8,9 +8,9 @@ use mathlib.Core.List.{List}
 use lib.Dec.{eqb}
 use lib.ListN.{length, getD, set}
 use lib.Seq.{set-getD}
-use Rattle.partition.specs.Partition.{Partition, parts, Sound}
+use Rattle.partition.specs.Partition.{Partition, parts, Sound, reordered}
 use Rattle.partition.specs.SwapBlocks.{renumbered}
-use Rattle.partition_split.specs.Split.{Sifted, sifting, sifted, siftedIn, reordered, cut, makesBlock, splitsb, split}
+use Rattle.partition_split.specs.Split.{Sifted, sifting, sifted, siftedIn, cut, makesBlock, splitsb, split}
 use Rattle.partition_split.proofs.Cutting.{room-for}
 use Rattle.partition_split.proofs.Reordering.{sieved, reordered-sound}
 use Rattle.partition_split.proofs.Splits.{parts-nothing, parts-all, parts-both, sifted-of, place-of, split-made, split-stays, apart}
@@ -43,7 +43,6 @@ module _ (p : Partition) (g : Sound p) (b : ℕ) (w : b < p .count) (c : List �
     unsplit :
         makesBlock p b e ≡ false
         → parts l o (p .element-to-block) (p .begin) (p .marked-split) (p .end) (p .n) (p .count) ≡ split p b c
-    unfolding reordered
     unsplit t = ap (λ (f : Sifted). reordered p (f .elements) (f .element-offset)) same ∙ sym (split-stays p b c (sym made-at ∙ t))
 
     pub nothing-chosen : e ≡ z → parts l o (p .element-to-block) (p .begin) (p .marked-split) (p .end) (p .n) (p .count) ≡ split p b c
@@ -74,7 +73,6 @@ module _ (p : Partition) (g : Sound p) (b : ℕ) (w : b < p .count) (c : List �
         pub long : z ≤ length l
 
       pub cut-ready : Cuttable
-      unfolding reordered
       cut-ready =
           let a = apart p b c g w made in
           let i = g .consistent .bounds b w in
@@ -98,7 +96,7 @@ module _ (p : Partition) (g : Sound p) (b : ℕ) (w : b < p .count) (c : List �
           (k : ℕ) (bl bg sp en : List ℕ) → k ≡ cond (eqb e x) m e → bg ≡ set (p .begin) (p .count) e
           → sp ≡ set (set (p .marked-split) b k) (p .count) z → en ≡ set (set (p .end) b e) (p .count) z
           → bl ≡ renumbered l e z (p .count) (p .element-to-block) → parts l o bl bg sp en (p .n) (p .count + 1) ≡ split p b c
-      unfolding reordered cut
+      unfolding cut
       split-done k bl bg sp en ek qg qs qe ql =
           rw (qg, qs, ek, nx, qe, ql, ez)
           (ap (λ (f : Sifted). cut (reordered p (f .elements) (f .element-offset)) b (f .first)) same ∙ sym (split-made p b c made))

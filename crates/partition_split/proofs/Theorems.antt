@@ -5,14 +5,16 @@ use mathlib.Core.Bool.{Bool, true, false}
 use mathlib.Core.Path.{_≡_, refl, ap, sym, subst, _∙_}
 use mathlib.Core.List.{List, [], _∷_}
 use lib.ListN.{getD}
-use Rattle.columns.specs.Answers.{done, bit}
+use Rattle.columns.specs.Answers.{done}
+use Rattle.columns.specs.Counting.{bit}
 use Rattle.columns.proofs.Bools.{contra}
 use Rattle.columns.proofs.Doing.{leaving-done}
 use Rattle.partition.specs.Partition.{Partition, Sound}
-use Rattle.partition.specs.Readers.{unmarkedb}
+use Rattle.partition.specs.Marked.{unmarkedb}
+use Rattle.partition.proofs.Marked.{marked-of, marked-in}
 use Rattle.partition_split.specs.Split.{splitsb, split, splitRefusal, splitMarked, taken}
 use Rattle.partition_split.proofs.Answering.{SplitReady, split-ready}
-use Rattle.partition_split.proofs.Homes.{marked-of, split-happens, all-taken, untouched, taken-move, untaken-stay}
+use Rattle.partition_split.proofs.Homes.{split-happens, all-taken, untouched, taken-move, untaken-stay}
 use Rattle.partition_split.proofs.Marking.{marks-stay, marks-cleared}
 use Rattle.partition_split.proofs.Reordering.{unmoved, marked-home}
 use Rattle.partition_split.proofs.Splits.{
@@ -72,7 +74,7 @@ module _ (p : Partition) (b : ℕ) (c : List ℕ) (g : Sound p) (w : b < p .coun
       → getD (split p b c .element-offset) s 0 ≡ getD (p .element-offset) s 0
   unmarked-stay s ws u =
       ap (λ (y : List ℕ). getD y s 0) (split-offset p b c)
-      ∙ unmoved p b c g w s ws (λ a y. let q = marked-home p b c g w s ws a y in contra (u q) (marked-of p b c s q a))
+      ∙ unmoved p b c g w s ws (λ a y. let q = marked-home p b c g w s ws a y in contra (u q) (marked-in p b s q .0 (marked-of p b s q a)))
 
 pub split-marked-done :
     (p : Partition) (b : ℕ) (c said : List ℕ) (q : Partition) → (done said, q) ≡ splitMarked p b c → SplitDone p b c said q

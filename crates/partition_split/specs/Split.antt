@@ -9,8 +9,8 @@ use Rattle.columns.specs.Answers.{Said, leaving}
 use Rattle.columns.specs.Columns.{swapped}
 use Rattle.columns.specs.Inverse.{swappedInverse}
 use Rattle.partition.specs.Checks.{argumentRefusal}
-use Rattle.partition.specs.Partition.{Partition}
-use Rattle.partition.specs.Readers.{unmarkedb}
+use Rattle.partition.specs.Partition.{Partition, reordered}
+use Rattle.partition.specs.Marked.{markedIn}
 use Rattle.partition.specs.SwapBlocks.{renumbered}
 
 -- state s is chosen: 0 no, others yes
@@ -38,20 +38,6 @@ unfoldable pub siftedIn : Partition → ℕ → List ℕ → Sifted
 unfolding sifted
 siftedIn p b c = let m = getD (p .marked-split) b 0 in sifted (getD (p .end) b 0 - m) c (p .elements) (p .element-offset) m
 
--- the same table over another order
-unfoldable pub reordered : Partition → List ℕ → List ℕ → Partition
-reordered p l o =
-    record {
-      elements = l;
-      element-offset = o;
-      element-to-block = p .element-to-block;
-      begin = p .begin;
-      marked-split = p .marked-split;
-      end = p .end;
-      n = p .n;
-      count = p .count;
-    }
-
 -- block b cut at position e: what stands from e on is a new last block, and both are unmarked
 unfoldable pub cut : Partition → ℕ → ℕ → Partition
 unfolding renumbered
@@ -78,7 +64,7 @@ splitsb p b c = makesBlock p b (siftedIn p b c .first)
 
 -- otherwise the table and its marks stay, and the swaps made stay too
 unfoldable pub split : Partition → ℕ → List ℕ → Partition
-unfolding splitsb reordered cut
+unfolding splitsb cut
 split p b c =
     let f = siftedIn p b c in
     let q = reordered p (f .elements) (f .element-offset) in
@@ -96,5 +82,5 @@ splitMarked p b c = leaving (splitRefusal p b c) p (split p b c .count ∷ []) (
 
 -- state s is a marked one of block b and chosen
 unfoldable pub taken : Partition → ℕ → List ℕ → ℕ → Bool
-unfolding unmarkedb chosen
-taken p b c s = eqb (getD (p .element-to-block) s 0) b && (not (unmarkedb p s) && chosen c s)
+unfolding markedIn chosen
+taken p b c s = markedIn p b s && chosen c s

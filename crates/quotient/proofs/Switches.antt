@@ -4,7 +4,8 @@ use mathlib.Core.Bool.{Bool, true, false, not, _&&_}
 use Prim.Native.Nat.{ℕ}
 use lib.Dec.{eqb}
 use Rattle.columns.specs.Sets.{Row}
-use Rattle.quotient.specs.Naive.{inertStep, tauLoop, stays}
+use Rattle.quotient.specs.Naive.{inertStep, stays}
+use Rattle.table.specs.Hidden.{tauLoop}
 
 -- neither switch drops a row that is hidden, within a block, a self-loop or not
 abbrev staysAs : Bool → Bool → Bool → Bool → Bool → Bool

@@ -8,13 +8,13 @@ use mathlib.Core.Logic.{_↔_}
 use Prim.Native.Nat.{ℕ, _≤_, _<_}
 use lib.Dec.{eqb}
 use lib.ListN.{length}
-use Rattle.bisimulation.specs.Bisimulation.{Step}
 use Rattle.bisimulation.specs.Quotient.{quotient}
 use Rattle.bisimulation.proofs.Kept.{From, kept-in, kept-out, kept-ascending, kept-few}
-use Rattle.columns.specs.Sets.{Row, rowLt, Ascending}
+use Rattle.columns.specs.Sets.{Row, rowLt, Ascending, StepIn}
 use Rattle.columns.proofs.Bools.{and-left, and-right, contra, fails}
-use Rattle.quotient.specs.Naive.{inertStep, tauLoop, stays, naiveRows}
-use Rattle.quotient.proofs.Kept.{kept-valid}
+use Rattle.quotient.specs.Naive.{inertStep, stays, naiveRows}
+use Rattle.table.specs.Hidden.{tauLoop}
+use Rattle.bisimulation.proofs.Tables.{kept-valid}
 use Rattle.table.specs.Lts.{Lts, rows, Valid}
 use Rattle.table.specs.Tables.{tableOf}
 -- What a call that is done has answered and left: these rows, over the first cells, with their header, and the work zero.
@@ -62,14 +62,14 @@ loop-stays inerts block r e =
 -- ---- the rows
 module _ (inerts loops : Bool) (block : ℕ → ℕ) (rows : List Row) where
   -- each comes from a row between its blocks that stays
-  pub naive-out : (b a c : ℕ) → Step (naiveRows inerts loops block rows) b a c → From (stays inerts loops block) block rows b a c
+  pub naive-out : (b a c : ℕ) → StepIn (naiveRows inerts loops block rows) b a c → From (stays inerts loops block) block rows b a c
   unfolding naiveRows
   naive-out = kept-out (stays inerts loops block) block rows
 
   -- and each such row is there
   pub naive-in :
-      (s a u : ℕ) → Step rows s a u → stays inerts loops block (s, (a, u)) ≡ true
-      → Step (naiveRows inerts loops block rows) (block s) a (block u)
+      (s a u : ℕ) → StepIn rows s a u → stays inerts loops block (s, (a, u)) ≡ true
+      → StepIn (naiveRows inerts loops block rows) (block s) a (block u)
   unfolding naiveRows
   naive-in = kept-in (stays inerts loops block) block rows
 

@@ -5,17 +5,15 @@ use mathlib.Core.List.{List, [], _∷_}
 use Prim.Native.Nat.{ℕ}
 use lib.Dec.{eqb}
 use lib.ListN.{length}
-use Rattle.bisimulation.specs.Quotient.{blockOf, between}
+use Rattle.bisimulation.specs.Quotient.{between}
+use Rattle.columns.specs.Blocks.{blockOf}
 use Rattle.columns.specs.Sets.{Row, rowLt, collect}
+use Rattle.table.specs.Hidden.{tauLoop}
 use Rattle.table.specs.Lts.{Lts}
 
 -- a hidden step inside a block between different states
 unfoldable pub inertStep : (ℕ → ℕ) → Row → Bool
 inertStep block r = eqb (r .1 .0) 0 && (eqb (block (r .0)) (block (r .1 .1)) && not (eqb (r .0) (r .1 .1)))
-
--- a hidden self-loop of a state
-unfoldable pub tauLoop : Row → Bool
-tauLoop r = eqb (r .1 .0) 0 && eqb (r .0) (r .1 .1)
 
 -- neither switch drops the row: `inerts` is eliminate_inert_taus, `loops` is eliminate_tau_loops
 unfoldable pub stays : Bool → Bool → (ℕ → ℕ) → Row → Bool

@@ -3,7 +3,7 @@
 ghost use mathlib.Core.Path.{_≡_};
 ghost use Prim.Native.Nat.{_≤_, _<_};
 ghost use lib.ListN.{length, getD, set};
-ghost use Rattle.bisimulation.specs.Quotient.{blockOf};
+ghost use Rattle.columns.specs.Blocks.{blockOf};
 ghost use Rattle.columns.specs.Lent.{was, is, Cleared};
 ghost use Rattle.columns.specs.Rows.{rowSet, rowIn};
 ghost use Rattle.quotient.specs.Naive.{stays, naiveRows};

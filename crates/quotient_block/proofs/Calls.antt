@@ -2,42 +2,43 @@
 -- quotient.
 use Prim.Native.Nat.{ℕ}
 use native.Mathlib.Omega.{arith}
-use borrow.Author.Tests.{eqb-true, eq-eqb, ne-eqb}
 use mathlib.Core.Path.{_≡_, refl, sym, ap, subst}
 use mathlib.Core.Bool.{Bool, true, false, cond}
 use mathlib.Core.List.{List, [], _∷_}
-use lib.Dec.{eqb, ltb}
-use Rattle.bisimulation.specs.Quotient.{blockOf}
+use lib.Dec.{ltb}
+use Rattle.columns.specs.Blocks.{blockOf}
 use Rattle.columns.specs.declared.answers.Refusal.{Refusal}
 use Rattle.columns.specs.Answers.{Said, done, refused}
 use Rattle.columns.specs.Columns.{zeroed}
 use Rattle.columns.specs.Limits.{noBottom}
 use Rattle.columns.specs.Sets.{Row}
-use Rattle.columns.proofs.Saying.{apart}
+use Rattle.columns.proofs.Saying.{apart, unless-refused, unless-on}
 use Rattle.partition.specs.Partition.{Partition}
 use Rattle.quotient.specs.Call.{quotientRefusal}
 use Rattle.quotient.specs.Naive.{headerBy}
+use Rattle.columns.proofs.Doing.{unless-done}
 use Rattle.quotient.proofs.Answering.{quotient-ready}
-use Rattle.quotient.proofs.Calls.{leftTable, left-laid}
-use Rattle.quotient.proofs.Kept.{IsQuotient, kept-laid}
+use Rattle.quotient.proofs.Calls.{left-laid}
+use Rattle.bisimulation.proofs.Tables.{kept-laid, IsQuotient}
 use Rattle.quotient_block.specs.Call.{quotientLtsBlock}
 use Rattle.quotient_block.specs.Chosen.{choice, lacking, ofChosen, chosenRows, blockRows, blockQuotient}
 use Rattle.table.specs.Lts.{Lts}
-use Rattle.table.specs.Tables.{Three, rowsOver}
+use Rattle.table.specs.Tables.{Three, rowsOver, tableBy}
 
 module _ (branching loops : Bool) (t : Lts) (p : Partition) (out : Three) (work : List (List ℕ)) where
   module _ (r : Refusal) (e : r ≡ quotientRefusal t p out work) (s : Said) where
     pub block-refused :
         (r .number ≡ 0 → ⊥) → s ≡ refused (r .number) (r .place) → (s, (out, work)) ≡ quotientLtsBlock branching loops t p out work
     unfolding quotientLtsBlock
-    block-refused n f = rw (← e, ne-eqb (r .number) 0 n, f)
+    block-refused n f = unless-refused (quotientRefusal t p out work) r e (out, work) _ s n f
 
     pub block-call-answered :
         r .number ≡ 0 → (left : Three)
         → (s, left) ≡ blockQuotient branching loops t (p .element-to-block) (p .elements) (p .begin) (p .count) out
         → (work₁ : List (List ℕ)) → work₁ ≡ zeroed work → (s, (left, work₁)) ≡ quotientLtsBlock branching loops t p out work
     unfolding quotientLtsBlock
-    block-call-answered z left q work₁ w = rw (← e, eq-eqb (r .number) 0 z) (λ i. (q i .0, (q i .1, w i)))
+    block-call-answered z left q work₁ w =
+        unless-on (quotientRefusal t p out work) r e (out, work) _ (s, (left, work₁)) z (λ i. (q i .0, (q i .1, w i)))
 
   abbrev rowsLeft : List Row
   rowsLeft = blockRows branching loops t (p .element-to-block) (p .elements) (p .begin)
@@ -51,15 +52,11 @@ module _ (branching loops : Bool) (t : Lts) (p : Partition) (out : Three) (work 
       → quotientLtsBlock branching loops t p out work ≡ (done values, (left, work₁))
       → (quotientRefusal t p out work .number ≡ 0) × (quotientLeft ≡ (done values, left))
   unfolding quotientLtsBlock
-  done-checked values left work₁ e = go (quotientRefusal t p out work) quotientLeft (eqb (quotientRefusal t p out work .number) 0) refl e
-    where
-      go :
-          (r : Refusal) (q : Said × Three) (b : Bool) → eqb (r .number) 0 ≡ b
-          → _≡_ {A = Said × (Three × List (List ℕ))} (cond b (q .0, (q .1, zeroed work)) (refused (r .number) (r .place), (out, work)))
-          (done values, (left, work₁))
-          → (r .number ≡ 0) × (q ≡ (done values, left))
-      go r q true h e = (eqb-true (r .number) 0 h, λ i. (e i .0, e i .1 .0))
-      go r q false h e = absurd (apart _ _ _ (sym (ap (λ (x : Said × (Three × List (List ℕ))). x .0) e)))
+  done-checked values left work₁ e =
+      let d = unless-done (quotientRefusal t p out work) (out, work) (left, work₁) values (quotientLeft .0, (quotientLeft .1, zeroed work))
+      (sym e) in
+      let q = sym (d .1) in
+      (d .0, λ i. (q i .0, q i .1 .0))
 
   done-rows :
       (values : List ℕ) (left : Three) → quotientLeft ≡ (done values, left)
@@ -82,7 +79,7 @@ module _ (branching loops : Bool) (t : Lts) (p : Partition) (out : Three) (work 
   pub block-call-done :
       p .n ≡ t .n → (n labels m initial : ℕ) (left : Three) (work₁ : List (List ℕ))
       → quotientLtsBlock branching loops t p out work ≡ (done (n ∷ labels ∷ m ∷ initial ∷ []), (left, work₁))
-      → IsQuotient t (p .count) (blockOf (p .element-to-block)) rowsLeft (leftTable n labels m initial left)
+      → IsQuotient t (p .count) (blockOf (p .element-to-block)) rowsLeft (tableBy n labels m initial left)
   unfolding blockRows chosenRows
   block-call-done same n labels m initial left work₁ e =
       let block = blockOf (p .element-to-block) in

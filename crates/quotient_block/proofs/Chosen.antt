@@ -7,7 +7,8 @@ use mathlib.Core.Bool.{Bool, true, false, not, _&&_}
 use mathlib.Core.List.{List}
 use lib.Dec.{eqb}
 use lib.ListN.{getD}
-use Rattle.bisimulation.specs.Quotient.{blockOf, between}
+use Rattle.bisimulation.specs.Quotient.{between}
+use Rattle.columns.specs.Blocks.{blockOf}
 use Rattle.columns.specs.Answers.{Said, done, refused}
 use Rattle.columns.specs.Columns.{written}
 use Rattle.columns.specs.Limits.{noBottom}
@@ -18,7 +19,8 @@ use Rattle.columns.proofs.Lists.{written-at}
 use Rattle.columns.proofs.Sets.{collect-alike}
 use Rattle.partition.specs.Partition.{Partition, Sound}
 use Rattle.partition.proofs.Owned.{owned}
-use Rattle.quotient.specs.Naive.{tauLoop, stays, headerBy}
+use Rattle.quotient.specs.Naive.{stays, headerBy}
+use Rattle.table.specs.Hidden.{tauLoop}
 use Rattle.quotient_block.specs.Chosen.{firstState, choice, lacking, ofChosen, chosenRows, blockRows, blockQuotient, Choosable}
 use Rattle.table.specs.Lts.{Lts, rows, Valid}
 use Rattle.table.specs.Tables.{Three, rowsOver}

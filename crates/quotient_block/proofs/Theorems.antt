@@ -8,14 +8,13 @@ use mathlib.Core.Bool.{Bool, true, false, not, _&&_}
 use mathlib.Core.List.{List}
 use mathlib.Core.Logic.{_↔_}
 use lib.Dec.{eqb}
-use Rattle.bisimulation.specs.Bisimulation.{Step}
-use Rattle.bisimulation.specs.Quotient.{blockOf}
+use Rattle.columns.specs.Blocks.{blockOf}
 use Rattle.bisimulation.proofs.Kept.{kept-in, kept-out, kept-ascending}
-use Rattle.columns.specs.Sets.{Row, rowLt, Ascending}
+use Rattle.columns.specs.Sets.{Row, rowLt, Ascending, StepIn}
 use Rattle.columns.proofs.Bools.{and-left, and-right, and-both, contra}
 use Rattle.columns.proofs.Counting.{first-law}
-use Rattle.quotient.specs.Naive.{tauLoop}
-use Rattle.quotient.proofs.Kept.{kept-valid}
+use Rattle.table.specs.Hidden.{tauLoop}
+use Rattle.bisimulation.proofs.Tables.{kept-valid}
 use Rattle.quotient_block.specs.Bottom.{bottom}
 use Rattle.quotient_block.specs.Chosen.{firstState, choice, lacking, ofChosen, chosenRows, blockRows, Choosable}
 use Rattle.quotient_block.proofs.Returns.{Returning, lost-exactly}
@@ -84,16 +83,16 @@ module _ (loops : Bool) (chosen block : ℕ → ℕ) (rows : List Row) where
   -- a row of a block's chosen state that is no hidden self-loop which is to go
   pub record FromChosen (b a c : ℕ) : Type 0 where
     pub target : ℕ
-    pub step : Step rows (chosen b) a target
+    pub step : StepIn rows (chosen b) a target
     pub kept : loops ≡ true → tauLoop (chosen b, (a, target)) ≡ false
     pub to : block target ≡ c
 
   -- such a row is there, between blocks
-  pub chosen-in : (b a c : ℕ) → block (chosen b) ≡ b → FromChosen b a c → Step (chosenRows loops chosen block rows) b a c
+  pub chosen-in : (b a c : ℕ) → block (chosen b) ≡ b → FromChosen b a c → StepIn (chosenRows loops chosen block rows) b a c
   unfolding chosenRows ofChosen
   chosen-in b a c own f =
-      subst (λ (x : ℕ). Step (chosenRows loops chosen block rows) x a c) own
-      (subst (λ (x : ℕ). Step (chosenRows loops chosen block rows) (block (chosen b)) a x) (f .to)
+      subst (λ (x : ℕ). StepIn (chosenRows loops chosen block rows) x a c) own
+      (subst (λ (x : ℕ). StepIn (chosenRows loops chosen block rows) (block (chosen b)) a x) (f .to)
       (kept-in (ofChosen loops chosen block) block rows (chosen b) a (f .target) (f .step)
       (and-both (eq-eqb _ _ (ap chosen own)) (stay loops (f .kept)))))
     where
@@ -102,7 +101,7 @@ module _ (loops : Bool) (chosen block : ℕ → ℕ) (rows : List Row) where
       stay false h = refl
 
   -- and no other
-  pub chosen-out : (b a c : ℕ) → Step (chosenRows loops chosen block rows) b a c → FromChosen b a c
+  pub chosen-out : (b a c : ℕ) → StepIn (chosenRows loops chosen block rows) b a c → FromChosen b a c
   unfolding chosenRows ofChosen
   chosen-out b a c k =
       let f = kept-out (ofChosen loops chosen block) block rows b a c k in
@@ -112,7 +111,7 @@ module _ (loops : Bool) (chosen block : ℕ → ℕ) (rows : List Row) where
       let h : not (loops && tauLoop r) ≡ true = and-right own (not (loops && tauLoop r)) (f .passes) in
       record {
         target = f .target;
-        step = subst (λ (x : ℕ). Step rows x a (f .target)) e (f .step);
+        step = subst (λ (x : ℕ). StepIn rows x a (f .target)) e (f .step);
         kept = λ z.
             subst (λ (x : ℕ). tauLoop (x, (a, f .target)) ≡ false) e
             (not-true _ (subst (λ (l : Bool). not (l && tauLoop r) ≡ true) z h));

@@ -9,31 +9,33 @@ use mathlib.Core.Logic.{⊎-elim, _↔_}
 use mathlib.Core.List.{List}
 use lib.Dec.{eqb}
 use lib.ListN.{getD}
-use Rattle.bisimulation.specs.Quotient.{blockOf}
+use Rattle.columns.specs.Blocks.{blockOf}
 use Rattle.columns.specs.Counting.{first}
 use Rattle.columns.proofs.All.{lt-or-le, top-or-below}
-use Rattle.columns.proofs.Bools.{and-left, and-right, and-both, and-no-left, contra, fails}
+use Rattle.columns.proofs.Bools.{and-one, and-left, and-right, and-both, and-no-left, and-no-right, contra, fails}
 use Rattle.columns.proofs.Counting.{first-law}
 use Rattle.columns.proofs.Firsts.{NoneBelow, none-more, first-hit, first-none, none-of}
-use Rattle.quotient_block.specs.Bottom.{inward, leadsOn, wayOn, bottom, nextOn, walked, bottomFrom}
+use Rattle.columns.specs.Rows.{rowIn}
+use Rattle.quotient.specs.Naive.{inertStep}
+use Rattle.quotient_block.specs.Bottom.{leadsOn, wayOn, bottom, nextOn, walked, bottomFrom}
 use Rattle.table.specs.Lts.{Lts, Valid, Step}
 use Rattle.table.proofs.Rows.{row-step, step-row}
 use Rattle.table.proofs.RowsOf.{ownRow, RowsFrom}
 
 -- ---- the test of one row, as the code makes it
-module _ (label target home : List ℕ) (s b i : ℕ) where
-  pub inward-visible : eqb (getD label i 0) 0 ≡ false → false ≡ inward label target home s b i
-  unfolding inward
-  inward-visible h = rw h refl
+module _ (block : ℕ → ℕ) (s a u : ℕ) where
+  pub inert-visible : eqb a 0 ≡ false → false ≡ inertStep block (s, (a, u))
+  unfolding inertStep
+  inert-visible h = rw h refl
 
-  module _ (h : eqb (getD label i 0) 0 ≡ true) where
-    pub inward-loop : eqb (getD target i 0) s ≡ true → false ≡ inward label target home s b i
-    unfolding inward
-    inward-loop e = rw (h, e) refl
+  module _ (h : eqb a 0 ≡ true) where
+    pub inert-loop : eqb s u ≡ true → false ≡ inertStep block (s, (a, u))
+    unfolding inertStep
+    inert-loop e = rw (h, e) (sym (and-no-right (eqb (block s) (block u)) false refl))
 
-    pub inward-other : eqb (getD target i 0) s ≡ false → eqb (blockOf home (getD target i 0)) b ≡ inward label target home s b i
-    unfolding inward
-    inward-other e = rw (h, e) refl
+    pub inert-other : eqb s u ≡ false → eqb (block s) (block u) ≡ inertStep block (s, (a, u))
+    unfolding inertStep
+    inert-other e = rw (h, e) (sym (and-one (eqb (block s) (block u)) true refl))
 
 abbrev leads : Lts → List ℕ → ℕ → ℕ → Bool
 leads t home s = leadsOn (t .source) (t .label) (t .target) home s
@@ -53,11 +55,15 @@ module _ (t : Lts) (home : List ℕ) (s first end : ℕ) (f : RowsFrom t s first
   pub look-start : Looking (leads t home s) first end first
   look-start = record { low = omega arith; high = f .up; none = λ i w. other-row i (f .before i w) }
 
-  module _ (i b : ℕ) (r : Bool) (k : Looking (leads t home s) first end i) (h : i < end) (eb : b ≡ blockOf home s)
-      (er : r ≡ inward (t .label) (t .target) home s b i) where
+  module _ (i : ℕ) (r : Bool) (k : Looking (leads t home s) first end i) (h : i < end)
+      (er : r ≡ inertStep (blockOf home) (s, (getD (t .label) i 0, getD (t .target) i 0))) where
     own-row : leads t home s i ≡ r
-    unfolding leadsOn
-    own-row = rw (f .own i (k .low) h) (sym (er ∙ ap (λ (x : ℕ). inward (t .label) (t .target) home s x i) eb))
+    unfolding leadsOn rowIn
+    own-row =
+        let own = f .own i (k .low) h in
+        rw own
+        (ap (λ (x : ℕ). inertStep (blockOf home) (x, (getD (t .label) i 0, getD (t .target) i 0))) (eqb-true (getD (t .source) i 0) s own)
+        ∙ sym er)
 
     pub look-more : r ≡ false → Looking (leads t home s) first end (i + 1)
     look-more e = record {
@@ -89,33 +95,34 @@ module _ (t : Lts) (home : List ℕ) (s : ℕ) where
   way-most = first-law (t .m) (leads t home s) .bound
 
   leads-on : (i : ℕ) → i < t .m → leads t home s i ≡ true → On t home s (getD (t .target) i 0)
-  unfolding leadsOn inward
+  unfolding leadsOn inertStep rowIn
   leads-on i h e =
+      let x = getD (t .source) i 0 in
       let u = getD (t .target) i 0 in
-      let own = eqb (getD (t .source) i 0) s in
       let hidden = eqb (getD (t .label) i 0) 0 in
-      let other = not (eqb u s) in
-      let rest = other && eqb (blockOf home u) (blockOf home s) in
-      let a : (hidden && rest) ≡ true = and-right own (hidden && rest) e in
+      let within = eqb (blockOf home x) (blockOf home u) in
+      let rest = within && not (eqb x u) in
+      let own : x ≡ s = eqb-true _ _ (and-left (eqb x s) (hidden && rest) e) in
+      let a : (hidden && rest) ≡ true = and-right (eqb x s) (hidden && rest) e in
       let b : rest ≡ true = and-right hidden rest a in
       record {
         step =
-            subst (λ (x : ℕ). Step t x 0 u) (eqb-true _ _ (and-left own (hidden && rest) e))
-            (subst (λ (x : ℕ). Step t (getD (t .source) i 0) x u) (eqb-true _ _ (and-left hidden rest a)) (row-step t i h));
-        other = eqb-false _ _ (not-true _ (and-left other (eqb (blockOf home u) (blockOf home s)) b));
-        within = eqb-true _ _ (and-right other (eqb (blockOf home u) (blockOf home s)) b);
+            subst (λ (y : ℕ). Step t y 0 u) own
+            (subst (λ (y : ℕ). Step t x y u) (eqb-true _ _ (and-left hidden rest a)) (row-step t i h));
+        other = λ q. eqb-false x u (not-true _ (and-right within (not (eqb x u)) b)) (own ∙ sym q);
+        within = sym (eqb-true _ _ (and-left within (not (eqb x u)) b)) ∙ ap (blockOf home) own;
       }
 
   on-leads : (u : ℕ) → On t home s u → (i : ℕ) × (i < t .m) × (leads t home s i ≡ true)
-  unfolding leadsOn inward
+  unfolding leadsOn inertStep rowIn
   on-leads u k =
       let r = step-row t s 0 u (k .step) in (
         r .row,
         r .below,
         and-both (eq-eqb _ _ (sym (r .source)))
             (and-both (eq-eqb _ _ (sym (r .label)))
-            (and-both (ap not (ne-eqb _ _ (λ e. k .other (r .target ∙ e))))
-            (eq-eqb _ _ (ap (blockOf home) (sym (r .target)) ∙ k .within)))),
+            (and-both (eq-eqb _ _ (ap (blockOf home) (sym (r .source)) ∙ sym (k .within) ∙ ap (blockOf home) (r .target)))
+            (ap not (ne-eqb _ _ (λ e. k .other (r .target ∙ sym e ∙ sym (r .source))))))),
       )
 
   bottom-way : t .m ≤ wayOn t home s → bottom t home s ≡ true

@@ -1,23 +1,20 @@
 -- The walk to a bottom state: it follows the first hidden row to another state of the block, as long as there is one. `home` has the
 -- block of each state.
-use mathlib.Core.Bool.{Bool, not, _&&_, cond}
+use mathlib.Core.Bool.{Bool, _&&_, cond}
 use mathlib.Core.List.{List}
 use Prim.Native.Nat.{ℕ, zero, suc}
 use lib.Dec.{eqb, leb}
 use lib.ListN.{getD}
-use Rattle.bisimulation.specs.Quotient.{blockOf}
+use Rattle.columns.specs.Blocks.{blockOf}
 use Rattle.columns.specs.Counting.{first}
+use Rattle.columns.specs.Rows.{rowIn}
+use Rattle.quotient.specs.Naive.{inertStep}
 use Rattle.table.specs.Lts.{Lts}
 
--- row i, of state s in block b, is hidden and leads to another state of the block
-unfoldable pub inward : List ℕ → List ℕ → List ℕ → ℕ → ℕ → ℕ → Bool
-inward label target home s b i =
-    eqb (getD label i 0) 0 && (not (eqb (getD target i 0) s) && eqb (blockOf home (getD target i 0)) b)
-
--- row i is such a row of s
+-- row i is a hidden one from s to another state of its block
 unfoldable pub leadsOn : List ℕ → List ℕ → List ℕ → List ℕ → ℕ → ℕ → Bool
-unfolding inward
-leadsOn source label target home s i = eqb (getD source i 0) s && inward label target home s (blockOf home s) i
+unfolding inertStep rowIn
+leadsOn source label target home s i = eqb (getD source i 0) s && inertStep (blockOf home) (rowIn source label target i)
 
 -- the first of these, m if there is none
 unfoldable pub wayOn : Lts → List ℕ → ℕ → ℕ

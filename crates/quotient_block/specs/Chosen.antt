@@ -5,13 +5,15 @@ use mathlib.Core.List.{List}
 use Prim.Native.Nat.{ℕ, _≤_, _<_}
 use lib.Dec.{eqb, ltb}
 use lib.ListN.{length, getD}
-use Rattle.bisimulation.specs.Quotient.{blockOf, between}
+use Rattle.bisimulation.specs.Quotient.{between}
+use Rattle.columns.specs.Blocks.{blockOf}
 use Rattle.columns.specs.Answers.{Said, done, refused}
 use Rattle.columns.specs.Counting.{first}
 use Rattle.columns.specs.Limits.{noBottom}
 use Rattle.columns.specs.Rows.{rowsOf}
 use Rattle.columns.specs.Sets.{Row, rowLt, collect}
-use Rattle.quotient.specs.Naive.{tauLoop, headerBy}
+use Rattle.quotient.specs.Naive.{headerBy}
+use Rattle.table.specs.Hidden.{tauLoop}
 use Rattle.table.specs.Lts.{Lts, rows}
 use Rattle.table.specs.Tables.{Three, rowsOver}
 use Rattle.quotient_block.specs.Bottom.{bottomFrom}

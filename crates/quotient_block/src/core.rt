@@ -4,11 +4,12 @@ ghost use mathlib.Core.Path.{_≡_};
 ghost use mathlib.Core.Bool.{cond};
 ghost use Prim.Native.Nat.{ℕ, _≤_, _<_};
 ghost use lib.ListN.{length, getD};
-ghost use Rattle.bisimulation.specs.Quotient.{blockOf};
+ghost use Rattle.columns.specs.Blocks.{blockOf};
 ghost use Rattle.columns.specs.Columns.{written};
 ghost use Rattle.columns.specs.Lent.{was, is, Cleared};
 ghost use Rattle.columns.specs.Rows.{rowSet, rowIn};
-ghost use Rattle.quotient_block.specs.Bottom.{inward, wayOn, bottomFrom};
+ghost use Rattle.quotient.specs.Naive.{inertStep};
+ghost use Rattle.quotient_block.specs.Bottom.{wayOn, bottomFrom};
 ghost use Rattle.quotient_block.specs.Chosen.{choice, lacking, ofChosen, chosenRows, blockQuotient, Choosable};
 ghost use Rattle.table.specs.Lent.{ltsOf, ltsNow, rowsWas, rowsAre};
 ghost use Rattle.table.specs.Lts.{rows, Valid};
@@ -29,8 +30,9 @@ use table::core::rows_of;
 
 // Whether row i, of state s in block b, is hidden and leads to another state of the block.
 fn inner_row(label: &[u16], target: &[u16], home: &[u16], s: usize, b: usize, i: usize) -> bool
-    requires { ⌜ (i < length (now label)) × (i < length (now target)) × (getD (now target) i 0 < length (now home)) ⌝ }
-    ensures { λ r. ⌜ r ≡ inward (was label) (was target) (was home) s b i ⌝ }
+    requires { ⌜ (i < length (now label)) × (i < length (now target)) × (getD (now target) i 0 < length (now home))
+        × (b ≡ blockOf (now home) s) ⌝ }
+    ensures { λ r. ⌜ r ≡ inertStep (blockOf (was home)) (s, (getD (was label) i 0, getD (was target) i 0)) ⌝ }
 {
     if at(label, i) != 0 {
         return false;
@@ -39,7 +41,7 @@ fn inner_row(label: &[u16], target: &[u16], home: &[u16], s: usize, b: usize, i:
     if u == s {
         return false;
     }
-    at(home, u) == b
+    b == at(home, u)
 }
 
 // The first hidden row of s to another state of its block, m if there is none.

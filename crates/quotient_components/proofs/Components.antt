@@ -9,7 +9,7 @@ use Rattle.columns.proofs.Bools.{and-left, and-right, and-both}
 use Rattle.columns.proofs.Counting.{many-le, many-strict}
 use Rattle.columns.proofs.Numbering.{Equivalence, least-leads, number-same, number-differ, number-bound, number-onto}
 use Rattle.table.specs.Lts.{Lts, Valid}
-use Rattle.table.specs.Reach.{Walk, stop, edge, reaches}
+use Rattle.table.specs.Reach.{stop, edge, reaches, Way}
 use Rattle.table.proofs.Walks.{joined, reaches-walk}
 use Rattle.quotient_components.specs.Components.{linked, components, component}
 
@@ -31,7 +31,7 @@ module _ (t : Lts) (v : Valid t) where
   }
 
   -- two states share a number exactly if each reaches the other by hidden steps
-  pub component-exactly : (s u : ℕ) → (component t s ≡ component t u) ↔ (Walk (edge t true) s u × Walk (edge t true) u s)
+  pub component-exactly : (s u : ℕ) → (component t s ≡ component t u) ↔ (Way t true s u × Way t true u s)
   unfolding component linked
   component-exactly s u = (
     λ e.

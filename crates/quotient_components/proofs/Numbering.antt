@@ -10,9 +10,8 @@ use native.Mathlib.Nat.{le-antisymm}
 use borrow.Author.Tests.{eq-eqb, ltb-true, ltb-false, lt-ltb, le-ltb}
 use lib.Dec.{eqb, ltb}
 use lib.ListN.{length, getD}
-use Rattle.columns.specs.Answers.{bit}
 use Rattle.columns.specs.Columns.{listed}
-use Rattle.columns.specs.Counting.{many}
+use Rattle.columns.specs.Counting.{many, bit}
 use Rattle.columns.specs.Number.{least, leads, number}
 use Rattle.columns.proofs.Bools.{cases, contra, fails}
 use Rattle.columns.proofs.Counting.{many-le, many-hit, many-miss}

@@ -13,9 +13,9 @@ use Rattle.columns.specs.Number.{least}
 use Rattle.columns.proofs.Doing.{leaving-done}
 use Rattle.columns.proofs.Lists.{length-written, written-at, written-after}
 use Rattle.table.specs.Lts.{Lts, Valid}
-use Rattle.table.specs.Promise.{Way, Beyond}
+use Rattle.table.specs.Promise.{Beyond}
+use Rattle.table.specs.Reach.{Way}
 use Rattle.table.proofs.Rooms.{ready-call}
-use Rattle.table.proofs.Theorems.{walk-way, way-walk}
 use Rattle.quotient_components.specs.Components.{linked, components, component}
 use Rattle.quotient_components.specs.Call.{decompositionRefusal, tauSccDecomposition}
 use Rattle.quotient_components.proofs.Components.{component-exactly, component-below, component-onto, component-order}
@@ -52,10 +52,8 @@ module _ (t : Lts) (v : Valid t) (numbers : List ℕ) where
   written-numbers : Numbers t (components t) cells
   written-numbers = record {
     exactly = λ s u h k. (
-      λ e.
-          let w = component-exactly t v s u .0 (sym (at s h) ∙ e ∙ at u k) in
-          (walk-way t true (w .0), walk-way t true (w .1)),
-      λ w. at s h ∙ component-exactly t v s u .1 (way-walk t true (w .0), way-walk t true (w .1)) ∙ sym (at u k),
+      λ e. component-exactly t v s u .0 (sym (at s h) ∙ e ∙ at u k),
+      λ w. at s h ∙ component-exactly t v s u .1 w ∙ sym (at u k),
     );
     order = λ s u h k l. omega (arith, at s h, at u k, component-order t v s u l);
     below = λ s h. omega (arith, at s h, component-below t v s h);

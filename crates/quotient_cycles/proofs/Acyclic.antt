@@ -8,7 +8,7 @@ use Rattle.quotient.proofs.Theorems.{naive-out, naive-valid}
 use Rattle.quotient_components.specs.Components.{components, component}
 use Rattle.quotient_components.proofs.Components.{component-exactly, component-below, components-few}
 use Rattle.table.specs.Lts.{Lts, rows, Step, Valid}
-use Rattle.table.specs.Reach.{Walk, stop, along, takes, edge}
+use Rattle.table.specs.Reach.{stop, along, takes, edge, Way}
 use Rattle.table.proofs.Tables.{tableOf-out}
 use Rattle.table.proofs.Walks.{joined, edge-step}
 use Rattle.table_order.specs.Promise.{LongCycle}
@@ -44,15 +44,15 @@ module _ (t : Lts) (v : Valid t) (eliminate : Bool) where
   first-row b c h = merged-out b 0 c (hidden-step (merged t eliminate) b c h)
 
   -- a hidden walk between components is one between any two of their states
-  lifted : {b c : ℕ} → Walk (edge (merged t eliminate) true) b c
-      → (s u : ℕ) → component t s ≡ b → component t u ≡ c → Walk (edge t true) s u
+  lifted : {b c : ℕ} → Way (merged t eliminate) true b c
+      → (s u : ℕ) → component t s ≡ b → component t u ≡ c → Way t true s u
   lifted stop s u p r = component-exactly t v s u .0 (p ∙ sym r) .0
   lifted (along {s = b} {u = d} h w) s u p r =
       let f = first-row b d h in
       joined (edge t true) (component-exactly t v s (f .source) .0 (p ∙ sym (f .from)) .0)
       (along (step-hidden t (f .source) (f .target) (f .step)) (lifted w (f .target) u (f .to) r))
 
-  begins : {b c : ℕ} → (b ≡ c → ⊥) → Walk (edge (merged t eliminate) true) b c → (s : ℕ) × (component t s ≡ b)
+  begins : {b c : ℕ} → (b ≡ c → ⊥) → Way (merged t eliminate) true b c → (s : ℕ) × (component t s ≡ b)
   begins n stop = absurd (n refl)
   begins n (along {s = b} {u = d} h w) = let f = first-row b d h in (f .source, f .from)
 

@@ -4,10 +4,9 @@ use mathlib.Core.Bool.{Bool}
 use Prim.Native.Nat.{ℕ, _<_}
 use borrow.Author.Tests.{eqb-true, eq-eqb}
 use lib.Dec.{eqb}
-use Rattle.bisimulation.specs.Bisimulation as B
 use Rattle.bisimulation.specs.Quotient.{between, quotient}
 use Rattle.bisimulation.proofs.Quotients.{quotient-in, quotient-out, quotient-ascending}
-use Rattle.columns.specs.Sets.{rowLt}
+use Rattle.columns.specs.Sets.{rowLt, StepIn}
 use Rattle.columns.proofs.Bools.{bool-ext}
 use Rattle.columns.proofs.Orders.{row-order}
 use Rattle.columns.proofs.Sets.{ascending-unique, collect-alike}
@@ -45,16 +44,16 @@ module _ (t : Lts) (v : Valid t) (inerts loops : Bool) where
         (quotient-ascending p (naiveRows inerts loops f (rows t))) (λ r k. there (r .0) (r .1 .0) (r .1 .1) k)
         (λ r k. back (r .0) (r .1 .0) (r .1 .1) k)
       where
-        there : (b a c : ℕ) → B.Step (naiveRows inerts loops (λ x. p (f x)) (rows t)) b a c
-            → B.Step (quotient p (naiveRows inerts loops f (rows t))) b a c
+        there : (b a c : ℕ) → StepIn (naiveRows inerts loops (λ x. p (f x)) (rows t)) b a c
+            → StepIn (quotient p (naiveRows inerts loops f (rows t))) b a c
         there b a c k =
             let r = naive-out inerts loops (λ x. p (f x)) (rows t) b a c k in
             let z = sym (same-stays (r .source) a (r .target) (r .step)) ∙ r .passes in
             let w = quotient-in p (naiveRows inerts loops f (rows t)) _ a _ (naive-in inerts loops f (rows t) _ a _ (r .step) z) in
             rw (r .from, r .to) at w
 
-        back : (b a c : ℕ) → B.Step (quotient p (naiveRows inerts loops f (rows t))) b a c
-            → B.Step (naiveRows inerts loops (λ x. p (f x)) (rows t)) b a c
+        back : (b a c : ℕ) → StepIn (quotient p (naiveRows inerts loops f (rows t))) b a c
+            → StepIn (naiveRows inerts loops (λ x. p (f x)) (rows t)) b a c
         back b a c k =
             let q = quotient-out p (naiveRows inerts loops f (rows t)) b a c k in
             let r = naive-out inerts loops f (rows t) (q .source) a (q .target) (q .step) in

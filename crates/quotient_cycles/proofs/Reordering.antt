@@ -9,21 +9,23 @@ use Prim.Native.Nat.{ℕ, _≤_, _<_}
 use native.Mathlib.Omega.{arith}
 use borrow.Author.Tests.{eq-eqb, ne-eqb}
 use lib.ListN.{getD}
-use Rattle.bisimulation.specs.Bisimulation as B
-use Rattle.bisimulation.specs.Quotient.{blockOf, quotient}
-use Rattle.bisimulation.proofs.Quotients.{quotient-in, quotient-out, quotient-ascending, quotient-few}
+use Rattle.bisimulation.specs.Quotient.{quotient}
+use Rattle.columns.specs.Blocks.{blockOf}
+use Rattle.bisimulation.proofs.Quotients.{Source, quotient-in, quotient-out}
+use Rattle.bisimulation.proofs.Tables.{quotient-valid}
 use Rattle.columns.specs.Sets.{Row}
 use Rattle.columns.proofs.All.{same-or-not}
 use Rattle.columns.proofs.Bools.{contra, and-both}
-use Rattle.quotient.specs.Naive.{inertStep, tauLoop, naiveRows}
+use Rattle.quotient.specs.Naive.{inertStep, naiveRows}
+use Rattle.table.specs.Hidden.{tauLoop}
 use Rattle.quotient.proofs.Theorems.{stays-exactly}
 use Rattle.quotient_components.specs.Components.{components, component}
-use Rattle.quotient_components.proofs.Components.{component-exactly, component-below, component-onto, components-few}
+use Rattle.quotient_components.proofs.Components.{component-exactly, component-below, component-onto}
 use Rattle.table.specs.Lts.{Lts, rows, Step, Valid}
-use Rattle.table.specs.Reach.{Walk, stop, along, takes, edge}
+use Rattle.table.specs.Reach.{stop, along, takes, Way}
 use Rattle.table.specs.Tables.{tableOf}
 use Rattle.table.proofs.Rows.{step-fields}
-use Rattle.table.proofs.Tables.{rows-length, tableOf-rows, tableOf-in, tableOf-out, tableOf-valid}
+use Rattle.table.proofs.Tables.{tableOf-rows, tableOf-in, tableOf-out}
 use Rattle.table_order.specs.Promise.{Permutation}
 use Rattle.table_order.proofs.Topological.{permutation, topological}
 use Rattle.quotient_cycles.specs.Reordered.{merged, newPlace, newNumber, newRows, reorderedTable}
@@ -52,7 +54,7 @@ module _ (t : Lts) (v : Valid t) (eliminate : Bool) where
   -- two states get one number exactly if each reaches the other by hidden steps
   pub new-number-exactly :
       (s u : ℕ) → s < t .n → u < t .n
-      → (newNumber t eliminate s ≡ newNumber t eliminate u) ↔ (Walk (edge t true) s u × Walk (edge t true) u s)
+      → (newNumber t eliminate s ≡ newNumber t eliminate u) ↔ (Way t true s u × Way t true u s)
   unfolding newNumber
   new-number-exactly s u h k = (
     λ e.
@@ -74,19 +76,10 @@ module _ (t : Lts) (v : Valid t) (eliminate : Bool) where
       (s .0, s .1, ap place (s .2) ∙ b .2)
 
   -- ---- the rows
-  -- a row of the quotient, under the new numbers
-  record Renumbers (b a c : ℕ) : Type 0 where
-    pub from : ℕ
-    pub to : ℕ
-    pub row : Step old from a to
-    pub source : place from ≡ b
-    pub target : place to ≡ c
-
-  new-out : (b a c : ℕ) → Step new b a c → Renumbers b a c
+  -- the row of the quotient that a row under the new numbers comes from
+  new-out : (b a c : ℕ) → Step new b a c → Source place (rows old) b a c
   unfolding reorderedTable newRows
-  new-out b a c k =
-      let f = quotient-out place (rows old) b a c (tableOf-out (components t) (t .labels) start (newRows t eliminate) b a c k) in
-      record { from = f .source; to = f .target; row = f .step; source = f .from; target = f .to }
+  new-out b a c k = quotient-out place (rows old) b a c (tableOf-out (components t) (t .labels) start (newRows t eliminate) b a c k)
 
   -- each row of the quotient is there under the new numbers, and no other
   pub new-exactly :
@@ -95,37 +88,18 @@ module _ (t : Lts) (v : Valid t) (eliminate : Bool) where
   new-exactly b a c h k = (
     λ z.
         let f = new-out (place b) a (place c) z in
-        let w = step-fields old (merged-valid t v eliminate) (f .from) a (f .to) (f .row) in
-        let p : f .from ≡ b = places-permute .one (f .from) b (w .0) h (f .source) in
-        let q : f .to ≡ c = places-permute .one (f .to) c (w .1 .1) k (f .target) in
-        subst (λ (x : ℕ). Step old x a c) p (subst (λ (y : ℕ). Step old (f .from) a y) q (f .row)),
+        let w = step-fields old (merged-valid t v eliminate) (f .source) a (f .target) (f .step) in
+        let p : f .source ≡ b = places-permute .one (f .source) b (w .0) h (f .from) in
+        let q : f .target ≡ c = places-permute .one (f .target) c (w .1 .1) k (f .to) in
+        subst (λ (x : ℕ). Step old x a c) p (subst (λ (y : ℕ). Step old (f .source) a y) q (f .step)),
     λ z.
         tableOf-in (components t) (t .labels) start (newRows t eliminate) (place b) a (place c) (quotient-in place (rows old) b a c z),
   )
 
   pub reordered-valid : Valid new
-  unfolding reorderedTable newRows
+  unfolding reorderedTable newRows newNumber merged tableOf
   reordered-valid =
-      let w = merged-valid t v eliminate in
-      let first = new-number-below (t .initial) (v .initial) in
-      tableOf-valid (components t) (t .labels) start (newRows t eliminate)
-      record {
-        some-states = omega (arith, first);
-        few-states = omega (arith, components-few t v, v .few-states);
-        some-labels = v .some-labels;
-        few-labels = v .few-labels;
-        few-rows = omega (arith, quotient-few place (rows old), rows-length old, w .few-rows);
-        initial = first;
-      }
-      inside (quotient-ascending place (rows old))
-    where
-      inside : (b a c : ℕ) → B.Step (newRows t eliminate) b a c → (b < components t) × ((a < t .labels) × (c < components t))
-      inside b a c k =
-          let f = quotient-out place (rows old) b a c k in
-          let w = step-fields old (merged-valid t v eliminate) (f .source) a (f .target) (f .step) in (
-            subst (λ (x : ℕ). x < components t) (f .from) (places-permute .below (f .source) (w .0)),
-            (w .1 .0, subst (λ (x : ℕ). x < components t) (f .to) (places-permute .below (f .target) (w .1 .1))),
-          )
+      quotient-valid old (merged-valid t v eliminate) (components t) (omega arith) place (λ s h. places-permute .below s h)
 
   -- ---- hidden rows
   -- the reversed order runs by finishing, and what a state leads to finishes before it: a hidden row leads to a smaller number, or is a
@@ -134,13 +108,13 @@ module _ (t : Lts) (v : Valid t) (eliminate : Bool) where
   unfolding newPlace takes
   hidden-falls b c k = go (new-out b 0 c k)
     where
-      go : Renumbers b 0 c → (b ≡ c) ⊎ (c < b)
+      go : Source place (rows old) b 0 c → (b ≡ c) ⊎ (c < b)
       go f =
-          ⊎-elim (λ (e : f .from ≡ f .to). inl (sym (f .source) ∙ ap place e ∙ f .target))
-          (λ (n : f .from ≡ f .to → ⊥).
-          inr (lower (topological old (merged-valid t v eliminate) true (acyclic t v eliminate) true .along (f .from) 0 (f .to) (f .row)
-          refl n) (f .source) (f .target)))
-          (same-or-not (f .from) (f .to))
+          ⊎-elim (λ (e : f .source ≡ f .target). inl (sym (f .from) ∙ ap place e ∙ f .to))
+          (λ (n : f .source ≡ f .target → ⊥).
+          inr (lower (topological old (merged-valid t v eliminate) true (acyclic t v eliminate) true .along (f .source) 0 (f .target)
+          (f .step) refl n) (f .from) (f .to)))
+          (same-or-not (f .source) (f .target))
         where
           lower : {x y : ℕ} → y < x → x ≡ b → y ≡ c → c < b
           lower l p q = omega (arith, l, p, q)
@@ -163,14 +137,14 @@ module _ (t : Lts) (v : Valid t) (eliminate : Bool) where
     unfolding newPlace takes
     hidden-lower b c k =
         let f = new-out b 0 c k in
-        let l = topological old (merged-valid t v eliminate) true (acyclic t v eliminate) true .along (f .from) 0 (f .to) (f .row) refl
-        (apart on (f .from) (f .to) (f .row)) in
-        lower l (f .source) (f .target)
+        let l = topological old (merged-valid t v eliminate) true (acyclic t v eliminate) true .along (f .source) 0 (f .target)
+        (f .step) refl (apart on (f .source) (f .target) (f .step)) in
+        lower l (f .from) (f .to)
       where
         lower : {x y : ℕ} → y < x → x ≡ b → y ≡ c → c < b
         lower l p q = omega (arith, l, p, q)
 
-    walk-falls : {b c : ℕ} → Walk (edge new true) b c → c ≤ b
+    walk-falls : {b c : ℕ} → Way new true b c → c ≤ b
     walk-falls stop = omega arith
     walk-falls (along {s = b} {u = d} h w) =
         let l = hidden-lower b d (hidden-step new b d h) in
@@ -178,7 +152,7 @@ module _ (t : Lts) (v : Valid t) (eliminate : Bool) where
         omega (arith, l, r)
 
     -- no hidden cycle is left, self-loops among them
-    pub no-hidden-cycle : (b c : ℕ) → Step new b 0 c → Walk (edge new true) c b → ⊥
+    pub no-hidden-cycle : (b c : ℕ) → Step new b 0 c → Way new true c b → ⊥
     no-hidden-cycle b c k w = let l = hidden-lower b c k in let r = walk-falls w in omega (arith, l, r)
 
 -- ---- by a column of new numbers

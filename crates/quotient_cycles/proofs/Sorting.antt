@@ -5,20 +5,19 @@ use mathlib.Core.List.{List}
 use Prim.Native.Nat.{ℕ, _≤_, _<_}
 use native.Mathlib.Omega.{arith}
 use lib.ListN.{length, getD}
-use Rattle.bisimulation.specs.Bisimulation as B
-use Rattle.bisimulation.specs.Quotient.{blockOf}
+use Rattle.columns.specs.Blocks.{blockOf}
 use Rattle.columns.specs.Columns.{over, written}
-use Rattle.columns.specs.Sets.{Row}
+use Rattle.columns.specs.Sets.{Row, StepIn}
 use Rattle.columns.proofs.Bools.{fails}
 use Rattle.columns.proofs.Lists.{listed-cong, written-at}
 use Rattle.quotient.specs.Naive.{stays, naiveRows}
-use Rattle.quotient.proofs.Kept.{kept-laid}
+use Rattle.bisimulation.proofs.Tables.{kept-laid}
 use Rattle.quotient.proofs.Theorems.{naive-few}
 use Rattle.quotient_components.specs.Components.{components, component}
 use Rattle.quotient_components.proofs.Components.{component-below, components-few}
 use Rattle.table.specs.Lts.{Lts, rows, Valid}
-use Rattle.table.specs.Reach.{Walk, stop, along, edge}
-use Rattle.table.specs.Tables.{Three, tableOf, rowsOver}
+use Rattle.table.specs.Reach.{stop, along, Way}
+use Rattle.table.specs.Tables.{Three, tableOf, rowsOver, tableBy}
 use Rattle.table.proofs.Tables.{rows-length, tableOf-rows, laidTable, laid-rows}
 use Rattle.table.proofs.Walks.{edge-step}
 use Rattle.table_order.specs.Call.{sorted}
@@ -31,11 +30,11 @@ use Rattle.quotient_cycles.proofs.Renumbered.{naive-alike}
 
 -- ---- tables with the same rows
 module _ (x y : Lts) (e : rows x ≡ rows y) where
-  same-walk : (hidden : Bool) {s u : ℕ} → Walk (edge x hidden) s u → Walk (edge y hidden) s u
+  same-walk : (hidden : Bool) {s u : ℕ} → Way x hidden s u → Way y hidden s u
   same-walk hidden stop = stop
   same-walk hidden (along {s = s} {u = u} h w) =
       let p = edge-step x hidden s u .0 h in
-      along (edge-step y hidden s u .1 (p .0, p .1, subst (λ (l : List Row). B.Step l s (p .0) u) e (p .2))) (same-walk hidden w)
+      along (edge-step y hidden s u .1 (p .0, p .1, subst (λ (l : List Row). StepIn l s (p .0) u) e (p .2))) (same-walk hidden w)
 
   same-cycle : (hidden : Bool) → LongCycle x hidden → LongCycle y hidden
   same-cycle hidden c = record {
@@ -68,16 +67,7 @@ module _ (t : Lts) (v : Valid t) (eliminate : Bool) (numbers : List ℕ) (homes 
   module _ (count k start : ℕ) (out mid : Three) (ec : count ≡ components t) (ek : k ≡ length byColumn)
       (es : start ≡ getD numbers (t .initial) 0) (em : mid ≡ rowsOver byColumn out) where
     abbrev middle : Lts
-    middle =
-        record {
-          n = count;
-          labels = t .labels;
-          m = k;
-          initial = start;
-          source = mid .0;
-          label = mid .1 .0;
-          target = mid .1 .1;
-        }
+    middle = tableBy count (t .labels) k start mid
 
     abbrev laid : Lts
     laid = laidTable (components t) (t .labels) (component t (t .initial)) byNumber (out .0) (out .1 .0) (out .1 .1)

@@ -12,9 +12,8 @@ use Rattle.columns.specs.Columns.{zeroed}
 use Rattle.columns.proofs.Doing.{leaving-done}
 use Rattle.quotient_components.specs.Components.{components}
 use Rattle.table.specs.Lts.{Lts, Step, Valid}
-use Rattle.table.specs.Promise.{Way}
+use Rattle.table.specs.Reach.{Way}
 use Rattle.table.specs.Tables.{Three, lengthsOf, rowsOver}
-use Rattle.table.proofs.Theorems.{walk-way, way-walk}
 use Rattle.quotient_cycles.specs.Reordered.{merged, newPlace, newNumber, newRows, reorderedTable}
 use Rattle.quotient_cycles.specs.Call.{reorderRefusal, tauCycleEliminationAndReorder}
 use Rattle.quotient_cycles.proofs.Calls.{ready-reorder}
@@ -70,17 +69,14 @@ reorder-done t state eliminate out work values left work₁ e =
     let k = leaving-done r (out, work) (left, work₁) (rowsOver l out, zeroed work) values
     (components t ∷ t .labels ∷ length l ∷ newNumber t eliminate (t .initial) ∷ newNumber t eliminate state ∷ []) e in
     let q = ready-reorder t state (lengthsOf out) (map length work) r refl (k .0) in
-    let v = q .valid in
+    let v = q .0 .valid in
     record {
       valid = v;
-      known = q .state-below;
+      known = q .1;
       answer = k .1;
       rows = ap (λ (x : Three × List (List ℕ)). x .0) (k .2);
       cleared = ap (λ (x : Three × List (List ℕ)). x .1) (k .2);
-      exactly = λ s u h j. (
-        λ p. let w = new-number-exactly t v eliminate s u h j .0 p in (walk-way t true (w .0), walk-way t true (w .1)),
-        λ w. new-number-exactly t v eliminate s u h j .1 (way-walk t true (w .0), way-walk t true (w .1)),
-      );
+      exactly = new-number-exactly t v eliminate;
       below = new-number-below t v eliminate;
       renumbered = new-exactly t v eliminate;
       table = reordered-valid t v eliminate;

@@ -11,7 +11,7 @@ use lib.ListN.{length, length-map, getD}
 use Rattle.columns.specs.Columns.{over, cell}
 use Rattle.columns.specs.Counting.{many, members}
 use Rattle.columns.specs.Rows.{firstOf, secondOf, thirdOf, rowIn}
-use Rattle.columns.specs.Sets.{Mem, Row, rowLt, Ascending}
+use Rattle.columns.specs.Sets.{Mem, Row, rowLt, Ascending, StepIn}
 use Rattle.columns.proofs.All.{lt-or-le}
 use Rattle.columns.proofs.Bools.{contra, fails, and-left, and-right, and-both}
 use Rattle.columns.proofs.Firsts.{some-in, some-out}
@@ -111,7 +111,7 @@ module _ (t : Lts) (v : Valid t) where
   -- ---- the rows that stay
   -- a row stays exactly if it was there and is not redundant
   pub remaining-exactly :
-      (s a u : ℕ) → Mem {A = Row} (s, (a, u)) (remainingRows t) ↔ (Step t s a u × (Redundant t s a u → ⊥))
+      (s a u : ℕ) → StepIn (remainingRows t) s a u ↔ (Step t s a u × (Redundant t s a u → ⊥))
   unfolding remainingRows remains rowIn
   remaining-exactly s a u = (
     λ k.
@@ -142,7 +142,7 @@ module _ (t : Lts) (v : Valid t) where
   -- no other list of rows is ascending and has just the rows that stay
   pub remaining-unique :
       (l : List Row) → Ascending rowLt l
-      → ((s a u : ℕ) → Mem {A = Row} (s, (a, u)) l ↔ (Step t s a u × (Redundant t s a u → ⊥))) → l ≡ remainingRows t
+      → ((s a u : ℕ) → StepIn l s a u ↔ (Step t s a u × (Redundant t s a u → ⊥))) → l ≡ remainingRows t
   remaining-unique l up is =
       ascending-unique rowLt row-order l (remainingRows t) up remaining-ascending
       (λ z k. remaining-exactly (z .0) (z .1 .0) (z .1 .1) .1 (is (z .0) (z .1 .0) (z .1 .1) .0 k))

@@ -5,7 +5,7 @@ use mathlib.Core.List.{List}
 use Prim.Native.Nat.{ℕ, _<_}
 use lib.Dec.{eqb}
 use lib.ListN.{length, getD}
-use Rattle.columns.specs.Answers.{bit}
+use Rattle.columns.specs.Counting.{bit}
 use Rattle.columns.proofs.Lists.{length-listed, listed-at}
 use Rattle.table.specs.Lts.{Lts, Valid}
 use Rattle.table.specs.Reach.{reaches}

@@ -8,7 +8,7 @@ use native.Mathlib.Omega.{arith}
 use lib.ListN.{length}
 use Rattle.columns.specs.Answers.{done}
 use Rattle.columns.specs.Columns.{zeroed}
-use Rattle.columns.specs.Sets.{Mem, Row, rowLt, Ascending}
+use Rattle.columns.specs.Sets.{rowLt, Ascending, StepIn}
 use Rattle.columns.proofs.Counting.{many-le}
 use Rattle.columns.proofs.Doing.{leaving-done}
 use Rattle.table.specs.Lts.{Lts, Step, Valid}
@@ -33,7 +33,7 @@ pub record RemoveDone
   -- the rows that stay are over the first cells of the result columns, and nothing else is written
   pub rows : left ≡ rowsOver (remainingRows t) out
   -- a row stays exactly if it was there and is not redundant: every test is against the whole table
-  pub exactly : (s a u : ℕ) → Mem {A = Row} (s, (a, u)) (remainingRows t) ↔ (Step t s a u × (Redundant t s a u → ⊥))
+  pub exactly : (s a u : ℕ) → StepIn (remainingRows t) s a u ↔ (Step t s a u × (Redundant t s a u → ⊥))
   pub ascending : Ascending rowLt (remainingRows t)
   -- what is left is a right table
   pub table : Valid (tableOf (t .n) (t .labels) (t .initial) (remainingRows t))

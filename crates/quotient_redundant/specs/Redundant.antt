@@ -8,24 +8,26 @@ use lib.ListN.{getD}
 use Rattle.columns.specs.Counting.{some, members}
 use Rattle.columns.specs.Sets.{Row}
 use Rattle.columns.specs.Rows.{rowIn}
+use Rattle.table.specs.Hidden.{tauLoop}
 use Rattle.table.specs.Lts.{Lts, rowAt, Step}
-use Rattle.table.specs.Reach.{Walk, edge, reaches}
+use Rattle.table.specs.Reach.{Way, reaches}
 
 -- document 01's words: s reaches `from` by hidden steps, there is a row (from, a, to), and `to` reaches u by hidden steps; it is not
 -- the row (s, a, u) itself, and no hidden self-loop
 pub record Redundant (t : Lts) (s a u : ℕ) : Type 0 where
   pub from : ℕ
   pub to : ℕ
-  pub before : Walk (edge t true) s from
+  pub before : Way t true s from
   pub row : Step t from a to
-  pub after : Walk (edge t true) to u
+  pub after : Way t true to u
   pub other : from ≡ s → to ≡ u → ⊥
   pub moves : a ≡ 0 → from ≡ to → ⊥
 
 -- ---- the same as tests
 -- row j is no hidden self-loop
 unfoldable pub moves : List ℕ → List ℕ → List ℕ → ℕ → Bool
-moves source label target j = not (eqb (getD label j 0) 0 && eqb (getD source j 0) (getD target j 0))
+unfolding tauLoop rowIn
+moves source label target j = not (tauLoop (rowIn source label target j))
 
 -- row j is not row i, has its label, and is no hidden self-loop
 unfoldable pub rival : List ℕ → List ℕ → List ℕ → ℕ → ℕ → Bool

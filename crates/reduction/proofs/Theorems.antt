@@ -8,13 +8,13 @@ use mathlib.Core.List.{List, map}
 use Prim.Native.Nat.{ℕ, _-_, _≤_, _<_}
 use native.Mathlib.Omega.{arith}
 use lib.ListN.{length, getD}
-use Rattle.bisimulation.specs.Bisimulation as B
 use Rattle.bisimulation.specs.Bisimulation.{Match, Bisimulation, Bisimilar}
-use Rattle.bisimulation.specs.Quotient.{blockOf, Belongs}
+use Rattle.bisimulation.specs.Quotient.{Belongs}
+use Rattle.columns.specs.Blocks.{blockOf}
 use Rattle.bisimulation.proofs.Quotients.{quotient-in, quotient-ascending}
 use Rattle.columns.specs.Answers.{done}
 use Rattle.columns.specs.Columns.{listed}
-use Rattle.columns.specs.Sets.{Row}
+use Rattle.columns.specs.Sets.{Row, StepIn}
 use Rattle.columns.proofs.Lists.{over-front}
 use Rattle.columns.proofs.Saying.{left-done}
 use Rattle.reduction.specs.Reducing.{Slices, reductionRefusal, reductionNumbers, reductionLeft, strongReduction, answeredTable, Ready}
@@ -108,16 +108,16 @@ module _ (t : Lts) (given left : Slices) (values : List ℕ) (e : strongReductio
   pub step-of-block : (s a u : ℕ) → Step t s a u → Step result (block s) a (block u)
   step-of-block s a u k =
       let w = valid-range t valid in
-      subst (λ (l : List Row). B.Step l (block s) a (block u)) (sym rows-defined)
-      (subst (λ (b : ℕ). B.Step (strongRows t) b a (block u)) (sym (block-defined s (w .source s a u k)))
-      (subst (λ (c : ℕ). B.Step (strongRows t) (strongBlock t s) a c) (sym (block-defined u (w .target s a u k)))
+      subst (λ (l : List Row). StepIn l (block s) a (block u)) (sym rows-defined)
+      (subst (λ (b : ℕ). StepIn (strongRows t) b a (block u)) (sym (block-defined s (w .source s a u k)))
+      (subst (λ (c : ℕ). StepIn (strongRows t) (strongBlock t s) a c) (sym (block-defined u (w .target s a u k)))
       (quotient-in (strongBlock t) (rows t) s a u k)))
 
   -- Each step of a block is answered by every state in it, with a target in the right block.
   pub block-answered : (b a c : ℕ) → Step result b a c → (s : ℕ) → In s b → Match (rows t) s a (λ u. In u c)
   block-answered b a c k s h =
       let g =
-      D.block-answered t valid b a c (subst (λ (l : List Row). B.Step l b a c) (sym reduced-rows) k) s (to-defined s b h) in
+      D.block-answered t valid b a c (subst (λ (l : List Row). StepIn l b a c) (sym reduced-rows) k) s (to-defined s b h) in
       record { target = g .target; step = g .step; related = from-defined (g .target) c (g .related) }
 
   -- The start maps to the start.
@@ -192,7 +192,7 @@ module _ (t : Lts) (given left : Slices) (values : List ℕ) (e : strongReductio
       }
       (λ s a u k.
       step-fields (strongReduced t) v s a u
-      (subst (λ (l : List Row). B.Step l s a u) (sym (quotientOf-rows t (strongCount t) (strongBlocks t))) k))
+      (subst (λ (l : List Row). StepIn l s a u) (sym (quotientOf-rows t (strongCount t) (strongBlocks t))) k))
       (quotient-ascending (strongBlock t) (rows t)))
 
   -- Nothing is left to reduce in it: states that some bisimulation relates are one state.

@@ -14,7 +14,7 @@ use Rattle.refinement.specs.Blocks.{blockCount}
 use Rattle.refinement_strong.specs.Reduction.{strongBlocks, strongBlock, strongRounds, strongCount, strongRows}
 use Rattle.table.specs.Checks.{worksLong, rowsLong, badRow, tableTests}
 use Rattle.table.specs.Lts.{Lts, Valid}
-use Rattle.table.specs.Tables.{Three, lengthsOf, rowsOver}
+use Rattle.table.specs.Tables.{Three, lengthsOf, rowsOver, tableBy}
 
 -- 1, 2, 3, 4, 7, 5 and 6, and nothing else; the result columns, the block column and the work slices by their lengths
 unfoldable pub reductionRefusal : Lts → List ℕ → ℕ → List ℕ → Refusal
@@ -45,16 +45,7 @@ strongReduction t lent =
 
 -- the table that an answer's numbers and the result columns make
 abbrev pub answeredTable : List ℕ → Slices → Lts
-answeredTable values left =
-    record {
-      n = getD values 0 0;
-      labels = getD values 1 0;
-      m = getD values 2 0;
-      initial = getD values 3 0;
-      source = left .0 .0;
-      label = left .0 .1 .0;
-      target = left .0 .1 .1;
-    }
+answeredTable values left = tableBy (getD values 0 0) (getD values 1 0) (getD values 2 0) (getD values 3 0) (left .0)
 
 -- a right table, and room in the result columns, in the block column and in the work slices
 pub record Ready (t : Lts) (results : List ℕ) (block : ℕ) (works : List ℕ) : Type 0 where

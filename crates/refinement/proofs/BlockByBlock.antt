@@ -6,9 +6,8 @@ use mathlib.Core.List.{List}
 use Prim.Native.Nat.{ℕ, _+_, _≤_, _<_}
 use native.Mathlib.Omega.{arith}
 use lib.ListN.{getD}
-use Rattle.bisimulation.specs.Quotient.{blockOf}
+use Rattle.columns.specs.Blocks.{blockOf, Finer}
 use Rattle.columns.proofs.All.{same-or-not, lt-or-le}
-use Rattle.refinement.specs.Blocks.{Finer}
 use Rattle.refinement.specs.Rounds.{Signature, Refined}
 use Rattle.refinement.specs.Runs.{RefinedBelow}
 

@@ -7,16 +7,27 @@ use native.Mathlib.Nat.{le-antisymm}
 use native.Mathlib.Omega.{arith}
 use borrow.Author.Tests.{eqb-true, eq-eqb}
 use lib.ListN.{length}
-use Rattle.bisimulation.specs.Quotient.{blockOf}
+use Rattle.columns.specs.Blocks.{blockOf, Finer}
 use Rattle.columns.specs.Columns.{listed}
 use Rattle.columns.specs.Counting.{many}
 use Rattle.columns.specs.Number.{least, leads, number}
 use Rattle.columns.proofs.Bools.{bool-ext}
 use Rattle.columns.proofs.Counting.{many-all, many-le, many-strict}
 use Rattle.columns.proofs.Lists.{length-listed, listed-at, listed-cong}
-use Rattle.columns.proofs.Numbering.{Equivalence, least-eq, least-le, least-leads, blocks-grow, blocks-same}
-use Rattle.columns.proofs.Numbering.{number-same, number-differ, number-cong, number-bound, number-onto}
-use Rattle.refinement.specs.Blocks.{Finer, SameBlocks, share, blockCount, byLeast}
+use Rattle.columns.proofs.Numbering.{
+  Equivalence,
+  least-eq,
+  least-le,
+  least-leads,
+  blocks-grow,
+  blocks-same,
+  number-same,
+  number-differ,
+  number-cong,
+  number-bound,
+  number-onto,
+}
+use Rattle.refinement.specs.Blocks.{SameBlocks, share, blockCount, byLeast}
 
 -- ---- the test
 module _ (p : List ℕ) where

@@ -7,14 +7,14 @@ use native.Mathlib.Nat.{le-antisymm}
 use native.Mathlib.Omega.{arith}
 use borrow.Author.Tests.{eqb-true, eq-eqb}
 use lib.Dec.{eqb}
-use Rattle.bisimulation.specs.Quotient.{blockOf}
-use Rattle.columns.specs.Counting.{many}
+use Rattle.columns.specs.Blocks.{blockOf}
+use Rattle.columns.specs.Counting.{many, bit}
 use Rattle.columns.specs.Number.{least, leads}
 use Rattle.columns.proofs.Bools.{and-left, and-right, and-both}
-use Rattle.columns.proofs.Counting.{one-if, many-sum, many-once, many-strict, sum-pick}
+use Rattle.columns.proofs.Counting.{many-sum, many-once, many-strict}
 use Rattle.columns.proofs.Numbering.{least-le, least-eq, least-same, least-leads, leads-least}
 use Rattle.columns.proofs.Owners.{by-numbers}
-use Rattle.columns.proofs.Sums.{sum-cong, sum-one}
+use Rattle.columns.proofs.Sums.{sum-cong, sum-one, sum-pick}
 use Rattle.refinement.specs.Blocks.{share, blockCount}
 use Rattle.refinement.proofs.Blocks.{share-in, share-out, share-equivalence, Member}
 
@@ -52,15 +52,15 @@ module _ (n c : ℕ) (p : List ℕ) (below : (s : ℕ) → s < n → blockOf p s
           and-both (eq-eqb _ _ (share-out p at (some .state) (least-eq (share p) (share-equivalence p) (some .state)) ∙ some .home))
           (least-leads (share p) (share-equivalence p) (some .state))
 
-  in-one : (s : ℕ) → s < n → many c (λ b. heads b s) ≡ one-if (leads (share p) s)
-  unfolding heads one-if
+  in-one : (s : ℕ) → s < n → many c (λ b. heads b s) ≡ bit (leads (share p) s)
+  unfolding heads
   in-one s h =
       many-sum c (λ b. heads b s)
-      ∙ sum-cong (λ b. one-if (heads b s)) (λ b. cond (eqb (blockOf p s) b) (one-if (leads (share p) s)) 0) c
+      ∙ sum-cong (λ b. bit (heads b s)) (λ b. cond (eqb (blockOf p s) b) (bit (leads (share p) s)) 0) c
       (λ b _. pull (eqb (blockOf p s) b) (leads (share p) s))
-      ∙ sum-pick (blockOf p s) c (λ _. one-if (leads (share p) s)) (below s h)
+      ∙ sum-pick (blockOf p s) c (λ _. bit (leads (share p) s)) (below s h)
     where
-      pull : (x o : Bool) → one-if (x && o) ≡ cond x (one-if o) 0
+      pull : (x o : Bool) → bit (x && o) ≡ cond x (bit o) 0
       pull true o = refl
       pull false o = refl
 
@@ -68,6 +68,6 @@ module _ (n c : ℕ) (p : List ℕ) (below : (s : ℕ) → s < n → blockOf p s
   unfolding blockCount heads
   dense-blocks =
       many-sum n (leads (share p))
-      ∙ sum-cong (λ s. one-if (leads (share p) s)) (λ s. many c (λ b. heads b s)) n (λ s h. sym (in-one s h))
+      ∙ sum-cong (λ s. bit (leads (share p) s)) (λ s. many c (λ b. heads b s)) n (λ s h. sym (in-one s h))
       ∙ sym (by-numbers n (blockOf p) (leads (share p)) (λ b. b) c)
       ∙ sum-cong (λ b. many n (heads b)) (λ _. 1) c one-head ∙ sum-one c

@@ -8,7 +8,7 @@ use native.Mathlib.Omega.{arith}
 use borrow.Author.Tests.{eqb-true, eq-eqb}
 use lib.Dec.{eqb}
 use lib.ListN.{length, length-replicate}
-use Rattle.bisimulation.specs.Quotient.{blockOf}
+use Rattle.columns.specs.Blocks.{blockOf}
 use Rattle.columns.specs.Columns.{zeros}
 use Rattle.columns.specs.Counting.{many}
 use Rattle.columns.specs.Number.{least, leads, number}
@@ -22,8 +22,18 @@ use Rattle.columns.proofs.Numbering.{Equivalence, least-min, number-same, numbe
 use Rattle.columns.proofs.Sets.{same-eq, same-refl, pairEq-eq, pairEq-refl}
 use Rattle.refinement.specs.Blocks.{SameBlocks, share, blockCount, byLeast}
 use Rattle.refinement.specs.Rounds.{Signature, together, round, afterRounds, stable, splittingRounds, final, Unsplit, Refined}
-use Rattle.refinement.proofs.Blocks.{share-in, share-out, share-equivalence, blocks-most, blocks-some, finer-same}
-use Rattle.refinement.proofs.Blocks.{byLeast-unique, byLeast-below, Member, byLeast-onto}
+use Rattle.refinement.proofs.Blocks.{
+  share-in,
+  share-out,
+  share-equivalence,
+  blocks-most,
+  blocks-some,
+  finer-same,
+  byLeast-unique,
+  byLeast-below,
+  Member,
+  byLeast-onto,
+}
 
 -- ---- the test of a round
 module _ (sig : Signature) (p : List ℕ) where

@@ -7,7 +7,7 @@ use mathlib.Core.List.{List}
 use Prim.Native.Nat.{ℕ, suc, _+_, _≤_, _<_}
 use native.Mathlib.Numerals.{add-one}
 use native.Mathlib.Omega.{arith}
-use Rattle.bisimulation.specs.Quotient.{blockOf}
+use Rattle.columns.specs.Blocks.{blockOf}
 use Rattle.columns.proofs.All.{top-or-below}
 use Rattle.columns.proofs.Bools.{fails}
 use Rattle.refinement.specs.Blocks.{SameBlocks, blockCount, byLeast}

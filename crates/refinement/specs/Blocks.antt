@@ -4,14 +4,10 @@ use mathlib.Core.Bool.{Bool}
 use mathlib.Core.List.{List}
 use Prim.Native.Nat.{ℕ, _<_}
 use lib.Dec.{eqb}
-use Rattle.bisimulation.specs.Quotient.{blockOf}
+use Rattle.columns.specs.Blocks.{blockOf, Finer}
 use Rattle.columns.specs.Columns.{listed}
 use Rattle.columns.specs.Counting.{many}
 use Rattle.columns.specs.Number.{leads, number}
-
--- states that share a block of p share one of q
-abbrev pub Finer : ℕ → List ℕ → List ℕ → Type 0
-Finer n p q = (s t : ℕ) → s < n → t < n → blockOf p s ≡ blockOf p t → blockOf q s ≡ blockOf q t
 
 -- p and q have the same blocks
 pub record SameBlocks (n : ℕ) (p q : List ℕ) : Type 0 where

@@ -6,12 +6,12 @@ use mathlib.Core.Bool.{Bool, _&&_}
 use mathlib.Core.List.{List}
 use Prim.Native.Nat.{ℕ, zero, suc, _<_}
 use lib.Dec.{eqb}
-use Rattle.bisimulation.specs.Quotient.{blockOf}
+use Rattle.columns.specs.Blocks.{blockOf, Finer}
 use Rattle.columns.specs.Columns.{listed, zeros}
 use Rattle.columns.specs.Counting.{first}
 use Rattle.columns.specs.Number.{number}
 use Rattle.columns.specs.Sets.{Pair, pairEq, same}
-use Rattle.refinement.specs.Blocks.{Finer, SameBlocks}
+use Rattle.refinement.specs.Blocks.{SameBlocks, share}
 
 -- the signature of each state under a partition
 abbrev pub Signature : Type 0
@@ -23,8 +23,8 @@ ByBlocks n sig = (p q : List ℕ) → SameBlocks n p q → (s t : ℕ) → s < n
 
 -- two states stay together in a round that starts with p
 unfoldable pub together : Signature → List ℕ → ℕ → ℕ → Bool
-unfolding same pairEq
-together sig p s t = eqb (blockOf p s) (blockOf p t) && same pairEq (sig p s) (sig p t)
+unfolding share same pairEq
+together sig p s t = share p s t && same pairEq (sig p s) (sig p t)
 
 module _ (n : ℕ) (sig : Signature) where
   -- one round: the blocks of p split by signature, and numbered by least member

@@ -3,8 +3,8 @@ use mathlib.Core.Path.{_≡_}
 use mathlib.Core.Logic.{_⊎_}
 use mathlib.Core.List.{List}
 use Prim.Native.Nat.{ℕ, _≤_, _<_}
-use Rattle.bisimulation.specs.Quotient.{blockOf}
-use Rattle.refinement.specs.Blocks.{Finer, byLeast}
+use Rattle.columns.specs.Blocks.{blockOf, Finer}
+use Rattle.refinement.specs.Blocks.{byLeast}
 use Rattle.refinement.specs.Rounds.{Signature, splittingRounds, final}
 
 -- q is p with the blocks numbered below b split by signature under p; `count` is meant to be the block count of p

@@ -1,25 +1,23 @@
 -- A block that is wholly marked, divided by `partition_marked_with`: a turn of a round.
-use mathlib.Core.Path.{_≡_, ap}
+use mathlib.Core.Path.{_≡_}
 use mathlib.Core.Bool.{true}
 use mathlib.Core.List.{List}
 use Prim.Native.Nat.{ℕ, _+_, _≤_, _<_}
-use native.Mathlib.Omega.{arith}
 use lib.ListN.{getD}
 use Rattle.partition_division.specs.Divide.{partitionMarked}
-use Rattle.partition_division.specs.Marked.{markedIn}
+use Rattle.partition.specs.Marked.{markedIn}
 use Rattle.partition_division.specs.Steps.{Dividable}
-use Rattle.partition_division.proofs.Marked.{marked-of}
+use Rattle.partition.proofs.Marked.{whole-marked}
 use Rattle.partition_division.proofs.PartitionMarked.{Splits, partitionMarked-splits}
-use Rattle.partition.specs.Partition.{Partition}
+use Rattle.partition.specs.Partition.{Partition, homeOf}
 use Rattle.refinement.specs.Rounds.{Signature}
 use Rattle.refinement.specs.Runs.{RefinedBelow}
 use Rattle.refinement.proofs.BlockByBlock.{Divides, Numbers, below-more}
 
 -- block b can be divided by the numbers v, and all its states are marked: its marks begin where it begins
 module _ (p : Partition) (b : ℕ) (v : List ℕ) (y : Dividable p b v) (all : getD (p .marked-split) b 0 ≡ getD (p .begin) b 0) where
-  whole-marked : (s : ℕ) → s < p .n → getD (p .element-to-block) s 0 ≡ b → markedIn p b s ≡ true
-  whole-marked s l e =
-      marked-of p b v s e (omega (arith, all, y .sound .consistent .lies s l .from, ap (λ (x : ℕ). getD (p .begin) x 0) e))
+  marked : (s : ℕ) → s < p .n → homeOf p s ≡ b → markedIn p b s ≡ true
+  marked = whole-marked p (y .sound .consistent) b all
 
   pub divides : Divides (p .n) b (p .count) v (p .element-to-block) (partitionMarked p b v .element-to-block)
   divides =
@@ -27,8 +25,8 @@ module _ (p : Partition) (b : ℕ) (v : List ℕ) (y : Dividable p b v) (all : g
       record {
         outside = d .outside;
         inside = d .inside;
-        together = λ s t hs ht e f. d .together s t hs ht (whole-marked s hs e) (whole-marked t ht f);
-        numbers = λ s t hs ht e f. d .numbers s t hs ht (whole-marked s hs e) (whole-marked t ht f);
+        together = λ s t hs ht e f. d .together s t hs ht (marked s hs e) (marked t ht f);
+        numbers = λ s t hs ht e f. d .numbers s t hs ht (marked s hs e) (marked t ht f);
       }
 
   -- p has the blocks below b of `home` split, `home` being the block column as the round began, of `count` blocks; now b is split too

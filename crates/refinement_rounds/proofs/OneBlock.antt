@@ -7,9 +7,8 @@ use Prim.Native.Nat.{ℕ, _+_, _-_, _≤_, _<_}
 use native.Mathlib.Omega.{arith}
 use borrow.Author.Tests.{eq-eqb, ne-eqb, lt-ltb}
 use lib.Dec.{ltb}
-use lib.ListN.{length, getD, set, length-set}
-use lib.Seq.{getD-set-same, getD-set-other}
-use Rattle.bisimulation.specs.Quotient.{blockOf}
+use lib.ListN.{getD, set}
+use Rattle.columns.specs.Blocks.{blockOf}
 use Rattle.columns.specs.Counting.{many}
 use Rattle.columns.specs.Limits.{maxStates}
 use Rattle.columns.specs.Number.{leads, number}
@@ -18,17 +17,20 @@ use Rattle.columns.proofs.Bools.{and-both, contra}
 use Rattle.columns.proofs.Counting.{first-law, many-le, many-strict}
 use Rattle.columns.proofs.Numbering.{Equivalence, number-same, number-differ, number-bound, number-onto}
 use Rattle.partition_division.specs.Divide.{home, divided, blockUnmarked, partitionMarked}
-use Rattle.partition_division.specs.Marked.{markedIn, numbered, absent, missing, denseb, lenAt}
+use Rattle.partition_division.specs.Marked.{numbered, absent, missing, denseb, lenAt}
+use Rattle.partition.specs.Marked.{markedIn}
 use Rattle.partition_division.specs.Steps.{Dividable}
 use Rattle.partition_division.proofs.Divided.{count-more}
-use Rattle.partition_division.proofs.Marked.{marked-block, marked-of}
+use Rattle.partition.proofs.Changed.{marks-begin, marks-long, marks-consistent}
+use Rattle.partition.proofs.Marked.{marked-block, whole-marked}
 use Rattle.partition_division.proofs.PartitionMarked.{by-one, by-more, partitionMarked-consistent, partitionMarked-long}
 use Rattle.partition.specs.Partition.{Partition, parts, Consistent, Long, Sound}
 use Rattle.partition.specs.SwapBlocks.{swap}
 use Rattle.partition.proofs.Owned.{owned}
+use Rattle.partition.proofs.Standing.{stands}
 use Rattle.refinement_partition.proofs.Divisions.{turn}
 use Rattle.refinement_rounds.specs.Splitting.{storedSignature, wholly, Split}
-use Rattle.refinement_signing.specs.Numbered.{alikeAt, Stand, Numbered}
+use Rattle.refinement_signing.specs.Numbered.{alikeAt, Numbered}
 use Rattle.refinement_signing.specs.Stored.{Store, stored}
 use Rattle.refinement_signing.proofs.Numberings.{at-in, at-out, alike-equivalence}
 use Rattle.refinement.specs.Runs.{RefinedBelow}
@@ -45,65 +47,18 @@ more-blocks p b v y =
     (same-or-not (lenAt p b) 1)
 
 module _ (p : Partition) (g : Sound p) (b : ℕ) (hb : b < p .count) where
-  -- ---- the states of the block stand between its bounds
-  pub stands : Stand (p .elements) (p .n) (getD (p .begin) b 0) (getD (p .end) b 0 - getD (p .begin) b 0)
-  stands =
-      let w = g .consistent .bounds b hb in
-      record {
-        long = omega (arith, w .some, w .most, g .long .elements);
-        below = λ i l. g .consistent .order .below (getD (p .begin) b 0 + i) (omega (arith, l, w .most));
-        once = λ i j l h e.
-            let o = g .consistent .order in
-            omega (
-              arith,
-              o .back (getD (p .begin) b 0 + i) (omega (arith, l, h, w .most)),
-              o .back (getD (p .begin) b 0 + j) (omega (arith, h, w .most)),
-              ap (λ (s : ℕ). getD (p .element-offset) s 0) e,
-              l,
-            );
-      }
-
   -- ---- the block wholly marked
-  split-room : b < length (p .marked-split)
-  split-room = omega (arith, hb, g .consistent .most, g .long .marked-split)
-
   marked-whole : getD (set (p .marked-split) b (getD (p .begin) b 0)) b 0 ≡ getD (p .begin) b 0
-  marked-whole = getD-set-same (p .marked-split) b (getD (p .begin) b 0) 0 split-room
+  marked-whole = marks-begin p (g .consistent) (g .long) b (getD (p .begin) b 0) hb
 
   pub wholly-sound : Sound (wholly p b)
   wholly-sound =
-      let h = g .consistent in
-      let l = g .long in
+      let x = getD (p .begin) b 0 in
       record {
         small = g .small;
-        long = record {
-          elements = l .elements;
-          element-offset = l .element-offset;
-          element-to-block = l .element-to-block;
-          begin = l .begin;
-          marked-split = omega (arith, l .marked-split, length-set (p .marked-split) b (getD (p .begin) b 0));
-          end = l .end;
-        };
-        consistent = record {
-          some = h .some;
-          most = h .most;
-          order = h .order;
-          places = h .places;
-          bounds = λ j w.
-              let i = h .bounds j w in
-              ⊎-elim
-              (λ (e : j ≡ b).
-              let q : getD (set (p .marked-split) b (getD (p .begin) b 0)) j 0 ≡ getD (p .begin) j 0
-              = ap (λ (y : ℕ). getD (set (p .marked-split) b (getD (p .begin) b 0)) y 0) e ∙ marked-whole
-              ∙ ap (λ (y : ℕ). getD (p .begin) y 0) (sym e) in
-              record { some = i .some; from = omega (arith, q); to = omega (arith, q, i .some); most = i .most })
-              (λ (m : j ≡ b → ⊥).
-              let q = getD-set-other (p .marked-split) b j (getD (p .begin) b 0) 0 m in
-              record { some = i .some; from = omega (arith, q, i .from); to = omega (arith, q, i .to); most = i .most })
-              (same-or-not j b);
-          lies = λ s w. let i = h .lies s w in record { known = i .known; from = i .from; to = i .to };
-          whole = h .whole;
-        };
+        long = marks-long p (g .consistent) (g .long) b x hb;
+        consistent =
+            marks-consistent p (g .consistent) (g .long) b x hb (omega arith) (omega (arith, g .consistent .bounds b hb .some));
       }
 
   -- ---- the states are numbered by signature
@@ -169,9 +124,7 @@ module _ (p : Partition) (g : Sound p) (b : ℕ) (hb : b < p .count) where
 
       -- ---- the numbers are dense
       whole : (s : ℕ) → s < p .n → getD (p .element-to-block) s 0 ≡ b → markedIn (wholly p b) b s ≡ true
-      whole s l e =
-          marked-of (wholly p b) b v s e
-          (omega (arith, marked-whole, g .consistent .lies s l .from, ap (λ (y : ℕ). getD (p .begin) y 0) e))
+      whole = whole-marked (wholly p b) (wholly-sound .consistent) b marked-whole
 
       occurs : (k : ℕ) → k < many len (leads eq) → absent (wholly p b) b v k ≡ false
       unfolding absent numbered
@@ -179,7 +132,7 @@ module _ (p : Partition) (g : Sound p) (b : ℕ) (hb : b < p .count) where
           let o = number-onto eq same len k l in
           let i : ℕ = o .0 in
           let s : ℕ = getD (p .elements) (getD (p .begin) b 0 + i) 0 in
-          let hs : s < p .n = stands .below i (o .1) in
+          let hs : s < p .n = stands p g b hb _ _ refl refl .below i (o .1) in
           let home : getD (p .element-to-block) s 0 ≡ b
           = owned p (g .consistent) b (getD (p .begin) b 0 + i) hb (omega arith) (omega (arith, o .1)) in
           let n : getD v s 0 ≡ k = num .given i (o .1) ∙ o .2 in
@@ -212,7 +165,7 @@ module _ (p : Partition) (g : Sound p) (b : ℕ) (hb : b < p .count) where
           go :
               (s : ℕ) → s < p .n → (m : Bool) → markedIn (wholly p b) b s ≡ m
               → cond m (ltb (getD v s 0) (missing (wholly p b) b v)) true ≡ true
-          go s l true e = lt-ltb (getD v s 0) (missing (wholly p b) b v) (below s l (marked-block (wholly p b) b v s e))
+          go s l true e = lt-ltb (getD v s 0) (missing (wholly p b) b v) (below s l (marked-block (wholly p b) b s e))
           go s l false e = refl
 
       pub ready : Dividable (wholly p b) b v
@@ -247,28 +200,25 @@ module _
     pub read-bounds : (x ≤ z) × (z - x ≤ maxStates)
     read-bounds = let w = g .consistent .bounds b hb in (omega (arith, ex, ez, w .some), omega (arith, ex, ez, w .most, g .small))
 
-    pub read-stands : Stand (p .elements) (p .n) x (z - x)
-    read-stands = rw (ex, ez) (stands p g b hb)
-
     module _
         (σ : Store) (v : List ℕ) (r : ℕ) (num : Numbered (alikeAt (p .elements) σ x) (p .elements) x (z - x) v r) (m : List ℕ)
         (em : m ≡ set (p .marked-split) b (getD (p .begin) b 0))
       where
         -- the partition with the marks as they are written
-        abbrev pub markedBy : Partition
-        markedBy = parts (p .elements) (p .element-offset) (p .element-to-block) (p .begin) m (p .end) (p .n) (p .count)
+        abbrev pub asMarked : Partition
+        asMarked = parts (p .elements) (p .element-offset) (p .element-to-block) (p .begin) m (p .end) (p .n) (p .count)
 
         named : Numbered (alikeAt (p .elements) σ (getD (p .begin) b 0)) (p .elements) (getD (p .begin) b 0)
             (getD (p .end) b 0 - getD (p .begin) b 0) v r
         named = rw (ex, ez) at num
 
-        marked-parts : markedBy ≡ wholly p b
+        marked-parts : asMarked ≡ wholly p b
         marked-parts =
             ap (λ (l : List ℕ). parts (p .elements) (p .element-offset) (p .element-to-block) (p .begin) l (p .end) (p .n) (p .count)) em
 
-        pub read-ready : Dividable markedBy b v
+        pub read-ready : Dividable asMarked b v
         read-ready = subst (λ (t : Partition). Dividable t b v) (sym marked-parts) (ready p g b hb σ v r named)
 
-        pub read-divided : (q : Partition) → q ≡ partitionMarked markedBy b v → q .n ≡ p .n → Split (storedSignature σ) p b q
+        pub read-divided : (q : Partition) → q ≡ partitionMarked asMarked b v → q .n ≡ p .n → Split (storedSignature σ) p b q
         read-divided q e en =
             divided-next p g b hb σ v r named q (e ∙ ap (λ (t : Partition). partitionMarked t b v) marked-parts) en

@@ -8,7 +8,8 @@ use lib.ListN.{length, getD, take, drop, length-append, length-drop, length-repl
 use lib.Seq.{take-at, drop-at, getD-take, length-take-le}
 use Rattle.columns.specs.Columns.{zeros}
 use Rattle.columns.proofs.Parts.{part-end, put-end}
-use Rattle.partition.specs.Partition.{Partition, parts, Sound}
+use Rattle.partition.specs.Partition.{Partition, Sound, reordered}
+use Rattle.partition.proofs.Changed.{order-sound}
 use Rattle.refinement_rounds.specs.Rooms.{ClearFront, storeBehind}
 use Rattle.refinement_signing.specs.Stored.{store}
 
@@ -79,37 +80,19 @@ pub sound-front :
     (p : Partition) → Sound p → (elements offset : List ℕ) → length elements ≡ length (p .elements)
     → length offset ≡ length (p .element-offset) → ((i : ℕ) → i < p .n → getD elements i 0 ≡ getD (p .elements) i 0)
     → ((i : ℕ) → i < p .n → getD offset i 0 ≡ getD (p .element-offset) i 0)
-    → Sound (parts elements offset (p .element-to-block) (p .begin) (p .marked-split) (p .end) (p .n) (p .count))
+    → Sound (reordered p elements offset)
 sound-front p g elements offset le lo e o =
     let h = g .consistent in
+    order-sound p g elements offset (omega (arith, g .long .elements, le)) (omega (arith, g .long .element-offset, lo))
     record {
-      small = g .small;
-      long = record {
-        elements = omega (arith, g .long .elements, le);
-        element-offset = omega (arith, g .long .element-offset, lo);
-        element-to-block = g .long .element-to-block;
-        begin = g .long .begin;
-        marked-split = g .long .marked-split;
-        end = g .long .end;
-      };
-      consistent = record {
-        some = h .some;
-        most = h .most;
-        order = record {
-          below = λ i l. omega (arith, h .order .below i l, e i l);
-          back = λ i l.
-              ap (λ (s : ℕ). getD offset s 0) (e i l) ∙ o (getD (p .elements) i 0) (h .order .below i l) ∙ h .order .back i l;
-        };
-        places = record {
-          below = λ i l. omega (arith, h .places .below i l, o i l);
-          back = λ i l.
-              ap (λ (s : ℕ). getD elements s 0) (o i l) ∙ e (getD (p .element-offset) i 0) (h .places .below i l)
-              ∙ h .places .back i l;
-        };
-        bounds = h .bounds;
-        lies = λ s l.
-            let i = h .lies s l in
-            record { known = i .known; from = omega (arith, i .from, o s l); to = omega (arith, i .to, o s l) };
-        whole = h .whole;
-      };
+      below = λ i l. omega (arith, h .order .below i l, e i l);
+      back = λ i l. ap (λ (s : ℕ). getD offset s 0) (e i l) ∙ o (getD (p .elements) i 0) (h .order .below i l) ∙ h .order .back i l;
     }
+    record {
+      below = λ i l. omega (arith, h .places .below i l, o i l);
+      back = λ i l.
+          ap (λ (s : ℕ). getD elements s 0) (o i l) ∙ e (getD (p .element-offset) i 0) (h .places .below i l) ∙ h .places .back i l;
+    }
+    (λ s l.
+    let i = h .lies s l in
+    record { known = i .known; from = omega (arith, i .from, o s l); to = omega (arith, i .to, o s l) })

@@ -1,8 +1,8 @@
 -- A partition divided by the signatures that are stored: one block, all blocks of a round, and the rounds until nothing splits.
 use mathlib.Core.List.{List}
 use Prim.Native.Nat.{ℕ, _+_, _≤_, _<_}
-use lib.ListN.{getD, set}
-use Rattle.partition.specs.Partition.{Partition, parts, Sound}
+use lib.ListN.{getD}
+use Rattle.partition.specs.Partition.{Partition, Sound, withSplit}
 use Rattle.refinement.specs.Rounds.{Signature, Refined}
 use Rattle.refinement.specs.Runs.{RefinedBelow, Settled}
 use Rattle.refinement_signing.specs.Stored.{Store, stored}
@@ -13,9 +13,7 @@ storedSignature σ = λ _ s. stored σ s
 
 -- p with block b wholly marked
 abbrev pub wholly : Partition → ℕ → Partition
-wholly p b =
-    let marked = set (p .marked-split) b (getD (p .begin) b 0) in
-    parts (p .elements) (p .element-offset) (p .element-to-block) (p .begin) marked (p .end) (p .n) (p .count)
+wholly p b = withSplit p b (getD (p .begin) b 0)
 
 -- q comes of p when block b is divided by signature: it is sound, has no fewer blocks, and is the next turn of any round that began with
 -- the block column `home` and has come to b

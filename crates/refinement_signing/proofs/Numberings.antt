@@ -14,7 +14,8 @@ use Rattle.columns.specs.Number.{least, leads, number}
 use Rattle.columns.proofs.All.{top-or-below}
 use Rattle.columns.proofs.Counting.{many-none, many-hit, many-miss, many-le}
 use Rattle.columns.proofs.Numbering.{Equivalence, least-le, least-eq, number-same}
-use Rattle.refinement_signing.specs.Numbered.{alikeAt, Stand, Numbered}
+use Rattle.refinement_signing.specs.Numbered.{alikeAt, Numbered}
+use Rattle.partition.specs.Stand.{Stand}
 use Rattle.refinement_signing.specs.Stored.{Store, stored, alike}
 use Rattle.refinement_signing.proofs.Comparisons.{alike-in, alike-out}
 
@@ -49,7 +50,7 @@ pub stand-less : (elements : List ℕ) (n x j k : ℕ) → j ≤ k → Stand ele
 stand-less elements n x j k h s = record {
   long = omega (arith, s .long);
   below = λ i l. s .below i (omega (arith, l));
-  once = λ i m l w. s .once i m l (omega (arith, w));
+  once = λ i m l w. s .once i m (omega (arith, l)) (omega (arith, w));
 }
 
 -- ---- the turns
@@ -70,7 +71,8 @@ module _ (eq : ℕ → ℕ → Bool) (q : Equivalence eq) (elements : List ℕ) 
           (λ (z : i ≡ j).
           rw z (getD-set-same numbers (getD elements (x + j) 0) v 0 (omega (arith, s .below j (omega arith), w)) ∙ e))
           (λ (k : i < j).
-          getD-set-other numbers (getD elements (x + j) 0) (getD elements (x + i) 0) v 0 (λ a. s .once i j k (omega arith) a)
+          getD-set-other numbers (getD elements (x + j) 0) (getD elements (x + i) 0) v 0
+          (λ a. omega (arith, s .once i j (omega arith) (omega arith) a))
           ∙ h .given i k)
           (top-or-below l)
 

@@ -8,7 +8,7 @@ use native.Mathlib.Numerals.{add-one}
 use native.Mathlib.Omega.{arith}
 use lib.ListN.{length, getD, set, take, length-set}
 use borrow.Rule.Slice.PartMut.{putMid}
-use Rattle.columns.specs.Columns.{listed, over, wiped, zeros}
+use Rattle.columns.specs.Columns.{listed, over, wiped, zeros, NeverFalls}
 use Rattle.columns.specs.Counting.{members}
 use Rattle.columns.specs.Rows.{pairsOf, firstOf, lastOf}
 use Rattle.columns.specs.Sets.{Pair}
@@ -21,7 +21,7 @@ use Rattle.refinement_signing.specs.Stored.{rowPairs}
 use Rattle.signatures.specs.Pairs.{Columns, signature, pairsOver}
 use Rattle.signatures.proofs.Sigs.{sig-few}
 use Rattle.signatures.specs.Strong.{ownRows, rowPair, strongPushed}
-use Rattle.table.specs.Lts.{Lts, NeverFalls}
+use Rattle.table.specs.Lts.{Lts}
 use Rattle.table.specs.Stretch.{firstRow}
 use Rattle.table.proofs.RowsOf.{ownRow, RowsFrom, first-row-is, first-row-most, before-row, from-row}
 

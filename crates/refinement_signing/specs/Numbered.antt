@@ -4,7 +4,7 @@ use mathlib.Core.Path.{_≡_}
 use mathlib.Core.Bool.{Bool}
 use mathlib.Core.List.{List}
 use Prim.Native.Nat.{ℕ, _+_, _≤_, _<_}
-use lib.ListN.{length, getD}
+use lib.ListN.{getD}
 use Rattle.columns.specs.Counting.{many}
 use Rattle.columns.specs.Number.{leads, number}
 use Rattle.refinement_signing.specs.Stored.{Store, alike}
@@ -14,13 +14,7 @@ unfoldable pub alikeAt : List ℕ → Store → ℕ → ℕ → ℕ → Bool
 unfolding alike
 alikeAt elements σ x i j = alike σ (getD elements (x + i) 0) (getD elements (x + j) 0)
 
--- from place x on stand k states below n, none twice
-pub record Stand (elements : List ℕ) (n x k : ℕ) : Type 0 where
-  pub long : x + k ≤ length elements
-  pub below : (i : ℕ) → i < k → getD elements (x + i) 0 < n
-  pub once : (i j : ℕ) → i < j → j < k → getD elements (x + i) 0 ≡ getD elements (x + j) 0 → ⊥
-
--- the first j of them have their numbers, of which there are `next`; `eq` says which places have one number
+-- the first j states from place x on have their numbers, of which there are `next`; `eq` says which places have one number
 pub record Numbered (eq : ℕ → ℕ → Bool) (elements : List ℕ) (x j : ℕ) (numbers : List ℕ) (next : ℕ) : Type 0 where
   pub exact : next ≡ many j (leads eq)
   pub given : (i : ℕ) → i < j → getD numbers (getD elements (x + i) 0) 0 ≡ number eq i

@@ -3,7 +3,7 @@ use mathlib.Core.Path.{_≡_, sym, ap, _∙_}
 use mathlib.Core.List.{List}
 use Prim.Native.Nat.{ℕ, _<_}
 use Rattle.bisimulation.specs.Bisimulation.{Bisimilar}
-use Rattle.bisimulation.specs.Quotient.{blockOf}
+use Rattle.columns.specs.Blocks.{blockOf}
 use Rattle.bisimulation.proofs.Quotients.{quotient-own}
 use Rattle.columns.specs.Columns.{listed}
 use Rattle.columns.proofs.Lists.{listed-at}

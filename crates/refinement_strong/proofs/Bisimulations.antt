@@ -5,7 +5,8 @@ use mathlib.Core.Logic.{_↔_}
 use mathlib.Core.List.{List}
 use Prim.Native.Nat.{ℕ, _<_}
 use Rattle.bisimulation.specs.Bisimulation.{InRange, Simulation, Bisimulation}
-use Rattle.bisimulation.specs.Quotient.{blockOf, Shares}
+use Rattle.bisimulation.specs.Quotient.{Shares}
+use Rattle.columns.specs.Blocks.{blockOf}
 use Rattle.bisimulation.proofs.Quotients.{shares-bisimulation}
 use Rattle.columns.specs.Sets.{Mem, Pair}
 use Rattle.refinement.specs.Rounds.{ByBlocks, Unsplit}

@@ -3,5 +3,4 @@ pub mod Quotients
 pub mod Reductions
 pub mod Again
 pub mod Theorems
-pub mod Examples
 pub mod Hasty

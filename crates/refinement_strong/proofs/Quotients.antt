@@ -3,18 +3,17 @@
 use mathlib.Core.Path.{_≡_, refl, sym, ap, subst}
 use mathlib.Core.List.{List}
 use Prim.Native.Nat.{ℕ, _≤_, _<_}
-use native.Mathlib.Omega.{arith}
-use Rattle.bisimulation.specs.Bisimulation as B
 use Rattle.bisimulation.specs.Bisimulation.{Bisimulation}
-use Rattle.bisimulation.specs.Quotient.{blockOf, quotient, Shares, Belongs}
+use Rattle.bisimulation.specs.Quotient.{quotient, Shares, Belongs}
+use Rattle.columns.specs.Blocks.{blockOf}
 use Rattle.bisimulation.proofs.Quotients as Q
-use Rattle.columns.specs.Sets.{Row}
+use Rattle.bisimulation.proofs.Tables.{quotient-valid}
+use Rattle.columns.specs.Sets.{Row, StepIn}
 use Rattle.refinement_strong.specs.Reduction.{quotientOf}
 use Rattle.refinement_strong.proofs.Bisimulations.{valid-range}
 use Rattle.table.specs.Lts.{Lts, rows, Step, Valid}
 use Rattle.table.specs.Tables.{tableOf}
-use Rattle.table.proofs.Rows.{step-fields}
-use Rattle.table.proofs.Tables.{Inside, rows-length, tableOf-rows, tableOf-valid}
+use Rattle.table.proofs.Tables.{tableOf-rows}
 
 module _ (t : Lts) (count : ℕ) (p : List ℕ) where
   pub quotientOf-rows : rows (quotientOf t count p) ≡ quotient (blockOf p) (rows t)
@@ -41,28 +40,12 @@ module _ (t : Lts) (count : ℕ) (p : List ℕ) where
 
   pub quotientOf-step : (s a u : ℕ) → Step t s a u → Step (quotientOf t count p) (blockOf p s) a (blockOf p u)
   quotientOf-step s a u k =
-      subst (λ (l : List Row). B.Step l (blockOf p s) a (blockOf p u)) (sym quotientOf-rows) (Q.quotient-in (blockOf p) (rows t) s a u k)
+      subst (λ (l : List Row). StepIn l (blockOf p s) a (blockOf p u)) (sym quotientOf-rows) (Q.quotient-in (blockOf p) (rows t) s a u k)
 
   module _ (v : Valid t) where
-    pub quotientOf-valid : 1 ≤ count → count ≤ t .n → ((s : ℕ) → s < t .n → blockOf p s < count) → Valid (quotientOf t count p)
+    pub quotientOf-valid : count ≤ t .n → ((s : ℕ) → s < t .n → blockOf p s < count) → Valid (quotientOf t count p)
     unfolding quotientOf
-    quotientOf-valid some few below =
-        tableOf-valid count (t .labels) (blockOf p (t .initial)) (quotient (blockOf p) (rows t))
-        record {
-          some-states = some;
-          few-states = omega (arith, few, v .few-states);
-          some-labels = v .some-labels;
-          few-labels = v .few-labels;
-          few-rows = omega (arith, Q.quotient-few (blockOf p) (rows t), rows-length t, v .few-rows);
-          initial = below (t .initial) (v .initial);
-        }
-        fields (Q.quotient-ascending (blockOf p) (rows t))
-      where
-        fields : Inside count (t .labels) (quotient (blockOf p) (rows t))
-        fields b a c k =
-            let f = Q.quotient-out (blockOf p) (rows t) b a c k in
-            let w = step-fields t v (f .source) a (f .target) (f .step) in
-            (omega (arith, below (f .source) (w .0), f .from), (w .1 .0, omega (arith, below (f .target) (w .1 .1), f .to)))
+    quotientOf-valid few below = quotient-valid t v count few (blockOf p) below
 
     -- each state and its block are related by a bisimulation between the table and its quotient
     pub quotientOf-bisimulation :

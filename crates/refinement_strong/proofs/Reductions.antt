@@ -3,10 +3,11 @@ use mathlib.Core.Path.{_≡_}
 use mathlib.Core.List.{List}
 use Prim.Native.Nat.{ℕ, _<_}
 use Rattle.bisimulation.specs.Bisimulation.{Bisimulation}
-use Rattle.bisimulation.specs.Quotient.{blockOf, Shares}
-use Rattle.refinement.specs.Blocks.{Finer, byLeast}
+use Rattle.bisimulation.specs.Quotient.{Shares}
+use Rattle.columns.specs.Blocks.{blockOf, Finer}
+use Rattle.refinement.specs.Blocks.{byLeast}
 use Rattle.refinement.specs.Rounds.{afterRounds, splittingRounds, final}
-use Rattle.refinement.proofs.Blocks.{Member, blocks-most, blocks-some}
+use Rattle.refinement.proofs.Blocks.{Member, blocks-most}
 use Rattle.refinement.proofs.Rounds.{inside, final-unsplit, final-below, final-onto}
 use Rattle.refinement.specs.Runs.{Settled}
 use Rattle.refinement_strong.specs.Reduction.{strongBlocks, strongBlock, strongRounds, strongCount, quotientOf, strongReduced, In}
@@ -54,8 +55,7 @@ module _ (t : Lts) (v : Valid t) where
   pub reduced-valid : Valid (strongReduced t)
   unfolding strongReduced quotientOf tableOf
   reduced-valid =
-      quotientOf-valid t (strongCount t) (strongBlocks t) v (blocks-some (t .n) (strongBlocks t) (v .some-states))
-      (blocks-most (t .n) (strongBlocks t)) block-below
+      quotientOf-valid t (strongCount t) (strongBlocks t) v (blocks-most (t .n) (strongBlocks t)) block-below
 
   -- what a run of the rounds leaves, in any numbering: the number of rounds, and the blocks once they are numbered by least member
   pub settled :

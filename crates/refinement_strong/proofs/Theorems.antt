@@ -7,7 +7,8 @@ use mathlib.Core.List.{List}
 use Prim.Native.Nat.{ℕ, _-_, _≤_, _<_}
 use native.Mathlib.Omega.{arith}
 use Rattle.bisimulation.specs.Bisimulation.{Match, Bisimilar}
-use Rattle.bisimulation.specs.Quotient.{blockOf, Shares}
+use Rattle.bisimulation.specs.Quotient.{Shares}
+use Rattle.columns.specs.Blocks.{blockOf}
 use Rattle.bisimulation.proofs.Bisimulations.{bisimilar-turned, bisimilar-composed}
 use Rattle.columns.specs.Columns.{listed}
 use Rattle.refinement.specs.Blocks.{SameBlocks, byLeast}

@@ -2,7 +2,8 @@
 -- quotiented naively with both switches off. States not reachable stay.
 use mathlib.Core.List.{List}
 use Prim.Native.Nat.{ℕ}
-use Rattle.bisimulation.specs.Quotient.{blockOf, quotient, Belongs}
+use Rattle.bisimulation.specs.Quotient.{quotient, Belongs}
+use Rattle.columns.specs.Blocks.{blockOf}
 use Rattle.columns.specs.Rows.{rowsOf}
 use Rattle.columns.specs.Sets.{Row}
 use Rattle.refinement.specs.Blocks.{blockCount}

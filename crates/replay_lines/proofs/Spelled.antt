@@ -1,5 +1,5 @@
 -- The digits of a number as `io` has them, the fewest that hold it, are those of `digits`.
-use Prim.Native.Nat.{ℕ, zero, suc, _+_, _-_, _/_, _%_, _^_, _≤_, _<_}
+use Prim.Native.Nat.{ℕ, zero, suc, _+_, _/_, _%_, _^_, _≤_, _<_}
 use mathlib.Core.List.{[], _∷_, _++_}
 use mathlib.Core.Path.{_≡_, refl, ap, _∙_}
 use native.Mathlib.Nat.{pow-suc, pow-le-pow-right, div-lt-self, mod-lt, mod-eq-of-lt, div-lt-iff-lt-mul, le-div-iff-mul-le}
@@ -7,8 +7,7 @@ use native.Mathlib.Numerals.{unary-clauses}
 use native.Mathlib.Omega.{arith}
 use lib.Dec.{ltb}
 use borrow.Author.Tests.{lt-ltb, le-ltb}
-use Rattle.io.specs.Digits.{glyph, Fewest}
-use Rattle.io.specs.Digits.{digits as fixed}
+use Rattle.io.specs.Digits.{glyph, Fewest, digits as fixed}
 use Rattle.replay_lines.specs.Spelling.{digitsWithin, digits}
 
 glyph-digit : (d : ℕ) → d < 10 → glyph d ≡ 48 + d

@@ -9,7 +9,8 @@ use lib.Dec.{eqb}
 use lib.ListN.{getD}
 use Rattle.columns.specs.Sets.{Mem, Pair, pairLt, Ascending}
 use Rattle.columns.proofs.Bools.{and-left, and-right, and-both, fails, contra}
-use Rattle.signatures.specs.Inductive.{inertb, keyedAt, inductivePushed, inductiveSignature}
+use Rattle.signatures.specs.Inductive.{keyedAt, inductivePushed, inductiveSignature}
+use Rattle.table.specs.Hidden.{hiddenIn}
 use Rattle.signatures.specs.Strong.{rowPair}
 use Rattle.signatures.proofs.Rows.{pushed-in, pushed-out}
 use Rattle.signatures.proofs.Sigs.{sig-in, sig-out, sig-ascending}
@@ -25,7 +26,7 @@ module _ (t : Lts) (home : List ℕ) (marked : ℕ → Bool) (keys : List ℕ) (
   given a u = cond (keyed a u) (t .labels, getD keys u 0) (a, getD home u 0)
 
   by : (i : ℕ) → keyedAt t home marked keys (getD home s 0) i ≡ given (getD (t .label) i 0) (getD (t .target) i 0)
-  unfolding keyedAt inertb rowPair given keyed
+  unfolding keyedAt hiddenIn rowPair given keyed
   by i = refl
 
   give : (a u : ℕ) → Step t s a u → Mem (given a u) (inductiveSignature t home marked keys s)

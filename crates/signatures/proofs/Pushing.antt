@@ -8,7 +8,7 @@ use lib.ListN.{length, length-set, set}
 use Rattle.columns.specs.Counting.{many, members}
 use Rattle.columns.specs.Rows.{pairsOf}
 use Rattle.columns.specs.Sets.{Pair}
-use Rattle.columns.proofs.Counting.{one-if-true, one-if-false, many-suc, many-nothing}
+use Rattle.columns.proofs.Counting.{bit-true, bit-false, many-suc, many-nothing}
 use Rattle.columns.proofs.Members.{members-hit, members-miss, members-rest, members-none}
 use Rattle.columns.proofs.TwoColumns.{length-pairs, pairs-more}
 
@@ -45,7 +45,7 @@ module _ (l₀ : List Pair) (g : ℕ → Pair) (f : ℕ → Bool) (first end : �
         low = omega (arith, p .low);
         high = omega arith;
         count = omega (arith, p .count);
-        exact = omega (arith, p .exact, many-suc i f, one-if-true (f i) t);
+        exact = omega (arith, p .exact, many-suc i f, bit-true (f i) t);
         pairs =
             pairs-more d a b x y ha hb ∙ ap₂ (λ (l : List Pair) (q : Pair). l ++ (q ∷ [])) (p .pairs) (sym e)
             ∙ append-assoc l₀ (map g (members i f)) (g i ∷ [])
@@ -59,7 +59,7 @@ module _ (l₀ : List Pair) (g : ℕ → Pair) (f : ℕ → Bool) (first end : �
         low = omega (arith, p .low);
         high = omega arith;
         count = omega (arith, p .count);
-        exact = omega (arith, p .exact, many-suc i f, one-if-false (f i) t);
+        exact = omega (arith, p .exact, many-suc i f, bit-false (f i) t);
         pairs = p .pairs ∙ ap (λ (l : List ℕ). l₀ ++ map g l) (sym (members-miss f i t));
         left = p .left;
         right = p .right;

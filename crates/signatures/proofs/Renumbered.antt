@@ -6,6 +6,7 @@ use mathlib.Core.Logic.{_⊎_, inl, inr}
 use mathlib.Core.Bool.{Bool}
 use mathlib.Core.List.{List}
 use lib.ListN.{getD}
+use Rattle.columns.specs.Blocks.{Finer}
 use Rattle.columns.specs.Sets.{Mem, Pair}
 use Rattle.signatures.specs.Inductive.{inductivePushed, inductiveSignature}
 use Rattle.signatures.specs.Strong.{strongSignature}
@@ -15,11 +16,7 @@ use Rattle.signatures.proofs.StrongSigs.{Leads, strong-in, strong-out, 
 use Rattle.table.specs.Lts.{Lts, Valid}
 use Rattle.table.proofs.Rows.{step-fields}
 
--- states that share a block under one numbering share it under the other
-abbrev pub Alike : ℕ → List ℕ → List ℕ → Type 0
-Alike n home home' = (u v : ℕ) → u < n → v < n → getD home u 0 ≡ getD home v 0 → getD home' u 0 ≡ getD home' v 0
-
-module _ (t : Lts) (v : Valid t) (home home' : List ℕ) (to : Alike (t .n) home home') where
+module _ (t : Lts) (v : Valid t) (home home' : List ℕ) (to : Finer (t .n) home home') where
   pub strong-alike : (r s : ℕ) → strongSignature t home r ≡ strongSignature t home s → strongSignature t home' r ≡ strongSignature t home' s
   strong-alike r s e = strong-ext t home' r s (half r s e) (half s r (sym e))
     where
@@ -38,7 +35,7 @@ module _ (t : Lts) (v : Valid t) (home home' : List ℕ) (to : Alike (t .n) home
                 ∙ l .block;
           }
 
-  module _ (from : Alike (t .n) home' home) (marked : ℕ → Bool) (keys : List ℕ) where
+  module _ (from : Finer (t .n) home' home) (marked : ℕ → Bool) (keys : List ℕ) where
     -- a pair of r is one of s
     module _ (r s : ℕ) (hr : r < t .n) (hs : s < t .n)
         (e : inductiveSignature t home marked keys r ≡ inductiveSignature t home marked keys s) where

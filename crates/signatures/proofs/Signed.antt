@@ -1,12 +1,12 @@
 -- What a call that writes a signature means where it says done.
 use Prim.Native.Nat.{ℕ, _≤_}
 use native.Mathlib.Omega.{arith}
-use borrow.Author.Tests.{eqb-true, leb-true}
+use borrow.Author.Tests.{leb-true}
 use mathlib.Core.Path.{_≡_, refl, ap, ap₂, sym, subst, _∙_}
 use mathlib.Core.Logic.{_↔_}
 use mathlib.Core.Bool.{Bool, true, false, cond}
 use mathlib.Core.List.{List, [], _∷_}
-use lib.Dec.{leb, eqb}
+use lib.Dec.{leb}
 use lib.ListN.{length, length-map, drop}
 use lib.Seq.{drop-at}
 use Rattle.columns.specs.declared.answers.Refusal.{Refusal}
@@ -18,6 +18,7 @@ use Rattle.columns.proofs.Bools.{and-left, and-right}
 use Rattle.columns.proofs.Saying.{apart}
 use Rattle.columns.proofs.TwoColumns.{pairs-over}
 use Rattle.columns.specs.Limits.{noRoom}
+use Rattle.columns.proofs.Doing.{unless-done}
 use Rattle.signatures.specs.Pairs.{Columns, roomFor, fits, pairsOver}
 use Rattle.signatures.specs.Signing.{Left, finishing, signing}
 
@@ -39,10 +40,12 @@ module _ (r : Refusal) (pushed : ℕ) (pairs : List Pair) (out : Columns) (works
     columns : left .0 ≡ pairsOver pairs out
     work : left .1 ≡ zeroed works
 
+  -- what is written, by whether there is room
+  abbrev wrote : Bool → Said × Columns
+  wrote b = cond b (done (length pairs ∷ []), pairsOver pairs out) (refused noRoom pushed, out)
+
   finished : (b : Bool) → fits pushed out ≡ b → r .number ≡ 0
-      → _≡_ {A = Said × Left}
-      (cond b (done (length pairs ∷ []), (pairsOver pairs out, zeroed works)) (refused noRoom pushed, (out, zeroed works)))
-      (done (k ∷ []), left) → Written
+      → _≡_ {A = Said × Left} (wrote b .0, (wrote b .1, zeroed works)) (done (k ∷ []), left) → Written
   finished true f z e =
       let said : done (length pairs ∷ []) ≡ done (k ∷ []) = ap (λ (t : Said × Left). t .0) e in
       let count : length pairs ≡ k = cc in
@@ -57,13 +60,9 @@ module _ (r : Refusal) (pushed : ℕ) (pairs : List Pair) (out : Columns) (works
 
   written-of : signing r pushed pairs out works ≡ (done (k ∷ []), left) → Written
   unfolding signing finishing
-  written-of e = go (eqb (r .number) 0) refl e
-    where
-      go : (b : Bool) → eqb (r .number) 0 ≡ b
-          → _≡_ {A = Said × Left} (cond b (finishing pushed pairs out works) (refused (r .number) (r .place), (out, works)))
-          (done (k ∷ []), left) → Written
-      go true q f = finished (fits pushed out) refl (eqb-true (r .number) 0 q) f
-      go false q f = absurd (apart _ _ _ (sym (ap (λ (t : Said × Left). t .0) f)))
+  written-of e =
+      let d = unless-done r (out, works) left (k ∷ []) (finishing pushed pairs out works) (sym e) in
+      finished (fits pushed out) refl (d .0) (sym (d .1))
 
   module _ (e : signing r pushed pairs out works ≡ (done (k ∷ []), left)) where
     pub signing-accepted : r .number ≡ 0

@@ -6,7 +6,8 @@ use mathlib.Core.Bool.{Bool, not, _&&_}
 use mathlib.Core.List.{List, [], _∷_}
 use lib.Dec.{leb, eqb}
 use lib.ListN.{length}
-use Rattle.columns.specs.Answers.{done, bit}
+use Rattle.columns.specs.Answers.{done}
+use Rattle.columns.specs.Counting.{bit}
 use Rattle.columns.specs.Sets.{Pair}
 use Rattle.columns.specs.Limits.{maxLabels}
 use Rattle.columns.specs.Due.{labelsTest}
@@ -14,7 +15,7 @@ use Rattle.columns.proofs.Chains.{passed}
 use Rattle.columns.proofs.Doing.{answering-done, SaysWhether, says-whether}
 use Rattle.columns.proofs.Rooms.{range-of}
 use Rattle.partition.specs.Partition.{Partition, Sound}
-use Rattle.partition.specs.Readers.{unmarkedb}
+use Rattle.partition.specs.Marked.{unmarkedb}
 use Rattle.table.specs.Lts.{Lts, Valid}
 use Rattle.signatures.specs.Inductive.{inductivePushed, inductiveSignature, branchingBisimSignatureInductive}
 use Rattle.signatures.specs.Pairs.{Columns}

@@ -3,31 +3,29 @@
 use Prim.Native.Nat.{ℕ}
 use mathlib.Core.Bool.{Bool, not, _&&_, cond}
 use mathlib.Core.List.{List, map}
-use lib.Dec.{ltb, leb, eqb}
+use lib.Dec.{leb}
 use lib.ListN.{length, getD}
 use Rattle.columns.specs.Answers.{Said}
 use Rattle.columns.specs.Sets.{Pair}
 use Rattle.partition.specs.Partition.{Partition}
-use Rattle.partition.specs.Readers.{unmarkedb}
+use Rattle.partition.specs.Marked.{unmarkedBy, unmarkedb}
+use Rattle.table.specs.Hidden.{hiddenIn}
 use Rattle.table.specs.Lts.{Lts}
 use Rattle.signatures.specs.Pairs.{Columns, signature}
 use Rattle.signatures.specs.Signing.{Left, worksFit, signing, signatureRefusal}
 use Rattle.signatures.specs.Strong.{ownRows, rowPair}
 
--- row i is hidden and leads to block b; `home` has the block of each state
-unfoldable pub inertb : List ℕ → List ℕ → List ℕ → ℕ → ℕ → Bool
-inertb label target home b i = eqb (getD label i 0) 0 && eqb (getD home (getD target i 0) 0) b
-
--- state u is marked: it doesn't stand before its block's marked_split
+-- state u is marked; `home` has the block of each state
 unfoldable pub markedBy : List ℕ → List ℕ → List ℕ → ℕ → Bool
-markedBy offset home split u = not (ltb (getD offset u 0) (getD split (getD home u 0) 0))
+unfolding unmarkedBy
+markedBy offset home split u = not (unmarkedBy offset home split u)
 
 -- row i of a state of block b as a pair; tau_hat is the number of labels
 unfoldable pub keyedAt : Lts → List ℕ → (ℕ → Bool) → List ℕ → ℕ → ℕ → Pair
-unfolding inertb rowPair
+unfolding hiddenIn rowPair
 keyedAt t home marked keys b i =
     let u = getD (t .target) i 0 in
-    cond (inertb (t .label) (t .target) home b i && marked u) (t .labels, getD keys u 0) (rowPair t home i)
+    cond (hiddenIn (t .label) (t .target) home b i && marked u) (t .labels, getD keys u 0) (rowPair t home i)
 
 -- the pairs pushed for s, before duplicates go
 unfoldable pub inductivePushed : Lts → List ℕ → (ℕ → Bool) → List ℕ → ℕ → List Pair

@@ -2,10 +2,9 @@
 use Prim.Native.Nat.{ℕ}
 use mathlib.Core.Bool.{Bool, cond}
 use mathlib.Core.List.{List, [], _∷_, map}
-use lib.Dec.{eqb}
 use lib.ListN.{length}
 use Rattle.columns.specs.declared.answers.Refusal.{Refusal}
-use Rattle.columns.specs.Answers.{Said, done, refused}
+use Rattle.columns.specs.Answers.{Said, done, refused, unless}
 use Rattle.columns.specs.Columns.{zeroed}
 use Rattle.columns.specs.Due.{allLong}
 use Rattle.columns.specs.Limits.{noRoom}
@@ -25,17 +24,20 @@ worksFit t works = worksLong t (map (λ w. length w) works)
 abbrev pub Left : Type 0
 Left = Columns × List (List ℕ)
 
--- a signature is written, or 16 where there is no room for as many pairs as were pushed; either way the work slices are zero
-unfoldable pub finishing : ℕ → List Pair → Columns → List (List ℕ) → Said × Left
+-- a signature is written over the result columns, or 16 where they have no room for as many pairs as were pushed
+unfoldable pub writing : ℕ → List Pair → Columns → Said × Columns
 unfolding fits pairsOver
-finishing pushed pairs out works =
-    cond (fits pushed out) (done (length pairs ∷ []), (pairsOver pairs out, zeroed works)) (refused noRoom pushed, (out, zeroed works))
+writing pushed pairs out = cond (fits pushed out) (done (length pairs ∷ []), pairsOver pairs out) (refused noRoom pushed, out)
+
+-- the same, and the work slices are zero either way
+unfoldable pub finishing : ℕ → List Pair → Columns → List (List ℕ) → Said × Left
+unfolding writing
+finishing pushed pairs out works = (writing pushed pairs out .0, (writing pushed pairs out .1, zeroed works))
 
 -- a call whose checks have answered r, with so many pairs pushed and with its signature: a refusal leaves everything as it was
 unfoldable pub signing : Refusal → ℕ → List Pair → Columns → List (List ℕ) → Said × Left
-unfolding finishing
-signing r pushed pairs out works =
-    cond (eqb (r .number) 0) (finishing pushed pairs out works) (refused (r .number) (r .place), (out, works))
+unfolding unless finishing
+signing r pushed pairs out works = unless r (out, works) (finishing pushed pairs out works)
 
 -- 1, 2, 3, 4, 7 (`room`: the call's other slices are long enough), 5 and 6, 14, 8
 unfoldable pub signatureRefusal : Lts → Partition → ℕ → Bool → Refusal

@@ -3,7 +3,8 @@ use Prim.Native.Nat.{ℕ}
 use mathlib.Core.List.{[], _∷_}
 use lib.Dec.{eqb}
 use Rattle.columns.specs.declared.answers.Refusal.{Refusal}
-use Rattle.columns.specs.Answers.{Said, bit, answering}
+use Rattle.columns.specs.Answers.{Said, answering}
+use Rattle.columns.specs.Counting.{bit}
 use Rattle.columns.specs.Due.{due, labelsTest}
 
 -- 2 for a number of labels outside its range

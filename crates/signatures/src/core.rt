@@ -5,13 +5,14 @@ ghost use mathlib.Core.Bool.{cond};
 ghost use Prim.Native.Nat.{ℕ, _≤_, _<_};
 ghost use lib.ListN.{length, getD};
 ghost use Rattle.columns.specs.Rows.{pairsOf};
-ghost use Rattle.signatures.specs.Inductive.{inertb, markedBy, inductivePushed};
+ghost use Rattle.signatures.specs.Inductive.{markedBy, inductivePushed};
 ghost use Rattle.signatures.specs.Strong.{strongPushed};
 ghost use Rattle.table.specs.Lts.{Valid};
 ghost use Rattle.columns.specs.Lent.{was, is};
 ghost use Rattle.table.specs.Lent.{ltsOf, ltsNow};
 use columns::cells::at;
 use table::Table;
+use table::core::hidden_in;
 use table::core::rows_of;
 
 // (label, block of target) for each row of a state.
@@ -44,17 +45,6 @@ pub fn push_strong(
         i += 1;
     }
     d
-}
-
-// Whether row i is hidden and leads to block b.
-pub fn inert(label: &[u16], target: &[u16], element_to_block: &[u16], b: usize, i: usize) -> bool
-    requires { ⌜ (i < length (now label)) × (i < length (now target)) × (getD (now target) i 0 < length (now «element_to_block»)) ⌝ }
-    ensures { λ r. ⌜ r ≡ inertb (was label) (was target) (was «element_to_block») b i ⌝ }
-{
-    if at(label, i) != 0 {
-        return false;
-    }
-    at(element_to_block, at(target, i)) == b
 }
 
 // Whether state u is marked.
@@ -112,7 +102,7 @@ pub fn push_inductive(
     let mut d = 0;
     while i < end {
         let u = at(target, i);
-        let stays = inert(label, target, element_to_block, b, i);
+        let stays = hidden_in(label, target, element_to_block, b, i);
         let key = stays & marked(element_offset, element_to_block, marked_split, u);
         pushed_labels[d] = either(key, tau_hat, label[i]);
         pushed_blocks[d] = either(key, state_to_key[u], element_to_block[u]);

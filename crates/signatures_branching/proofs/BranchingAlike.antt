@@ -10,12 +10,12 @@ use Rattle.table.proofs.Rows.{step-fields}
 use Rattle.signatures_branching.specs.Branching.{inertEdge, branchingSignature}
 use Rattle.signatures_branching.proofs.BranchingSigs.{Leaves, branching-in, branching-out, branching-ascending}
 use Rattle.signatures_branching.proofs.InertSteps.{inert-of, inert-step, inert-block, inert-state}
-use Rattle.signatures.proofs.Renumbered.{Alike}
+use Rattle.columns.specs.Blocks.{Finer}
 use Rattle.signatures_branching.proofs.Matches.{Named, Matching, matching-same}
 
 module _ (t : Lts) (v : Valid t) where
   -- a walk in the block of s is one under the other numbering
-  module _ (home home' : List ℕ) (to : Alike (t .n) home home') (s : ℕ) (hs : s < t .n) where
+  module _ (home home' : List ℕ) (to : Finer (t .n) home home') (s : ℕ) (hs : s < t .n) where
     same-walk : {x y : ℕ} → Walk (inertEdge t home (getD home s 0)) x y → Walk (inertEdge t home' (getD home' s 0)) x y
     same-walk stop = stop
     same-walk (along {s = x} {u = y} e w) =
@@ -24,7 +24,7 @@ module _ (t : Lts) (v : Valid t) where
 
     -- what leaves to the block of u leaves to it
     same-leaves :
-        Alike (t .n) home' home → (a u : ℕ) → u < t .n → Leaves t home s a (getD home u 0) → Leaves t home' s a (getD home' u 0)
+        Finer (t .n) home' home → (a u : ℕ) → u < t .n → Leaves t home s a (getD home u 0) → Leaves t home' s a (getD home' u 0)
     same-leaves from a u hu l =
         let hx = step-fields t v (l .through) a (l .target) (l .step) .1 .1 in
         record {
@@ -41,7 +41,7 @@ module _ (t : Lts) (v : Valid t) where
       let l = branching-out t v home s (p .0) (p .1) m in
       record { state = l .target; below = step-fields t v (l .through) (p .0) (l .target) (l .step) .1 .1; block = sym (l .block) }
 
-  module _ (home home' : List ℕ) (to : Alike (t .n) home home') (from : Alike (t .n) home' home) where
+  module _ (home home' : List ℕ) (to : Finer (t .n) home home') (from : Finer (t .n) home' home) where
     -- the two signatures of a state say the same of each block
     pub branching-matching : (s : ℕ) → s < t .n → Matching (t .n) home home' (branchingSignature t home s) (branchingSignature t home' s)
     branching-matching s hs = record {

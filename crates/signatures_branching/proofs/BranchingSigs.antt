@@ -12,7 +12,7 @@ use Rattle.columns.specs.Counting.{members}
 use Rattle.columns.specs.Sets.{Mem, Pair, pairLt, Ascending}
 use Rattle.columns.proofs.Bools.{and-left, and-right, and-both, contra, fails}
 use Rattle.columns.proofs.Members.{members-in, members-out}
-use Rattle.signatures.specs.Inductive.{inertb}
+use Rattle.table.specs.Hidden.{hiddenIn}
 use Rattle.signatures.specs.Strong.{rowPair}
 use Rattle.signatures.proofs.Sigs.{sig-in, sig-out, sig-ascending}
 use Rattle.table.specs.Lts.{Lts, Step, Valid}
@@ -34,7 +34,7 @@ module _ (t : Lts) (v : Valid t) (home : List ℕ) (s : ℕ) where
   -- row i is visible or leads to another block, as a test
   outer-of : (i : ℕ) → (getD (t .label) i 0 ≡ 0 → getD home (getD (t .target) i 0) 0 ≡ getD home s 0 → ⊥) →
       outerb t home (getD home s 0) i ≡ true
-  unfolding outerb inertb
+  unfolding outerb hiddenIn
   outer-of i n =
       ap not (fails (λ e.
       n (eqb-true _ _ (and-left (eqb (getD (t .label) i 0) 0) (eqb (getD home (getD (t .target) i 0) 0) (getD home s 0)) e))
@@ -42,7 +42,7 @@ module _ (t : Lts) (v : Valid t) (home : List ℕ) (s : ℕ) where
 
   of-outer : (i : ℕ) → outerb t home (getD home s 0) i ≡ true → getD (t .label) i 0 ≡ 0 → getD home (getD (t .target) i 0) 0 ≡ getD home s 0
       → ⊥
-  unfolding outerb inertb
+  unfolding outerb hiddenIn
   of-outer i e z h = contra e (ap not (and-both (eq-eqb _ _ z) (eq-eqb _ _ h)))
 
   pub branching-in : (a b : ℕ) → Leaves t home s a b → Mem {A = Pair} (a, b) (branchingSignature t home s)

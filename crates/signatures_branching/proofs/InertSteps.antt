@@ -8,7 +8,7 @@ use mathlib.Core.List.{List}
 use lib.Dec.{eqb}
 use lib.ListN.{getD}
 use Rattle.columns.proofs.Bools.{and-left, and-right, and-both}
-use Rattle.signatures.specs.Inductive.{inertb}
+use Rattle.table.specs.Hidden.{hiddenIn}
 use Rattle.table.specs.Lts.{Lts, Step, Valid}
 use Rattle.table.proofs.Rows.{row-step, step-row}
 use Rattle.table.proofs.Walks.{Edge, edge-row, row-edge}
@@ -16,17 +16,17 @@ use Rattle.signatures_branching.specs.Branching.{inertEdge}
 
 module _ (t : Lts) (home : List ℕ) (b x y : ℕ) where
   pub inert-of : Step t x 0 y → getD home y 0 ≡ b → inertEdge t home b x y ≡ true
-  unfolding inertEdge inertb
+  unfolding inertEdge hiddenIn
   inert-of k e =
       let r = step-row t x 0 y k in
-      row-edge (t .m) (t .source) (t .target) (inertb (t .label) (t .target) home b) x y (r .row) (r .below) (sym (r .source))
+      row-edge (t .m) (t .source) (t .target) (hiddenIn (t .label) (t .target) home b) x y (r .row) (r .below) (sym (r .source))
       (sym (r .target))
       (and-both (eq-eqb _ _ (sym (r .label))) (eq-eqb _ _ (ap (λ (u : ℕ). getD home u 0) (sym (r .target)) ∙ e)))
 
   module _ (e : inertEdge t home b x y ≡ true) where
-    at : Edge (t .m) (t .source) (t .target) (inertb (t .label) (t .target) home b) x y
+    at : Edge (t .m) (t .source) (t .target) (hiddenIn (t .label) (t .target) home b) x y
     unfolding inertEdge
-    at = edge-row (t .m) (t .source) (t .target) (inertb (t .label) (t .target) home b) x y e
+    at = edge-row (t .m) (t .source) (t .target) (hiddenIn (t .label) (t .target) home b) x y e
 
     label-at : Bool
     label-at = eqb (getD (t .label) (at .row) 0) 0
@@ -35,7 +35,7 @@ module _ (t : Lts) (home : List ℕ) (b x y : ℕ) where
     block-at = eqb (getD home (getD (t .target) (at .row) 0) 0) b
 
     pub inert-step : Step t x 0 y
-    unfolding inertb label-at block-at
+    unfolding hiddenIn label-at block-at
     inert-step =
         subst (λ (a : ℕ). Step t x a y) (eqb-true _ _ (and-left label-at block-at (at .passes)))
         (subst (λ (u : ℕ). Step t u (getD (t .label) (at .row) 0) y) (at .from)
@@ -43,7 +43,7 @@ module _ (t : Lts) (home : List ℕ) (b x y : ℕ) where
         (row-step t (at .row) (at .below))))
 
     pub inert-block : getD home y 0 ≡ b
-    unfolding inertb label-at block-at
+    unfolding hiddenIn label-at block-at
     inert-block = ap (λ (u : ℕ). getD home u 0) (sym (at .to)) ∙ eqb-true _ _ (and-right label-at block-at (at .passes))
 
   pub inert-state : Valid t → inertEdge t home b x y ≡ true → y < t .n

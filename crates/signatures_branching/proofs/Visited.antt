@@ -9,11 +9,11 @@ use mathlib.Core.List.{List, _++_, Memᴰ·map, Memᴰ·of-map}
 use lib.Dec.{eqb}
 use lib.ListN.{length, length-map, getD}
 use Rattle.columns.specs.Columns.{laid}
-use Rattle.columns.specs.Counting.{sum, many, members}
+use Rattle.columns.specs.Counting.{sum, many, members, bit}
 use Rattle.columns.specs.Rows.{pairsOf}
 use Rattle.columns.specs.Sets.{Mem, Pair}
 use Rattle.columns.proofs.Bools.{and-left, and-right, and-both, contra, fails}
-use Rattle.columns.proofs.Counting.{one-if, one-if-true, one-if-false, many-sum, many-nothing, many-strict}
+use Rattle.columns.proofs.Counting.{bit-true, bit-false, many-sum, many-nothing, many-strict}
 use Rattle.columns.proofs.Laid.{laid-more, laid-cong, laid-up, length-laid, laid-in, laid-out}
 use Rattle.columns.proofs.Members.{length-members, members-in, members-out}
 use Rattle.columns.proofs.Owners.{by-numbers, one-owner, owned-few}
@@ -54,10 +54,10 @@ module _ (t : Lts) (home : List ℕ) (b : ℕ) (queue : List ℕ) (k : ℕ) wher
 
 module _ (t : Lts) (v : Valid t) (home : List ℕ) (s : ℕ) (queue : List ℕ) (k : ℕ) (l : ListsReached t home s queue k) where
   -- a row is counted for one state of the list, if its source is reached
-  row-once : (x : ℕ) (o : Bool) → x < t .n → many k (λ j. eqb x (getD queue j 0) && o) ≡ one-if (inertly t home s x && o)
+  row-once : (x : ℕ) (o : Bool) → x < t .n → many k (λ j. eqb x (getD queue j 0) && o) ≡ bit (inertly t home s x && o)
   row-once x o h = go (inertly t home s x && o) refl
     where
-      go : (r : Bool) → (inertly t home s x && o) ≡ r → many k (λ j. eqb x (getD queue j 0) && o) ≡ one-if r
+      go : (r : Bool) → (inertly t home s x && o) ≡ r → many k (λ j. eqb x (getD queue j 0) && o) ≡ bit r
       go true e =
           let f = l .all x h (and-left (inertly t home s x) o e) in
           omega (
@@ -65,7 +65,7 @@ module _ (t : Lts) (v : Valid t) (home : List ℕ) (s : ℕ) (queue : List ℕ) 
             one-owner (t .m) (λ i. getD (t .source) i 0) (outerb t home (getD home s 0)) (λ j. getD queue j 0) k (l .once) x o,
             many-strict (f .0) k (λ j. eqb x (getD queue j 0) && o) (f .1)
                 (and-both (eq-eqb x (getD queue (f .0) 0) (sym (f .2))) (and-right (inertly t home s x) o e)),
-            one-if-true true refl,
+            bit-true true refl,
           )
       go false e =
           many-nothing k (λ j. eqb x (getD queue j 0) && o)
@@ -76,7 +76,7 @@ module _ (t : Lts) (v : Valid t) (home : List ℕ) (s : ℕ) (queue : List ℕ) 
           (and-both (ap (inertly t home s) (eqb-true x (getD queue j 0) (and-left (eqb x (getD queue j 0)) o p)) ∙ l .reached j w)
           (and-right (eqb x (getD queue j 0)) o p))
           e))
-          ∙ sym (one-if-false false refl)
+          ∙ sym (bit-false false refl)
 
   pub visited-count : length (outerOf t home (getD home s 0) queue k) ≡ length (branchingPushed t home s)
   unfolding branchingPushed
@@ -84,7 +84,7 @@ module _ (t : Lts) (v : Valid t) (home : List ℕ) (s : ℕ) (queue : List ℕ) 
       let b = getD home s 0 in
       let f : ℕ → Bool = λ i. inertly t home s (getD (t .source) i 0) && outerb t home b i in
       by-rows t home b queue k
-      ∙ sum-cong (λ i. many k (λ j. eqb (getD (t .source) i 0) (getD queue j 0) && outerb t home b i)) (λ i. one-if (f i)) (t .m)
+      ∙ sum-cong (λ i. many k (λ j. eqb (getD (t .source) i 0) (getD queue j 0) && outerb t home b i)) (λ i. bit (f i)) (t .m)
       (λ i w. row-once (getD (t .source) i 0) (outerb t home b i) (v .fields i w .source))
       ∙ sym (many-sum (t .m) f) ∙ sym (length-members f (t .m)) ∙ sym (length-map (members (t .m) f) (rowPair t home))
 

@@ -9,7 +9,7 @@ use Rattle.columns.specs.Answers.{Said}
 use Rattle.columns.specs.Counting.{members}
 use Rattle.columns.specs.Sets.{Pair}
 use Rattle.partition.specs.Partition.{Partition}
-use Rattle.signatures.specs.Inductive.{inertb}
+use Rattle.table.specs.Hidden.{hiddenIn}
 use Rattle.signatures.specs.Pairs.{Columns, signature}
 use Rattle.signatures.specs.Signing.{Left, worksFit, signing, signatureRefusal}
 use Rattle.signatures.specs.Strong.{rowPair}
@@ -18,8 +18,8 @@ use Rattle.table.specs.Reach.{via, someRow}
 
 -- a hidden step from u to v, which is in block b; `home` has the block of each state
 unfoldable pub inertEdge : Lts → List ℕ → ℕ → ℕ → ℕ → Bool
-unfolding someRow inertb
-inertEdge t home b = someRow (t .m) (t .source) (t .target) (inertb (t .label) (t .target) home b)
+unfolding someRow hiddenIn
+inertEdge t home b = someRow (t .m) (t .source) (t .target) (hiddenIn (t .label) (t .target) home b)
 
 -- s reaches u by hidden steps that stay in the block of s
 unfoldable pub inertly : Lts → List ℕ → ℕ → ℕ → Bool
@@ -28,8 +28,8 @@ inertly t home s u = via (inertEdge t home (getD home s 0)) (t .n) s u
 
 -- row i is visible, or it leads to another block than b
 unfoldable pub outerb : Lts → List ℕ → ℕ → ℕ → Bool
-unfolding inertb
-outerb t home b i = not (inertb (t .label) (t .target) home b i)
+unfolding hiddenIn
+outerb t home b i = not (hiddenIn (t .label) (t .target) home b i)
 
 -- the pairs of the rows of x that are visible or lead to another block than b
 unfoldable pub outerPairs : Lts → List ℕ → ℕ → ℕ → List Pair

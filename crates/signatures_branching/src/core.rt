@@ -13,9 +13,9 @@ ghost use Rattle.columns.specs.Lent.{was, is, Clear, Cleared};
 ghost use Rattle.table.specs.Lent.{ltsOf, ltsNow};
 use columns::cells::at;
 use columns::cells::clear;
-use signatures::core::inert;
 use table::Table;
 use table::core::append;
+use table::core::hidden_in;
 use table::core::rows_of;
 
 // The pairs of the rows of x that are visible or lead to another block than b, behind the first d pairs. Returns the number of pairs
@@ -48,7 +48,7 @@ pub fn push_outer(
     let end = rows.end;
     let mut k = d;
     while i < end {
-        if inert(label, target, element_to_block, b, i) {
+        if hidden_in(label, target, element_to_block, b, i) {
             i += 1;
         } else {
             let u = at(target, i);
@@ -103,7 +103,7 @@ fn visit(
     let mut k = d;
     while i < end {
         let u = at(target, i);
-        let stays = inert(label, target, element_to_block, b, i);
+        let stays = hidden_in(label, target, element_to_block, b, i);
         if stays {
             high = append(u, &mut *marks, &mut *queue, high);
             i += 1;

@@ -21,10 +21,10 @@ use mathlib.Core.List.{
 use lib.Dec.{eqb}
 use lib.ListN.{length, getD}
 use Rattle.columns.specs.Columns.{listed}
-use Rattle.columns.specs.Counting.{sum, members}
+use Rattle.columns.specs.Counting.{sum, members, bit}
 use Rattle.columns.specs.Sets.{Mem, Pair, pairLt, addAll, gather}
 use Rattle.columns.proofs.Bools.{and-left, and-right, and-both}
-use Rattle.columns.proofs.Counting.{one-if, many-sum}
+use Rattle.columns.proofs.Counting.{many-sum}
 use Rattle.columns.proofs.Facts.{at-mem, mem-at}
 use Rattle.columns.proofs.FlatMaps.{flat-in, flat-out, flat-map, length-flat, length-flat-members}
 use Rattle.columns.proofs.Members.{members-in, members-out}
@@ -35,7 +35,7 @@ use Rattle.columns.proofs.Sums.{sum-add, sum-cong}
 use Rattle.columns.proofs.Unions.{gather-map}
 use Rattle.pairs_merge.specs.Merged.{Heads, heads}
 use Rattle.pairs_merge.specs.Rest.{restOf, leftOf, leftIn, mergeOf}
-use Rattle.signatures.specs.Inductive.{inertb}
+use Rattle.table.specs.Hidden.{hiddenIn}
 use Rattle.signatures.specs.Pairs.{signature}
 use Rattle.signatures.specs.Strong.{ownRows, rowPair}
 use Rattle.signatures.proofs.Sigs.{sig-in, sig-out}
@@ -57,10 +57,9 @@ module _ (t : Lts) (home : List ℕ) (given : ℕ → List Pair) (s : ℕ) where
 
   -- row i is hidden and leads to the block of s
   inert : ℕ → Bool
-  inert i = inertb (t .label) (t .target) home (getD home s 0) i
+  inert i = hiddenIn (t .label) (t .target) home (getD home s 0) i
 
-  row : (l : List Pair) (p : Pair) (a b : Bool) → one-if (a && not b) + cond (a && b) (length l) 0 ≡ cond a (length (cond b l (p ∷ []))) 0
-  unfolding one-if
+  row : (l : List Pair) (p : Pair) (a b : Bool) → bit (a && not b) + cond (a && b) (length l) 0 ≡ cond a (length (cond b l (p ∷ []))) 0
   row l p true true = omega arith
   row l p true false = omega arith
   row l p false b = omega arith
@@ -72,9 +71,9 @@ module _ (t : Lts) (home : List ℕ) (given : ℕ → List Pair) (s : ℕ) where
       ap₂ _+_ (length-outer t home (getD home s 0) s ∙ many-sum (t .m) (λ i. mine i && not (inert i)))
       (ap length (flat-map given (λ i. getD (t .target) i 0) (members (t .m) (λ i. mine i && inert i)))
       ∙ length-flat-members (λ i. given (getD (t .target) i 0)) (λ i. mine i && inert i) (t .m))
-      ∙ sym (sum-add (λ i. one-if (mine i && not (inert i))) (λ i. cond (mine i && inert i) (length (given (getD (t .target) i 0))) 0)
+      ∙ sym (sum-add (λ i. bit (mine i && not (inert i))) (λ i. cond (mine i && inert i) (length (given (getD (t .target) i 0))) 0)
       (t .m))
-      ∙ sum-cong (λ i. one-if (mine i && not (inert i)) + cond (mine i && inert i) (length (given (getD (t .target) i 0))) 0)
+      ∙ sum-cong (λ i. bit (mine i && not (inert i)) + cond (mine i && inert i) (length (given (getD (t .target) i 0))) 0)
       (λ i. cond (mine i) (length (sortedAt t home given (getD home s 0) i)) 0) (t .m)
       (λ i w. row (given (getD (t .target) i 0)) (rowPair t home i) (mine i) (inert i))
       ∙ sym (length-flat-members (sortedAt t home given (getD home s 0)) mine (t .m))
@@ -88,7 +87,7 @@ module _ (t : Lts) (home : List ℕ) (given : ℕ → List Pair) (s : ℕ) where
       let g = Memᴰ·of-map (rowPair t home) (members (t .m) f) m in
       let i = g .0 in
       let r = members-out f (t .m) i (g .1) in
-      let b = inertb (t .label) (t .target) home (getD home s 0) i in
+      let b = hiddenIn (t .label) (t .target) home (getD home s 0) i in
       let e : b ≡ false = not-true b (and-right (eqb (getD (t .source) i 0) s) (not b) (r .1)) in
       flat-in (sortedAt t home given (getD home s 0)) (ownRows t s) i p
       (members-in (λ i. eqb (getD (t .source) i 0) s) (t .m) i (r .0) (and-left (eqb (getD (t .source) i 0) s) (not b) (r .1)))
@@ -101,7 +100,7 @@ module _ (t : Lts) (home : List ℕ) (given : ℕ → List Pair) (s : ℕ) where
       let g = Memᴰ·of-map (λ i. getD (t .target) i 0) (members (t .m) f) m in
       let i = g .0 in
       let r = members-out f (t .m) i (g .1) in
-      let b = inertb (t .label) (t .target) home (getD home s 0) i in
+      let b = hiddenIn (t .label) (t .target) home (getD home s 0) i in
       flat-in (sortedAt t home given (getD home s 0)) (ownRows t s) i p
       (members-in (λ i. eqb (getD (t .source) i 0) s) (t .m) i (r .0) (and-left (eqb (getD (t .source) i 0) s) b (r .1)))
       (subst (λ (c : Bool). Mem p (cond c (given (getD (t .target) i 0)) (rowPair t home i ∷ [])))
@@ -114,9 +113,10 @@ module _ (t : Lts) (home : List ℕ) (given : ℕ → List Pair) (s : ℕ) where
   pushed-split p m =
       let f = flat-out (sortedAt t home given (getD home s 0)) (ownRows t s) p m in
       let r = members-out (λ i. eqb (getD (t .source) i 0) s) (t .m) (f .0) (f .1) in
-      go (f .0) (r .0) (r .1) (inertb (t .label) (t .target) home (getD home s 0) (f .0)) refl (f .2)
+      go (f .0) (r .0) (r .1) (hiddenIn (t .label) (t .target) home (getD home s 0) (f .0)) refl (f .2)
     where
-      go : (i : ℕ) → i < t .m → eqb (getD (t .source) i 0) s ≡ true → (b : Bool) → inertb (t .label) (t .target) home (getD home s 0) i ≡ b
+      go : (i : ℕ) → i < t .m → eqb (getD (t .source) i 0) s ≡ true → (b : Bool)
+          → hiddenIn (t .label) (t .target) home (getD home s 0) i ≡ b
           → Mem p (cond b (given (getD (t .target) i 0)) (rowPair t home i ∷ []))
           → Mem p (outerPairs t home (getD home s 0) s) ⊎ ((u : ℕ) × Mem u (innerTargets t home s) × Mem p (given u))
       go i w h true e k =

@@ -20,7 +20,7 @@ use Rattle.columns.proofs.Orders.{lex-split, ltb-order, pair-order}
 use Rattle.columns.specs.Rows.{rowIn, pairAt, pairsBetween}
 use Rattle.pairs_merge.specs.Merged.{heads, headPlace, endAt}
 use Rattle.pairs_merge.specs.Rest.{restOf, leftOf, Mergeable}
-use Rattle.signatures.specs.Inductive.{inertb}
+use Rattle.table.specs.Hidden.{hiddenIn}
 use Rattle.pairs.specs.Lists.{startAt, listAt, Lists}
 use Rattle.pairs.proofs.Refusals.{shorter-left, shorter-right}
 use Rattle.table.specs.Lts.{Lts, rowAt, Valid}
@@ -56,14 +56,14 @@ module _ (t : Lts) (home : List ℕ) (s : ℕ) where
 
   inner-source : (i : ℕ) → innerRow t home s i ≡ true → getD (t .source) i 0 ≡ s
   unfolding innerRow
-  inner-source i e = eqb-true _ _ (and-left (eqb (getD (t .source) i 0) s) (inertb (t .label) (t .target) home (getD home s 0) i) e)
+  inner-source i e = eqb-true _ _ (and-left (eqb (getD (t .source) i 0) s) (hiddenIn (t .label) (t .target) home (getD home s 0) i) e)
 
   inner-label : (i : ℕ) → innerRow t home s i ≡ true → getD (t .label) i 0 ≡ 0
-  unfolding innerRow inertb
+  unfolding innerRow hiddenIn
   inner-label i e =
       eqb-true _ _
       (and-left (eqb (getD (t .label) i 0) 0) (eqb (getD home (getD (t .target) i 0) 0) (getD home s 0))
-      (and-right (eqb (getD (t .source) i 0) s) (inertb (t .label) (t .target) home (getD home s 0) i) e))
+      (and-right (eqb (getD (t .source) i 0) s) (hiddenIn (t .label) (t .target) home (getD home s 0) i) e))
 
   module _ (v : Valid t) where
     pub inner-below : (j : ℕ) → j < length (innerTargets t home s) → getD (innerTargets t home s) j 0 < t .n
@@ -96,7 +96,7 @@ module _ (t : Lts) (home : List ℕ) (s : ℕ) where
 -- they are as many as the rows of s at most
 pub few-inner : (t : Lts) (home : List ℕ) (s : ℕ) → length (innerTargets t home s) ≤ length (ownRows t s)
 unfolding innerRow
-few-inner t home s = omega (arith, length-inner t home s, own-few t s (inertb (t .label) (t .target) home (getD home s 0)))
+few-inner t home s = omega (arith, length-inner t home s, own-few t s (hiddenIn (t .label) (t .target) home (getD home s 0)))
 
 pub few-lists : (t : Lts) → Valid t → (home : List ℕ) (s : ℕ) → (length (innerTargets t home s) ≤ t .n) ×
     (length (innerTargets t home s) ≤ t .m)

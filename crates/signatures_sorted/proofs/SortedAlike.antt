@@ -8,7 +8,7 @@ use lib.ListN.{getD}
 use Rattle.columns.specs.Sets.{Mem, Pair}
 use Rattle.table.specs.Lts.{Lts, Step, Valid}
 use Rattle.table.proofs.Rows.{step-fields}
-use Rattle.signatures.proofs.Renumbered.{Alike}
+use Rattle.columns.specs.Blocks.{Finer}
 use Rattle.signatures_branching.proofs.Matches.{Named, Matching, matching-sym, matching-same}
 use Rattle.signatures_sorted.specs.Sorted.{sortedSignature}
 use Rattle.signatures_sorted.proofs.SortedSigs.{OwnOf, TakenOf, sorted-own, sorted-taken, sorted-out, sorted-ascending}
@@ -21,7 +21,7 @@ module _ (t : Lts) (v : Valid t) where
   below : (s a u : ℕ) → Step t s a u → u < t .n
   below s a u k = step-fields t v s a u k .1 .1
 
-  module _ (home home' : List ℕ) (to : Alike (t .n) home home') (from : Alike (t .n) home' home) (given given' : ℕ → List Pair)
+  module _ (home home' : List ℕ) (to : Finer (t .n) home home') (from : Finer (t .n) home' home) (given given' : ℕ → List Pair)
       (lists : GivenAlike (t .n) home home' given given') (s : ℕ) (hs : s < t .n) where
     own : (a u : ℕ) → u < t .n → OwnOf t home s (a, getD home u 0) → OwnOf t home' s (a, getD home' u 0)
     own a u hu o =
@@ -63,7 +63,7 @@ module _ (t : Lts) (v : Valid t) where
             record { state = o .target; below = below s (o .label) (o .target) (o .step); block = ap (λ (q : Pair). q .1) (o .pair) }
         go (inr o) = lists (o .target) (below s 0 (o .target) (o .step)) .named p (o .listed)
 
-  module _ (home home' : List ℕ) (to : Alike (t .n) home home') (from : Alike (t .n) home' home) (given given' : ℕ → List Pair)
+  module _ (home home' : List ℕ) (to : Finer (t .n) home home') (from : Finer (t .n) home' home) (given given' : ℕ → List Pair)
       (lists : GivenAlike (t .n) home home' given given') where
     back : GivenAlike (t .n) home' home given' given
     back u h = matching-sym (lists u h)

@@ -12,7 +12,7 @@ use Rattle.columns.specs.Sets.{Mem, Pair, pairLt, Ascending}
 use Rattle.columns.proofs.Bools.{and-left, and-right, and-both, fails, contra}
 use Rattle.columns.proofs.FlatMaps.{flat-in, flat-out}
 use Rattle.columns.proofs.Members.{members-in, members-out}
-use Rattle.signatures.specs.Inductive.{inertb}
+use Rattle.table.specs.Hidden.{hiddenIn}
 use Rattle.signatures.specs.Strong.{ownRows, rowPair}
 use Rattle.signatures.proofs.Sigs.{sig-in, sig-out, sig-ascending}
 use Rattle.table.specs.Lts.{Lts, Step}
@@ -44,7 +44,7 @@ module _ (t : Lts) (home : List ℕ) (given : ℕ → List Pair) (s : ℕ) where
   part a u = cond (inert a u) (given u) ((a, getD home u 0) ∷ [])
 
   by : (i : ℕ) → sortedAt t home given (getD home s 0) i ≡ part (getD (t .label) i 0) (getD (t .target) i 0)
-  unfolding sortedAt inertb rowPair part inert
+  unfolding sortedAt hiddenIn rowPair part inert
   by i = refl
 
   give : (a u : ℕ) → Step t s a u → (p : Pair) → Mem p (part a u) → Mem p (sortedSignature t home given s)

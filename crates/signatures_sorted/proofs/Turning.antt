@@ -10,7 +10,7 @@ use Rattle.columns.specs.Counting.{many, members}
 use Rattle.columns.proofs.All.{top-or-below, lt-or-le, not-below}
 use Rattle.columns.proofs.Bools.{contra}
 use Rattle.columns.proofs.Chosen.{length-chosen, chosen-of}
-use Rattle.columns.proofs.Counting.{one-if-true, one-if-false, many-suc, many-nothing, many-up, many-strict, Ranked, many-onto}
+use Rattle.columns.proofs.Counting.{bit-true, bit-false, many-suc, many-nothing, many-up, many-strict, Ranked, many-onto}
 use Rattle.pairs_merge.specs.Merged.{wide}
 use Rattle.pairs.specs.Lists.{startAt}
 use Rattle.signatures_sorted.specs.Joining.{Opened}
@@ -59,7 +59,7 @@ module _ (starts : List ℕ) (g : ℕ → ℕ) (f : ℕ → Bool) (first end : �
       opening-more a b c d t new old la lb lc ld = record {
         from = omega (arith, p .from);
         upto = omega arith;
-        count = omega (arith, p .count, many-suc i f, one-if-true (f i) t);
+        count = omega (arith, p .count, many-suc i f, bit-true (f i) t);
         places = λ r w e.
             ⊎-elim (λ (q : r ≡ i). ap (wide a b) (rank r q) ∙ new .0 ∙ ap (λ (s : ℕ). startAt starts (g s)) (sym q))
             (λ (l : r < i). old (many r f) (other r l e) .0 ∙ p .places r l e) (top-or-below (seen r w));
@@ -85,7 +85,7 @@ module _ (starts : List ℕ) (g : ℕ → ℕ) (f : ℕ → Bool) (first end : �
       opening-pass t = record {
         from = omega (arith, p .from);
         upto = omega arith;
-        count = omega (arith, p .count, many-suc i f, one-if-false (f i) t);
+        count = omega (arith, p .count, many-suc i f, bit-false (f i) t);
         places = λ r w e. p .places r (below r w e) e;
         ends = λ r w e. p .ends r (below r w e) e;
         same-high = p .same-high;

@@ -1,17 +1,13 @@
 -- States on the way to the sorted signature: what the proofs go by, nothing that the contract of an operation says.
 use Prim.Native.Nat.{ℕ, _+_, _<_}
 use mathlib.Core.Path.{_≡_}
-use mathlib.Core.Bool.{cond}
 use mathlib.Core.List.{List, [], _∷_}
 use lib.ListN.{length, getD}
-use Rattle.columns.specs.Answers.{Said, done, refused}
-use Rattle.columns.specs.Limits.{noRoom}
 use Rattle.columns.specs.Rows.{pairsOf}
 use Rattle.columns.specs.Sets.{Pair, pairLt, addAll}
 use Rattle.pairs.specs.Lists.{startAt}
 use Rattle.pairs_merge.specs.Merged.{Heads, wide}
 use Rattle.pairs_merge.specs.Rest.{mergeOf}
-use Rattle.signatures.specs.Pairs.{Columns, fits, pairsOver}
 
 -- the first k heads are the given lists of k states
 pub record Opened (starts states : List ℕ) (k : ℕ) (high low endHigh endLow : List ℕ) : Type 0 where
@@ -23,8 +19,3 @@ pub record Opened (starts states : List ℕ) (k : ℕ) (high low endHigh endLow 
 unfoldable pub jointSet : ℕ → List ℕ → List ℕ → Heads → ℕ → List Pair
 unfolding addAll pairLt pairsOf mergeOf
 jointSet own labels blocks d k = addAll pairLt (pairsOf own labels blocks) (mergeOf d k)
-
--- a set is written over the columns of the result, or 16 where they have no room for as many pairs as were pushed
-unfoldable pub writing : ℕ → List Pair → Columns → Said × Columns
-unfolding fits pairsOver
-writing pushed pairs out = cond (fits pushed out) (done (length pairs ∷ []), pairsOver pairs out) (refused noRoom pushed, out)

@@ -9,7 +9,7 @@ use Rattle.columns.specs.Answers.{Said}
 use Rattle.columns.specs.Due.{due, indexTest}
 use Rattle.columns.specs.Sets.{Pair}
 use Rattle.partition.specs.Partition.{Partition}
-use Rattle.signatures.specs.Inductive.{inertb}
+use Rattle.table.specs.Hidden.{hiddenIn}
 use Rattle.signatures.specs.Pairs.{Columns, signature}
 use Rattle.signatures.specs.Signing.{Left, worksFit, signing}
 use Rattle.signatures.specs.Strong.{ownRows, rowPair}
@@ -19,9 +19,9 @@ use Rattle.table_partition.specs.Checks.{bothTests, bothArgumentRefusal}
 
 -- what row i of a state of block b gives; `home` has the block of each state, `given` its list
 unfoldable pub sortedAt : Lts → List ℕ → (ℕ → List Pair) → ℕ → ℕ → List Pair
-unfolding inertb rowPair
+unfolding hiddenIn rowPair
 sortedAt t home given b i =
-    cond (inertb (t .label) (t .target) home b i) (given (getD (t .target) i 0)) (rowPair t home i ∷ [])
+    cond (hiddenIn (t .label) (t .target) home b i) (given (getD (t .target) i 0)) (rowPair t home i ∷ [])
 
 -- the pairs pushed for s, before duplicates go
 unfoldable pub sortedPushed : Lts → List ℕ → (ℕ → List Pair) → ℕ → List Pair

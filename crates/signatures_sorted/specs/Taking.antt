@@ -6,15 +6,15 @@ use lib.Dec.{eqb}
 use lib.ListN.{getD}
 use Rattle.columns.specs.Counting.{members}
 use Rattle.columns.specs.Sets.{Mem, pairLt, Ascending}
-use Rattle.signatures.specs.Inductive.{inertb}
+use Rattle.table.specs.Hidden.{hiddenIn}
 use Rattle.pairs.specs.Lists.{startAt, listAt}
 use Rattle.pairs.specs.Pairs.{endOf}
 use Rattle.table.specs.Lts.{Lts}
 
 -- row i is one of s, hidden, and stays in the block of s
 unfoldable pub innerRow : Lts → List ℕ → ℕ → ℕ → Bool
-unfolding inertb
-innerRow t home s i = eqb (getD (t .source) i 0) s && inertb (t .label) (t .target) home (getD home s 0) i
+unfolding hiddenIn
+innerRow t home s i = eqb (getD (t .source) i 0) s && hiddenIn (t .label) (t .target) home (getD home s 0) i
 
 -- the targets of these rows, in order
 unfoldable pub innerTargets : Lts → List ℕ → ℕ → List ℕ

@@ -15,8 +15,8 @@ ghost use Rattle.columns.specs.Limits.{maxStates};
 ghost use Rattle.columns.specs.Columns.{EachLong};
 use columns::cells::at;
 use pairs::lists::start;
-use signatures::core::inert;
 use table::Table;
+use table::core::hidden_in;
 use table::core::rows_of;
 
 // A place in the flat pairs, over cells j.
@@ -80,7 +80,7 @@ pub fn open_lists(
     let end = rows.end;
     let mut k = 0;
     while i < end {
-        if inert(label, target, element_to_block, b, i) {
+        if hidden_in(label, target, element_to_block, b, i) {
             let u = at(target, i);
             open(
                 starts,

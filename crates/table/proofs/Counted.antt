@@ -7,38 +7,38 @@ use mathlib.Core.Path.{_≡_, sym}
 use mathlib.Core.Logic.{⊎-elim}
 use mathlib.Core.Bool.{Bool}
 use lib.Dec.{ltb, eqb}
-use Rattle.columns.specs.Counting.{many}
+use Rattle.columns.specs.Counting.{many, bit}
 use Rattle.columns.proofs.All.{not-below, lt-or-le}
-use Rattle.columns.proofs.Counting.{one-if, one-if-true, one-if-false, many-up, many-le, many-mono, many-add, many-all}
+use Rattle.columns.proofs.Counting.{bit-true, bit-false, many-up, many-le, many-mono, many-add, many-all}
 use Rattle.columns.proofs.Members.{many-rest, many-front}
 use Rattle.table.specs.Stretch.{StretchOf}
 
 -- below s + 1: below s, or s itself
-one-more : (x s : ℕ) → one-if (ltb x (s + 1)) ≡ one-if (ltb x s) + one-if (eqb x s)
+one-more : (x s : ℕ) → bit (ltb x (s + 1)) ≡ bit (ltb x s) + bit (eqb x s)
 one-more x s =
     ⊎-elim
     (λ (l : x < s).
     omega (
       arith,
-      one-if-true (ltb x (s + 1)) (lt-ltb x (s + 1) (omega arith)),
-      one-if-true (ltb x s) (lt-ltb x s l),
-      one-if-false (eqb x s) (ne-eqb x s (λ e. omega (arith, e))),
+      bit-true (ltb x (s + 1)) (lt-ltb x (s + 1) (omega arith)),
+      bit-true (ltb x s) (lt-ltb x s l),
+      bit-false (eqb x s) (ne-eqb x s (λ e. omega (arith, e))),
     ))
     (λ (l : s ≤ x).
     ⊎-elim
     (λ (e : s ≡ x).
     omega (
       arith,
-      one-if-true (ltb x (s + 1)) (lt-ltb x (s + 1) (omega arith)),
-      one-if-false (ltb x s) (le-ltb x s l),
-      one-if-true (eqb x s) (eq-eqb x s (sym e)),
+      bit-true (ltb x (s + 1)) (lt-ltb x (s + 1) (omega arith)),
+      bit-false (ltb x s) (le-ltb x s l),
+      bit-true (eqb x s) (eq-eqb x s (sym e)),
     ))
     (λ (k : s < x).
     omega (
       arith,
-      one-if-false (ltb x (s + 1)) (le-ltb x (s + 1) (omega arith)),
-      one-if-false (ltb x s) (le-ltb x s l),
-      one-if-false (eqb x s) (ne-eqb x s (λ e. omega (arith, e))),
+      bit-false (ltb x (s + 1)) (le-ltb x (s + 1) (omega arith)),
+      bit-false (ltb x s) (le-ltb x s l),
+      bit-false (eqb x s) (ne-eqb x s (λ e. omega (arith, e))),
     ))
     (eq-or-lt-of-le l))
     (lt-or-le x s)

@@ -10,7 +10,8 @@ use lib.Dec.{eqb}
 use lib.ListN.{getD}
 use Rattle.columns.specs.Counting.{many}
 use Rattle.columns.proofs.Bools.{fails}
-use Rattle.table.specs.Lts.{Lts, Valid, NeverFalls}
+use Rattle.table.specs.Lts.{Lts, Valid}
+use Rattle.columns.specs.Columns.{NeverFalls}
 use Rattle.table.specs.Stretch.{StretchOf, firstRow}
 use Rattle.table.proofs.Counted.{below-is, below-most, below-up, below-next, place-before, place-from, stretch}
 use Rattle.table.proofs.Stretches.{rising}

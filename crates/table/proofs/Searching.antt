@@ -9,9 +9,8 @@ use borrow.Author.Tests.{eqb-true, eqb-false, eq-eqb, ne-eqb, leb-true}
 use lib.Dec.{eqb, leb}
 use lib.ListN.{length, getD, set, length-set, length-replicate}
 use lib.Seq.{getD-set-same, getD-set-other, ext-getD}
-use Rattle.columns.specs.Answers.{bit}
 use Rattle.columns.specs.Columns.{listed, zeros}
-use Rattle.columns.specs.Counting.{many}
+use Rattle.columns.specs.Counting.{many, bit}
 use Rattle.columns.proofs.All.{top-or-below, same-or-not}
 use Rattle.columns.proofs.Bools.{and-left, and-right, bool-ext}
 use Rattle.columns.proofs.Counting.{many-one-more, many-cong, many-le, many-nothing}

@@ -16,7 +16,8 @@ use Rattle.columns.proofs.Bools.{contra}
 use Rattle.columns.proofs.Counting.{first-law}
 use Rattle.columns.proofs.Orders.{lex-split, lex-first, lex-second, ltb-order, pair-order}
 use Rattle.columns.specs.Rows.{rowIn}
-use Rattle.table.specs.Lts.{Lts, rowAt, Valid, NeverFalls}
+use Rattle.table.specs.Lts.{Lts, rowAt, Valid}
+use Rattle.columns.specs.Columns.{NeverFalls}
 use Rattle.table.specs.Stretch.{nextIncoming}
 
 -- ---- along the rows

@@ -8,7 +8,7 @@ use lib.ListN.{length, length-append, length-map, getD}
 use Rattle.columns.specs.Columns.{listed, over}
 use Rattle.columns.specs.Limits.{maxLabels, maxRows, maxStates}
 use Rattle.columns.specs.Rows.{firstOf, secondOf, thirdOf, rowsOf, rowIn}
-use Rattle.columns.specs.Sets.{Mem, Row, rowLt, Ascending}
+use Rattle.columns.specs.Sets.{Row, rowLt, Ascending, StepIn}
 use Rattle.columns.proofs.Lists.{length-listed, listed-cons, listed-cong, over-front}
 use Rattle.columns.proofs.Risings.{of-ascending}
 use Rattle.columns.proofs.Saying.{same-refusal, apart}
@@ -16,7 +16,7 @@ use Rattle.table.specs.declared.answers.TableAnswer.{TableAnswer}
 use Rattle.table.specs.declared.answers.TableOutcome.{TableOutcome}
 use Rattle.table.specs.declared.answers.TableOutcome.the-variants as T
 use Rattle.table.specs.Lts.{Lts, rows, Step, RowsLong, Valid}
-use Rattle.table.specs.Tables.{tableOf, saidTableOutcome, saidTable}
+use Rattle.table.specs.Tables.{tableBy, tableOf, saidTableOutcome, saidTable}
 use Rattle.table.proofs.Rows.{row-step}
 
 pub rows-length : (t : Lts) → length (rows t) ≡ t .m
@@ -35,7 +35,7 @@ pub record InLimits (n labels m start : ℕ) : Type 0 where
 
 -- every row goes from and to a state, under a label
 abbrev pub Inside : ℕ → ℕ → List Row → Type 0
-Inside n labels l = (s a u : ℕ) → Mem {A = Row} (s, (a, u)) l → (s < n) × ((a < labels) × (u < n))
+Inside n labels l = (s a u : ℕ) → StepIn l s a u → (s < n) × ((a < labels) × (u < n))
 
 module _ (t : Lts) (l : List Row) (e : rows t ≡ l) where
   pub valid-by : InLimits (t .n) (t .labels) (t .m) (t .initial) → RowsLong t → Inside (t .n) (t .labels) l → Ascending rowLt l → Valid t
@@ -69,11 +69,11 @@ module _ (n labels initial : ℕ) (l : List Row) where
   unfolding tableOf
   tableOf-rows = rows-columns l
 
-  pub tableOf-out : (s a u : ℕ) → Step (tableOf n labels initial l) s a u → Mem {A = Row} (s, (a, u)) l
-  tableOf-out s a u k = subst (λ (m : List Row). Mem {A = Row} (s, (a, u)) m) tableOf-rows k
+  pub tableOf-out : (s a u : ℕ) → Step (tableOf n labels initial l) s a u → StepIn l s a u
+  tableOf-out s a u k = subst (λ (m : List Row). StepIn m s a u) tableOf-rows k
 
-  pub tableOf-in : (s a u : ℕ) → Mem {A = Row} (s, (a, u)) l → Step (tableOf n labels initial l) s a u
-  tableOf-in s a u k = subst (λ (m : List Row). Mem {A = Row} (s, (a, u)) m) (sym tableOf-rows) k
+  pub tableOf-in : (s a u : ℕ) → StepIn l s a u → Step (tableOf n labels initial l) s a u
+  tableOf-in s a u k = subst (λ (m : List Row). StepIn m s a u) (sym tableOf-rows) k
 
   pub tableOf-valid :
       InLimits n labels (length l) initial → Inside n labels l → Ascending rowLt l → Valid (tableOf n labels initial l)
@@ -89,15 +89,7 @@ module _ (n labels initial : ℕ) (l : List Row) where
 -- ---- rows over the front of three columns
 abbrev pub laidTable : ℕ → ℕ → ℕ → List Row → List ℕ → List ℕ → List ℕ → Lts
 laidTable n labels initial l x y z =
-    record {
-      n = n;
-      labels = labels;
-      m = length l;
-      initial = initial;
-      source = over (firstOf l) x;
-      label = over (secondOf l) y;
-      target = over (thirdOf l) z;
-    }
+    tableBy n labels (length l) initial (over (firstOf l) x, (over (secondOf l) y, over (thirdOf l) z))
 
 module _ (n labels initial : ℕ) (l : List Row) (x y z : List ℕ) where
   pub laid-rows : rows (laidTable n labels initial l x y z) ≡ l
@@ -112,11 +104,11 @@ module _ (n labels initial : ℕ) (l : List Row) (x y z : List ℕ) where
       ))
       ∙ rows-columns l
 
-  pub laid-out : (s a u : ℕ) → Step (laidTable n labels initial l x y z) s a u → Mem {A = Row} (s, (a, u)) l
-  laid-out s a u k = subst (λ (m : List Row). Mem {A = Row} (s, (a, u)) m) laid-rows k
+  pub laid-out : (s a u : ℕ) → Step (laidTable n labels initial l x y z) s a u → StepIn l s a u
+  laid-out s a u k = subst (λ (m : List Row). StepIn m s a u) laid-rows k
 
-  pub laid-in : (s a u : ℕ) → Mem {A = Row} (s, (a, u)) l → Step (laidTable n labels initial l x y z) s a u
-  laid-in s a u k = subst (λ (m : List Row). Mem {A = Row} (s, (a, u)) m) (sym laid-rows) k
+  pub laid-in : (s a u : ℕ) → StepIn l s a u → Step (laidTable n labels initial l x y z) s a u
+  laid-in s a u k = subst (λ (m : List Row). StepIn m s a u) (sym laid-rows) k
 
   pub laid-valid :
       InLimits n labels (length l) initial → Inside n labels l → Ascending rowLt l → Valid (laidTable n labels initial l x y z)

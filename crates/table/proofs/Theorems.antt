@@ -9,9 +9,9 @@ use native.Mathlib.Nat.{eq-or-lt-of-le}
 use borrow.Author.Tests.{ltb-true}
 use lib.Dec.{ltb, eqb}
 use lib.ListN.{length, getD}
-use Rattle.columns.specs.Answers.{done, bit}
+use Rattle.columns.specs.Answers.{done}
 use Rattle.columns.specs.Columns.{over, written, zeros}
-use Rattle.columns.specs.Counting.{many}
+use Rattle.columns.specs.Counting.{many, bit}
 use Rattle.columns.specs.Sets.{Row, rowLt, pairLt}
 use Rattle.columns.proofs.All.{lt-or-le}
 use Rattle.columns.proofs.Bools.{contra}
@@ -21,29 +21,21 @@ use Rattle.columns.proofs.Orders.{row-order, lex-split, ltb-order, pair-order}
 use Rattle.columns.specs.Rows.{rowIn}
 use Rattle.table.specs.Incoming.{incomingOrder, backRow, incomingRefusal, incomingRows}
 use Rattle.table.specs.Lts.{Lts, Valid}
-use Rattle.table.specs.Promise.{Way, arrived, onward, Reached, IncomingList, Beyond}
-use Rattle.table.specs.Reach.{Walk, stop, along, edge, reaches, reachRefusal, reachable}
+use Rattle.table.specs.Promise.{Reached, IncomingList, Beyond}
+use Rattle.table.specs.Reach.{reaches, reachRefusal, reachable}
 use Rattle.table.specs.Stretch.{ByTarget, listedTarget}
 use Rattle.table.proofs.Incomings.{incoming-length, incoming-law, incoming-by-target, incoming-ready}
 use Rattle.table.proofs.RowsInto.{into-stretch}
 use Rattle.table.proofs.Sayings.{left-said}
 use Rattle.table.proofs.Searching.{reach-ready}
-use Rattle.table.proofs.Walks.{edge-step, reaches-walk}
+use Rattle.table.proofs.Walks.{reaches-walk}
 -- The rows of a state are one run of the rows, those of another one apart; the rows into a state are met one after the other.
 pub use Rattle.table.proofs.Runs.{outgoing-run, outgoing-done}
 pub use Rattle.table.proofs.RowsOf.{rows-apart}
 pub use Rattle.table.proofs.Meetings.{met-rows, met-ascending, met-steps}
-
 -- ---- reachability
--- a walk along edges is a way along steps
-module _ (t : Lts) (hidden : Bool) where
-  pub walk-way : {s u : ℕ} → Walk (edge t hidden) s u → Way t hidden s u
-  walk-way stop = arrived
-  walk-way (along {s = s} {u = u} e w) = let p = edge-step t hidden s u .0 e in onward (p .2) (p .1) (walk-way w)
-
-  pub way-walk : {s u : ℕ} → Way t hidden s u → Walk (edge t hidden) s u
-  way-walk arrived = stop
-  way-walk (onward {s = s} {a = a} {u = u} k e w) = along (edge-step t hidden s u .1 (a, e, k)) (way-walk w)
+-- An edge is a step under some label that is taken, and a state reaches another exactly if there is a way along edges.
+pub use Rattle.table.proofs.Walks.{edge-step, reaches-walk}
 
 bit-two : (b : Bool) → (bit b ≡ 1) ⊎ (bit b ≡ 0)
 bit-two true = inl refl
@@ -76,8 +68,8 @@ module _ (t : Lts) (hidden : Bool) (s : ℕ) (reached queue : List ℕ) where
   marked-reached v = record {
     flag = λ u h. subst (λ (x : ℕ). (x ≡ 1) ⊎ (x ≡ 0)) (sym (mark-at u h)) (bit-two (reaches t hidden s u));
     exactly = λ u h. (
-      λ e. walk-way t hidden (reaches-walk t hidden v s u .0 (bit-one (reaches t hidden s u) (sym (mark-at u h) ∙ e))),
-      λ w. mark-at u h ∙ ap bit (reaches-walk t hidden v s u .1 (way-walk t hidden w)),
+      λ e. reaches-walk t hidden v s u .0 (bit-one (reaches t hidden s u) (sym (mark-at u h) ∙ e)),
+      λ w. mark-at u h ∙ ap bit (reaches-walk t hidden v s u .1 w),
     );
     count = many-cong (t .n) (reaches t hidden s) (λ u. eqb (getD marked u 0) 1)
         (λ u h. bit-eqb (reaches t hidden s u) ∙ ap (λ (x : ℕ). eqb x 1) (sym (mark-at u h)));

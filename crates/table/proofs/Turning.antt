@@ -5,9 +5,8 @@ use mathlib.Core.List.{List}
 use Prim.Native.Nat.{ℕ, _≤_}
 use native.Mathlib.Omega.{arith}
 use lib.ListN.{length}
-use Rattle.columns.specs.Answers.{bit}
 use Rattle.columns.specs.Columns.{listed, over}
-use Rattle.columns.specs.Counting.{many}
+use Rattle.columns.specs.Counting.{many, bit}
 use Rattle.columns.specs.Rows.{firstOf, secondOf, thirdOf, rowSet}
 use Rattle.columns.specs.Sets.{Mem, Row, rowLt}
 use Rattle.columns.proofs.Bools.{bool-ext}

@@ -14,7 +14,7 @@ use Rattle.columns.proofs.All.{top-or-below}
 use Rattle.columns.proofs.Bools.{and-left, and-right, and-both, or-split, or-left, or-right}
 use Rattle.columns.proofs.Counting.{first-law, first-min}
 use Rattle.table.specs.Lts.{Lts, Step, Valid}
-use Rattle.table.specs.Reach.{Walk, stop, along, via, takes, someRow, edge, reaches}
+use Rattle.table.specs.Reach.{Walk, stop, along, via, takes, someRow, edge, reaches, Way}
 use Rattle.table.proofs.Rows.{row-step, step-row}
 
 module _ (edge : ℕ → ℕ → Bool) where
@@ -164,7 +164,7 @@ module _ (t : Lts) (hidden : Bool) where
         omega (arith, r .to, v .fields (r .row) (r .below) .target)
 
     -- a state is reached exactly if there is a walk
-    pub reaches-walk : (s u : ℕ) → (reaches t hidden s u ≡ true) ↔ Walk (edge t hidden) s u
+    pub reaches-walk : (s u : ℕ) → (reaches t hidden s u ≡ true) ↔ Way t hidden s u
     unfolding reaches
     reaches-walk s u = (λ e. via-walk (edge t hidden) (t .n) s u e, λ w. walk-via (edge t hidden) (t .n) edge-in w)
 

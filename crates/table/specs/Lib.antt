@@ -1,4 +1,5 @@
 pub mod Lts
+pub mod Hidden
 pub mod Checks
 pub mod Stretch
 pub mod Transitions

@@ -6,7 +6,7 @@ use Prim.Native.Nat.{ℕ, _≤_, _<_}
 use lib.ListN.{length, getD}
 use Rattle.columns.specs.Limits.{maxLabels, maxRows, maxStates}
 use Rattle.columns.specs.Rows.{rowIn, rowsOf}
-use Rattle.columns.specs.Sets.{Mem, Row, rowLt}
+use Rattle.columns.specs.Sets.{Row, StepIn, rowLt}
 use Rattle.table.specs.declared.Table.{Table}
 
 -- a header, and three columns whose first m cells are the rows
@@ -33,7 +33,7 @@ rows t = rowsOf (t .m) (t .source) (t .label) (t .target)
 
 -- a step from s to u under label a
 abbrev pub Step : Lts → ℕ → ℕ → ℕ → Type 0
-Step t s a u = Mem {A = Row} (s, (a, u)) (rows t)
+Step t s a u = StepIn (rows t) s a u
 
 -- every column has m cells
 pub record RowsLong (t : Lts) : Type 0 where
@@ -58,7 +58,3 @@ pub record Valid (t : Lts) : Type 0 where
   pub long : RowsLong t
   pub fields : (i : ℕ) → i < t .m → Fields t i
   pub ascending : (i j : ℕ) → i < j → j < t .m → rowLt (rowAt t i) (rowAt t j) ≡ true
-
--- the first m cells of a column never fall
-abbrev pub NeverFalls : List ℕ → ℕ → Type 0
-NeverFalls source m = (i j : ℕ) → i ≤ j → j < m → getD source i 0 ≤ getD source j 0

@@ -2,7 +2,7 @@
 use mathlib.Core.Bool.{true}
 use mathlib.Core.List.{List}
 use Prim.Native.Nat.{ℕ}
-use Rattle.columns.specs.Answers.{bit}
+use Rattle.columns.specs.Counting.{bit}
 use Rattle.columns.specs.Columns.{listed}
 use Rattle.table.specs.Lts.{Lts}
 use Rattle.table.specs.Reach.{reaches}

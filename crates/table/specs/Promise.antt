@@ -8,14 +8,9 @@ use lib.Dec.{eqb}
 use lib.ListN.{length, getD}
 use Rattle.columns.specs.Counting.{many}
 use Rattle.columns.specs.Sets.{pairLt}
-use Rattle.table.specs.Lts.{Lts, Step}
-use Rattle.table.specs.Reach.{takes}
+use Rattle.table.specs.Lts.{Lts}
+use Rattle.table.specs.Reach.{Way}
 use Rattle.table.specs.Stretch.{StretchOf, listedTarget, firstInto}
-
--- a way along steps that are taken, perhaps along none
-pub data Way (t : Lts) (hidden : Bool) : ℕ → ℕ → Type 0 where
-  arrived : {s : ℕ} → Way t hidden s s
-  onward : {s a u v : ℕ} → Step t s a u → takes hidden a ≡ true → Way t hidden u v → Way t hidden s v
 
 -- the first n cells say which states s reaches, 1 for each and 0 for each other; k is how many
 pub record Reached (t : Lts) (hidden : Bool) (s k : ℕ) (cells : List ℕ) : Type 0 where

@@ -6,9 +6,9 @@ use Prim.Native.Nat.{ℕ, zero, suc}
 use lib.Dec.{leb, eqb}
 use lib.ListN.{length, getD}
 use Rattle.columns.specs.declared.answers.Refusal.{Refusal}
-use Rattle.columns.specs.Answers.{Said, bit, leaving}
+use Rattle.columns.specs.Answers.{Said, leaving}
 use Rattle.columns.specs.Columns.{written, cleared}
-use Rattle.columns.specs.Counting.{many, some}
+use Rattle.columns.specs.Counting.{many, some, bit}
 use Rattle.columns.specs.Due.{allLong}
 use Rattle.table.specs.Lts.{Lts}
 use Rattle.table.specs.Checks.{worksLong, tableArgumentRefusal}
@@ -33,10 +33,14 @@ unfoldable pub someRow : ℕ → List ℕ → List ℕ → (ℕ → Bool) → �
 unfolding some
 someRow m source target w s u = some m (λ i. eqb (getD source i 0) s && (eqb (getD target i 0) u && w i))
 
--- a row that is taken leads from s to u
+-- a row that is taken leads from s to u; `edge-step` says it in steps
 unfoldable pub edge : Lts → Bool → ℕ → ℕ → Bool
 unfolding someRow takes
 edge t hidden = someRow (t .m) (t .source) (t .target) (λ i. takes hidden (getD (t .label) i 0))
+
+-- a way along such rows, perhaps along none
+abbrev pub Way : Lts → Bool → ℕ → ℕ → Type 0
+Way t hidden s u = Walk (edge t hidden) s u
 
 unfoldable pub reaches : Lts → Bool → ℕ → ℕ → Bool
 unfolding via edge

@@ -11,11 +11,6 @@ use Rattle.table.specs.declared.answers.TableOutcome.{TableOutcome}
 use Rattle.table.specs.declared.answers.TableOutcome.the-variants as T
 use Rattle.table.specs.Lts.{Lts}
 
--- the table of a list of rows
-unfoldable pub tableOf : ℕ → ℕ → ℕ → List Row → Lts
-tableOf n labels initial l =
-    record { n = n; labels = labels; m = length l; initial = initial; source = firstOf l; label = secondOf l; target = thirdOf l }
-
 -- three columns of rows: sources, labels and targets
 abbrev pub Three : Type 0
 Three = List ℕ × (List ℕ × List ℕ)
@@ -23,10 +18,29 @@ Three = List ℕ × (List ℕ × List ℕ)
 abbrev pub lengthsOf : Three → List ℕ
 lengthsOf out = length (out .0) ∷ length (out .1 .0) ∷ length (out .1 .1) ∷ []
 
--- rows written over their first cells
-unfoldable pub rowsOver : List Row → Three → Three
+-- those of a list of rows, and those of a table
+abbrev pub columnsOf : List Row → Three
+columnsOf l = (firstOf l, (secondOf l, thirdOf l))
+
+abbrev pub columnsIn : Lts → Three
+columnsIn t = (t .source, (t .label, t .target))
+
+-- columns written over the first cells of others, and rows over those of three columns
+unfoldable pub columnsOver : Three → Three → Three
 unfolding over
-rowsOver l out = (over (firstOf l) (out .0), (over (secondOf l) (out .1 .0), over (thirdOf l) (out .1 .1)))
+columnsOver c out = (over (c .0) (out .0), (over (c .1 .0) (out .1 .0), over (c .1 .1) (out .1 .1)))
+
+unfoldable pub rowsOver : List Row → Three → Three
+unfolding columnsOver
+rowsOver l out = columnsOver (columnsOf l) out
+
+-- the table of a header and three columns, and that of a list of rows
+abbrev pub tableBy : ℕ → ℕ → ℕ → ℕ → Three → Lts
+tableBy n labels m initial c =
+    record { n = n; labels = labels; m = m; initial = initial; source = c .0; label = c .1 .0; target = c .1 .1 }
+
+unfoldable pub tableOf : ℕ → ℕ → ℕ → List Row → Lts
+tableOf n labels initial l = tableBy n labels (length l) initial (columnsOf l)
 
 -- n, labels, m and the initial state
 abbrev pub saidTableOutcome : TableOutcome → Said

@@ -2,10 +2,10 @@
 ghost use mathlib.Core.Path.{_≡_};
 ghost use Prim.Native.Nat.{_+_, _*_, _/_, _≤_, _<_};
 ghost use lib.ListN.{length, getD};
-ghost use Rattle.columns.specs.Answers.{bit};
-ghost use Rattle.columns.specs.Columns.{listed, sortBy, wiped};
-ghost use Rattle.columns.specs.Counting.{many};
-ghost use Rattle.table.specs.Lts.{Lts, lts, Valid, NeverFalls};
+ghost use Rattle.columns.specs.Columns.{listed, sortBy, wiped, NeverFalls};
+ghost use Rattle.columns.specs.Counting.{many, bit};
+ghost use Rattle.table.specs.Hidden.{hiddenIn};
+ghost use Rattle.table.specs.Lts.{Lts, lts, Valid};
 ghost use Rattle.table.specs.Reach.{takes, edge, reaches};
 ghost use Rattle.table.specs.Search.{Search, appended};
 ghost use Rattle.table.specs.Stretch.{ByTarget, StartsOf, firstRow, firstInto, nextIncoming};
@@ -184,6 +184,17 @@ pub fn taken(label: &[u16], hidden: bool, i: usize) -> bool
         return true;
     }
     if at(label, i) == 0 { true } else { false }
+}
+
+// Whether row i is hidden, and the state that it has in the column `ends`, its target or its source, is one of block b.
+pub fn hidden_in(label: &[u16], ends: &[u16], element_to_block: &[u16], b: usize, i: usize) -> bool
+    requires { ⌜ (i < length (now label)) × (i < length (now ends)) × (getD (now ends) i 0 < length (now «element_to_block»)) ⌝ }
+    ensures { λ r. ⌜ r ≡ hiddenIn (was label) (was ends) (was «element_to_block») b i ⌝ }
+{
+    if at(label, i) != 0 {
+        return false;
+    }
+    at(element_to_block, at(ends, i)) == b
 }
 
 // Marks state u and puts it behind the first `tail` cells of the queue, unless it is marked already. Returns the queue's new

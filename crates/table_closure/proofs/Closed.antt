@@ -9,11 +9,11 @@ use mathlib.Core.Logic.{_⊎_, inl, inr, ⊎-elim}
 use mathlib.Core.List.{List}
 use lib.Dec.{eqb, ltb}
 use lib.ListN.{getD}
-use Rattle.table_closure.specs.Promise.{Marked, homeOf}
+use Rattle.table_closure.specs.Promise.{Marked}
 use Rattle.table_closure.specs.Closure.{silentb, markSource, markInto, goesOn, readDown, close}
 use Rattle.columns.proofs.All.{top-or-below}
 use Rattle.columns.proofs.Bools.{contra}
-use Rattle.partition.specs.Partition.{Partition, Sound}
+use Rattle.partition.specs.Partition.{Partition, Sound, homeOf}
 use Rattle.table.specs.Lts.{Lts, Valid}
 use Rattle.table_closure.proofs.Closing.{goes-marked}
 use Rattle.table_closure.proofs.Growing.{MarksGrown}

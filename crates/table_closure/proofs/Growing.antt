@@ -12,7 +12,7 @@ use Rattle.columns.proofs.Inverses.{length-swappedInverse, offset-other}
 use Rattle.columns.proofs.Swaps.{length-swapped, swapped-other}
 use Rattle.partition.specs.Mark.{mark, moved}
 use Rattle.partition.specs.Partition.{Partition, Consistent, Long, Sound}
-use Rattle.partition.specs.Readers.{unmarkedb}
+use Rattle.partition.specs.Marked.{unmarkedb}
 use Rattle.partition.proofs.Keeps.{mark-consistent}
 use Rattle.partition.proofs.Owned.{owned}
 

@@ -115,7 +115,7 @@ module _ (t : Lts) (v : Valid t) where
         let g = rows-out q j n in
         let same : p ≡ q = key-same p q (f .0) (g .0) e in
         let at : getD elements (x + i) 0 ≡ getD elements (x + j) 0 = sym (f .1 .0) ∙ ap (λ (k : ℕ). getD (t .source) k 0) same ∙ g .1 .0 in
-        let one : x + i ≡ x + j = s .once (x + i) (x + j) (omega arith) (omega (arith, a, c)) (omega arith) (omega (arith, c)) at in
+        let one : i ≡ j = s .stand .once i j (omega (arith, a, c)) c at in
         omega (arith, one, a))
 
     -- sorted on the first h cells of a column

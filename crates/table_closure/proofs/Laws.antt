@@ -8,10 +8,10 @@ use mathlib.Core.Path.{_≡_, refl, ap, sym, subst, _∙_}
 use mathlib.Core.Logic.{_↔_}
 use mathlib.Core.List.{List}
 use lib.ListN.{getD}
-use Rattle.table_closure.specs.Promise.{Marked, homeOf, InnerStep, Holding, Closure, Leading, marked, along}
+use Rattle.table_closure.specs.Promise.{Marked, InnerStep, Holding, Closure, Leading, marked, along}
 use Rattle.table_closure.specs.Closure.{silentb, close}
 use Rattle.columns.proofs.Bools.{and-both}
-use Rattle.partition.specs.Partition.{Partition, Sound}
+use Rattle.partition.specs.Partition.{Partition, Sound, homeOf}
 use Rattle.table.specs.Lts.{Lts, Valid, Step}
 use Rattle.table.proofs.Rows.{row-step, step-row}
 use Rattle.table_closure.proofs.Closed.{Closed, close-closed}

@@ -8,10 +8,10 @@ use mathlib.Core.Logic.{⊎-elim}
 use mathlib.Core.List.{List}
 use lib.Dec.{eqb}
 use lib.ListN.{getD}
-use Rattle.table_closure.specs.Promise.{Marked, homeOf}
+use Rattle.table_closure.specs.Promise.{Marked}
 use Rattle.table_closure.specs.Closure.{silentb, markSource, markInto, goesOn, readDown}
 use Rattle.partition.specs.Mark.{mark}
-use Rattle.partition.specs.Partition.{Partition, Sound}
+use Rattle.partition.specs.Partition.{Partition, Sound, homeOf}
 use Rattle.partition.proofs.Owned.{owned}
 use Rattle.table.specs.Lts.{Lts, Valid}
 use Rattle.table_closure.proofs.Closing.{goes-marked}

@@ -90,8 +90,7 @@ module _ (t : Lts) (home : List ℕ) (b : ℕ) (elements : List ℕ) (x z : ℕ)
             ∙ sum-cong (λ j. length (rows j)) (λ j. many (t .m) (λ i. eqb (getD (t .source) i 0) (state j) && innerb t home b i)) k
             (λ j w. length-inner t home b (state j)),
         owned-few (t .m) (λ i. getD (t .source) i 0) (innerb t home b) state k
-            (λ i j a c e.
-            let q = s .once (x + i) (x + j) (omega arith) (omega (arith, w, a)) (omega arith) (omega (arith, w, c)) e in omega (arith, q)),
+            (λ i j a c e. s .stand .once i j (omega (arith, w, a)) (omega (arith, w, c)) e),
       )
 
   pub gather-start : (l₀ : List ℕ) → Gathered t home b elements x z l₀ 0 x l₀

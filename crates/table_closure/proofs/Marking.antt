@@ -10,13 +10,13 @@ use mathlib.Core.List.{List}
 use lib.Dec.{ltb}
 use lib.ListN.{getD}
 use lib.Seq.{getD-set-same}
-use Rattle.table_closure.specs.Promise.{Marked, homeOf}
+use Rattle.table_closure.specs.Promise.{Marked}
 use Rattle.columns.proofs.All.{same-or-not}
 use Rattle.columns.proofs.Inverses.{offset-i}
 use Rattle.columns.proofs.Swaps.{swapped-j}
 use Rattle.partition.specs.Mark.{mark, moved}
-use Rattle.partition.specs.Partition.{Partition, Sound}
-use Rattle.partition.specs.Readers.{unmarkedb}
+use Rattle.partition.specs.Partition.{Partition, Sound, homeOf}
+use Rattle.partition.specs.Marked.{unmarkedb}
 use Rattle.table_closure.proofs.Growing.{MarksGrown, mark-grown, moved-before, both}
 
 -- a state of block b is marked exactly if it stands at or after the split

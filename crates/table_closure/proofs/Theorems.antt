@@ -7,11 +7,11 @@ use Prim.Native.Nat.{ℕ, _<_}
 use lib.ListN.{length}
 use Rattle.columns.specs.Answers.{done}
 use Rattle.columns.specs.Columns.{zeros}
-use Rattle.partition.specs.Partition.{Partition, Sound}
+use Rattle.partition.specs.Partition.{Partition, Sound, homeOf}
 use Rattle.table.specs.Lts.{Lts, Valid}
 use Rattle.table.proofs.Sayings.{left-said}
 use Rattle.table_closure.specs.Closure.{closureRefusal, close, markBackwardClosure}
-use Rattle.table_closure.specs.Promise.{Marked, homeOf, Leading, Elsewhere}
+use Rattle.table_closure.specs.Promise.{Marked, Leading, Elsewhere}
 use Rattle.table_closure.proofs.Answering.{closure-ready}
 use Rattle.table_closure.proofs.Laws.{close-law, close-exactly}
 -- What it leaves is a partition.

@@ -12,15 +12,13 @@ use Rattle.partition.specs.Mark.{mark}
 use Rattle.partition.specs.Partition.{Partition}
 use Rattle.table_partition.specs.Checks.{bothArgumentRefusal}
 use Rattle.table.specs.Checks.{worksLong}
+use Rattle.table.specs.Hidden.{hiddenIn}
 use Rattle.table.specs.Lts.{Lts}
 
 -- row i is hidden and comes from a state of block b; `home` has the block of each state
-unfoldable pub silentIn : List ℕ → List ℕ → List ℕ → ℕ → ℕ → Bool
-silentIn source label home b i = eqb (getD label i 0) 0 && eqb (getD home (getD source i 0) 0) b
-
 unfoldable pub silentb : Lts → List ℕ → ℕ → ℕ → Bool
-unfolding silentIn
-silentb t home b i = silentIn (t .source) (t .label) home b i
+unfolding hiddenIn
+silentb t home b i = hiddenIn (t .label) (t .source) home b i
 
 -- the source of such a row is marked
 unfoldable pub markSource : Lts → ℕ → ℕ → Partition → Partition

@@ -1,5 +1,5 @@
 -- Loop invariants of the list of a block's inner rows: what the proofs go by, nothing that a contract of an operation says.
-use Prim.Native.Nat.{ℕ, _≤_, _<_}
+use Prim.Native.Nat.{ℕ, _-_, _≤_, _<_}
 use mathlib.Core.Path.{_≡_}
 use mathlib.Core.Logic.{_⊎_}
 use mathlib.Core.Bool.{Bool, true, _&&_}
@@ -8,6 +8,7 @@ use lib.Dec.{eqb}
 use lib.ListN.{length, getD}
 use Rattle.table_closure.specs.Closure.{silentb}
 use Rattle.columns.specs.Counting.{members}
+use Rattle.partition.specs.Stand.{Stand}
 use Rattle.table.specs.Lts.{Lts}
 
 -- row i is hidden, comes from a state of block b and leads to one; `home` has the block of each state
@@ -23,9 +24,7 @@ innerRows t home b s = members (t .m) (λ i. eqb (getD (t .source) i 0) s && inn
 -- the states of block b stand at the positions from x to before z, each once
 pub record Stands (n : ℕ) (elements home : List ℕ) (b x z : ℕ) : Type 0 where
   pub low : x ≤ z
-  pub most : z ≤ length elements
-  pub state : (k : ℕ) → x ≤ k → k < z → getD elements k 0 < n
-  pub once : (j k : ℕ) → x ≤ j → j < z → x ≤ k → k < z → getD elements j 0 ≡ getD elements k 0 → j ≡ k
+  pub stand : Stand elements n x (z - x)
   pub all : (s : ℕ) → s < n → getD home s 0 ≡ b → (k : ℕ) × (x ≤ k) × (k < z) × (getD elements k 0 ≡ s)
 
 -- the first h cells of a column name the hidden rows that stay in block b, each once, by target, and among equals as the rows come

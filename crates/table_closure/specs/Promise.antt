@@ -4,16 +4,12 @@ use Prim.Native.Nat.{ℕ, _≤_, _<_}
 use mathlib.Core.Bool.{false}
 use mathlib.Core.Path.{_≡_}
 use lib.ListN.{getD}
-use Rattle.partition.specs.Partition.{Partition, Sound}
-use Rattle.partition.specs.Readers.{unmarkedb}
+use Rattle.partition.specs.Partition.{Partition, Sound, homeOf}
+use Rattle.partition.specs.Marked.{unmarkedb}
 use Rattle.table.specs.Lts.{Lts, Step}
 
 abbrev pub Marked : Partition → ℕ → Type 0
 Marked p s = unmarkedb p s ≡ false
-
--- the block of state s
-abbrev pub homeOf : Partition → ℕ → ℕ
-homeOf p s = getD (p .element-to-block) s 0
 
 -- a hidden step from s to u within block b
 pub record InnerStep (t : Lts) (p : Partition) (b s u : ℕ) : Type 0 where

@@ -6,7 +6,6 @@ ghost use mathlib.Core.Path.{_≡_};
 ghost use Prim.Native.Nat.{ℕ, _+_, _-_, _≤_, _<_};
 ghost use lib.Dec.{eqb};
 ghost use lib.ListN.{length, getD, take};
-ghost use Rattle.table_closure.specs.Closure.{silentIn};
 ghost use Rattle.table_closure.specs.Inner.{innerb, innerRows, Stands, InnerList};
 ghost use Rattle.columns.specs.Columns.{laid};
 ghost use Rattle.table.specs.Lts.{Valid};
@@ -15,21 +14,8 @@ ghost use Rattle.table.specs.Lent.{ltsOf, ltsNow};
 use columns::cells::at;
 use columns::sorting::sort;
 use table::Table;
+use table::core::hidden_in;
 use table::core::rows_of;
-use table::core::taken;
-
-// Whether row i is hidden and comes from a state of block b.
-fn is_silent(source: &[u16], label: &[u16], element_to_block: &[u16], b: usize, i: usize) -> bool
-    requires { ⌜ (i < length (now source)) × (i < length (now label)) × (getD (now source) i 0 < length (now «element_to_block»)) ⌝ }
-    ensures { λ r. ⌜ r ≡ silentIn (was source) (was label) (was «element_to_block») b i ⌝ }
-{
-    if !taken(label, true, i) {
-        return false;
-    }
-    let s = at(source, i);
-    let home = at(element_to_block, s);
-    if home == b { true } else { false }
-}
 
 // Whether row i is hidden, comes from a state of block b and leads to one.
 fn is_inner(
@@ -45,7 +31,7 @@ fn is_inner(
     requires { ⌜ (getD (now source) i 0 < length (now «element_to_block»)) × (getD (now target) i 0 < length (now «element_to_block»)) ⌝ }
     ensures { λ r. ⌜ r ≡ innerb (ltsOf table source label target) (was «element_to_block») b i ⌝ }
 {
-    if !is_silent(source, label, element_to_block, b, i) {
+    if !hidden_in(label, source, element_to_block, b, i) {
         return false;
     }
     let u = at(target, i);

@@ -10,7 +10,7 @@ use lib.ListN.{length, getD}
 use Rattle.columns.specs.Sets.{Mem}
 use Rattle.columns.proofs.All.{top-or-below}
 use Rattle.table.specs.Lts.{Lts, Step, Valid, rows}
-use Rattle.table.specs.Reach.{Walk, stop, along, takes, edge}
+use Rattle.table.specs.Reach.{stop, along, takes, Way}
 use Rattle.table.proofs.Rows.{step-row}
 use Rattle.table.proofs.Walks.{edge-step, takes-hidden}
 use Rattle.table_order.specs.Order.{lastFirst, visit, sweep, behind, placeOf, sortPlace, next}
@@ -58,7 +58,7 @@ abbrev pub Still : Lts → Bool → Type 0
 Still t hidden = (s a u : ℕ) → Step t s a u → takes hidden a ≡ true → s ≡ u
 
 module _ (t : Lts) (hidden : Bool) (still : Still t hidden) where
-  stays : {s u : ℕ} → Walk (edge t hidden) s u → s ≡ u
+  stays : {s u : ℕ} → Way t hidden s u → s ≡ u
   stays stop = refl
   stays (along {s} {u} e w) = let p = edge-step t hidden s u .0 e in still s (p .0) u (p .2) (p .1) ∙ stays w
 

@@ -4,7 +4,7 @@ use mathlib.Core.Bool.{Bool, true, false, not, _&&_, cond}
 use mathlib.Core.List.{List, [], _∷_}
 use Prim.Native.Nat.{ℕ, _+_, _≤_}
 use native.Mathlib.Omega.{arith}
-use borrow.Author.Tests.{leb-true, eq-eqb, ne-eqb}
+use borrow.Author.Tests.{leb-true}
 use lib.Dec.{leb}
 use lib.ListN.{length}
 use Rattle.columns.specs.declared.answers.Refusal.{Refusal}
@@ -17,6 +17,7 @@ use Rattle.columns.specs.Limits.{cyclic}
 use Rattle.table.specs.Lts.{Lts, Valid}
 use Rattle.table.specs.Checks.{worksLong, tableTests}
 use Rattle.table.proofs.Refusals.{checked-of}
+use Rattle.columns.proofs.Saying.{unless-refused, unless-on}
 use Rattle.table_order.specs.Order.{hasCycle}
 use Rattle.table_order.specs.Call.{sortRefusal, sorted, sortTopological}
 
@@ -46,14 +47,17 @@ module _ (t : Lts) (hidden reversed : Bool) (places marks stack : List ℕ) (r :
   pub refused-first : (r .number ≡ 0 → ⊥) → s ≡ refused (r .number) (r .place) →
       (s, (places, (marks, stack))) ≡ sortTopological t hidden reversed places marks stack
   unfolding sortTopological
-  refused-first n f = rw (← e, ne-eqb (r .number) 0 n, f)
+  refused-first n f =
+      unless-refused (sortRefusal t (length places) (length marks) (length stack)) r e (places, (marks, stack)) _ s n f
 
   pub sorted-last :
       r .number ≡ 0 → (p a b : List ℕ) (free : Bool) → s ≡ cond free (done []) (refused cyclic 0) → free ≡ not (hasCycle t hidden)
       → p ≡ sorted t hidden reversed places → a ≡ zeros (length marks) → b ≡ zeros (length stack)
       → (s, (p, (a, b))) ≡ sortTopological t hidden reversed places marks stack
   unfolding sortTopological
-  sorted-last z p a b free f g hp ha hb = rw (← e, eq-eqb (r .number) 0 z, f, g, hp, ha, hb, turn (hasCycle t hidden))
+  sorted-last z p a b free f g hp ha hb =
+      unless-on (sortRefusal t (length places) (length marks) (length stack)) r e (places, (marks, stack)) _ (s, (p, (a, b))) z
+      (rw (f, g, hp, ha, hb, turn (hasCycle t hidden)))
     where
       turn : (c : Bool) → cond (not c) (done []) (refused cyclic 0) ≡ cond c (refused cyclic 0) (done [])
       turn true = refl

@@ -10,7 +10,7 @@ use Rattle.columns.specs.Counting.{some}
 use Rattle.columns.proofs.Firsts.{some-in, some-out}
 use Rattle.columns.proofs.Bools.{contra, and-left, and-right, and-both}
 use Rattle.table.specs.Lts.{Lts, Valid}
-use Rattle.table.specs.Reach.{Walk, stop, along, edge, reaches}
+use Rattle.table.specs.Reach.{Walk, stop, along, reaches, Way}
 use Rattle.table.proofs.Walks.{joined, edge-in, reaches-walk}
 use Rattle.table_order.specs.Order.{next, hasCycle}
 use Rattle.table_order.specs.Machine.{arc, Cycle, cycle}
@@ -19,7 +19,7 @@ use Rattle.table_order.proofs.Successors.{arc-edge, edge-arc}
 
 module _ (t : Lts) (hidden : Bool) where
   -- a walk by accepted rows, without its self-loops
-  walk-arcs : {s u : ℕ} → Walk (edge t hidden) s u → Walk (arc (next t hidden)) s u
+  walk-arcs : {s u : ℕ} → Way t hidden s u → Walk (arc (next t hidden)) s u
   walk-arcs stop = stop
   walk-arcs (along {s} {u} {v} e w) = go (same-or-not s u) (walk-arcs w)
     where
@@ -27,7 +27,7 @@ module _ (t : Lts) (hidden : Bool) where
       go (inl q) w = subst (λ (x : ℕ). Walk (arc (next t hidden)) x v) (sym q) w
       go (inr f) w = along (edge-arc t hidden s u e f) w
 
-  arcs-walk : {s u : ℕ} → Walk (arc (next t hidden)) s u → Walk (edge t hidden) s u
+  arcs-walk : {s u : ℕ} → Walk (arc (next t hidden)) s u → Way t hidden s u
   arcs-walk stop = stop
   arcs-walk (along {s} {u} e w) = along (arc-edge t hidden s u e .0) (arcs-walk w)
 
@@ -48,11 +48,11 @@ module _ (t : Lts) (hidden : Bool) where
     abbrev through : ℕ → ℕ → Bool
     through s u = not (eqb s u) && (reaches t hidden s u && reaches t hidden u s)
 
-    walk-end : {s u : ℕ} → (s ≡ u → ⊥) → Walk (edge t hidden) s u → u < t .n
+    walk-end : {s u : ℕ} → (s ≡ u → ⊥) → Way t hidden s u → u < t .n
     walk-end f stop = absurd (f refl)
     walk-end {s} {u} f (along {u = x} e w) = last x (edge-in t hidden v s x e) w
       where
-        last : (x : ℕ) → x < t .n → Walk (edge t hidden) x u → u < t .n
+        last : (x : ℕ) → x < t .n → Way t hidden x u → u < t .n
         last x h stop = h
         last x h (along {u = y} e w) = last y (edge-in t hidden v x y e) w
 

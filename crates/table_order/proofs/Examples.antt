@@ -1,4 +1,4 @@
--- Table P of document 01, P5, and the cases where there is little or nothing to sort.
+-- Where there is little or nothing to sort.
 use Prim.Native.Nat.{ℕ}
 use mathlib.Core.Path.{_≡_, refl}
 use mathlib.Core.Bool.{Bool, true, false}
@@ -25,11 +25,10 @@ sorted a b c = (done [], (a ∷ b ∷ c ∷ 8 ∷ [], (zeros 6, zeros 6)))
 abbrev cyclic : Said × (List ℕ × (List ℕ × List ℕ))
 cyclic = (refused 11 0, (7 ∷ 7 ∷ 7 ∷ 8 ∷ [], (zeros 6, zeros 6)))
 
--- P5, and the other way round; no row; only self-loops; no hidden row, and a cycle of visible rows, with hidden rows chosen;
+-- two hidden rows, not reversed; no row; only self-loops; no hidden row, and a cycle of visible rows, with hidden rows chosen;
 -- the same with hidden rows; a cycle that no start reaches
 pub examples :
-    (run (table 2 (two 0 0) (two 0 0) (two 1 2)) true true
-    ∷ run (table 2 (two 0 0) (two 0 0) (two 1 2)) true false
+    (run (table 2 (two 0 0) (two 0 0) (two 1 2)) true false
     ∷ run (table 0 [] [] []) true true
     ∷ run (table 2 (two 0 1) (two 0 0) (two 0 1)) false true
     ∷ run (table 2 (two 0 0) (two 1 1) (two 1 2)) true true
@@ -37,6 +36,6 @@ pub examples :
     ∷ run (table 2 (two 0 1) (two 1 1) (two 1 0)) false true
     ∷ run (table 2 (two 1 2) (two 0 0) (two 2 1)) true true
     ∷ [])
-    ≡ (sorted 2 1 0 ∷ sorted 0 1 2 ∷ sorted 0 1 2 ∷ sorted 0 1 2 ∷ sorted 0 1 2 ∷ sorted 0 1 2 ∷ cyclic ∷ cyclic ∷ [])
+    ≡ (sorted 0 1 2 ∷ sorted 0 1 2 ∷ sorted 0 1 2 ∷ sorted 0 1 2 ∷ sorted 0 1 2 ∷ cyclic ∷ cyclic ∷ [])
 unfolding sortTopological
 examples = refl

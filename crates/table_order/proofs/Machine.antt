@@ -11,8 +11,7 @@ use lib.ListN.{length}
 use Rattle.columns.specs.Sets.{Mem}
 use Rattle.columns.proofs.All.{same-or-not}
 use Rattle.columns.proofs.Bools.{contra}
-use Rattle.columns.proofs.Counting.{sum-pick}
-use Rattle.columns.proofs.Sums.{sum-cong, sum-add}
+use Rattle.columns.proofs.Sums.{sum-pick, sum-cong, sum-add}
 use Rattle.table_order.specs.Order.{isIn, behind, visit, lastFirst}
 use Rattle.table_order.specs.Machine.{pushAll, keep, newIn, markFor, left, rest}
 use Rattle.table_order.proofs.Lists.{mem-isIn, not-isIn, isIn-other, mem?, behind-tail}

@@ -10,12 +10,11 @@ use lib.Dec.{eqb}
 use lib.ListN.{length, getD}
 use Rattle.columns.specs.Counting.{sum}
 use Rattle.columns.specs.Rows.{rowsOf}
-use Rattle.columns.specs.Sets.{Mem, Row}
+use Rattle.columns.specs.Sets.{Mem, Row, StepIn}
 use Rattle.columns.proofs.All.{lt-or-le}
 use Rattle.columns.proofs.Bools.{contra, and-left, and-right, and-both}
-use Rattle.columns.proofs.Counting.{sum-pick}
 use Rattle.columns.proofs.Lists.{length-listed}
-use Rattle.columns.proofs.Sums.{sum-mono, sum-add, sum-cong, sum-zero}
+use Rattle.columns.proofs.Sums.{sum-mono, sum-add, sum-cong, sum-zero, sum-pick}
 use Rattle.table.specs.Lts.{Lts, Step, Valid, rows}
 use Rattle.table.specs.Reach.{takes, edge}
 use Rattle.table.proofs.Rows.{step-fields}
@@ -39,7 +38,7 @@ of-counts hidden s a u k f = and-both k (ap not (ne-eqb u s (λ e. f (sym e))))
 -- an accepted row from s to another state
 pub record Accepted (hidden : Bool) (rs : List Row) (s u : ℕ) : Type 0 where
   pub label : ℕ
-  pub row : Mem {A = Row} (s, (label, u)) rs
+  pub row : StepIn rs s label u
   pub taken : takes hidden label ≡ true
   pub other : s ≡ u → ⊥
 
@@ -80,12 +79,12 @@ pub row-succs : (hidden : Bool) (rs : List Row) (s u : ℕ) → Accepted hidden 
 unfolding succs
 row-succs hidden rs s u a = there rs (a .row)
   where
-    there : (l : List Row) → Mem {A = Row} (s, (a .label, u)) l → Mem u (succs hidden l s)
+    there : (l : List Row) → StepIn l s (a .label) u → Mem u (succs hidden l s)
     there [] m = absurd (List·Memᴰ·not-nil m)
     there (r ∷ l) m = go (there l) (ownCounts hidden s r) refl (List·Memᴰ·cases-cons m)
       where
-        go : (Mem {A = Row} (s, (a .label, u)) l → Mem u (succs hidden l s)) → (b : Bool) → ownCounts hidden s r ≡ b →
-            (_≡_ {A = Row} (s, (a .label, u)) r) ⊎ Mem {A = Row} (s, (a .label, u)) l →
+        go : (StepIn l s (a .label) u → Mem u (succs hidden l s)) → (b : Bool) → ownCounts hidden s r ≡ b →
+            (_≡_ {A = Row} (s, (a .label, u)) r) ⊎ StepIn l s (a .label) u →
             Mem u (cond b ((r .1 .1) ∷ succs hidden l s) (succs hidden l s))
         go ih true e (inl q) = List·Memᴰ·head (ap (λ (x : Row). x .1 .1) q)
         go ih true e (inr k) = List·Memᴰ·tail (ih k)

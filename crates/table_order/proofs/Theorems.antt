@@ -5,11 +5,9 @@ use mathlib.Core.Bool.{Bool, true, false, cond}
 use mathlib.Core.List.{List, []}
 use Prim.Native.Nat.{ℕ, _<_}
 use native.Mathlib.Omega.{arith}
-use borrow.Author.Tests.{eqb-true}
-use lib.Dec.{eqb}
 use lib.ListN.{length, getD}
 use Rattle.columns.specs.declared.answers.Refusal.{Refusal}
-use Rattle.columns.specs.Answers.{Said, done, refused}
+use Rattle.columns.specs.Answers.{Said, done, refused, unless}
 use Rattle.columns.specs.Columns.{written, zeros}
 use Rattle.columns.specs.Limits.{cyclic}
 use Rattle.columns.proofs.Bools.{contra}
@@ -18,6 +16,7 @@ use Rattle.columns.proofs.Saying.{apart}
 use Rattle.table.specs.Lts.{Lts, Valid}
 use Rattle.table.specs.Promise.{Beyond}
 use Rattle.table.proofs.Rows.{step-fields}
+use Rattle.columns.proofs.Doing.{unless-done}
 use Rattle.table_order.specs.Order.{sortPlace, hasCycle}
 use Rattle.table_order.specs.Call.{sortRefusal, sorted, sortTopological}
 use Rattle.table_order.specs.Promise.{LongCycle, Permutation, Comes, Topological}
@@ -70,20 +69,14 @@ module _ (t : Lts) (v : Valid t) (hidden reversed : Bool) (free : LongCycle t hi
 -- nothing is refused, neither by the checks nor by the search
 not-refused :
     {A : Type 0} (r : Refusal) (c : Bool) (before after left : A)
-    → _≡_ {A = Said × A} (done [], left)
-    (cond (eqb (r .number) 0) (cond c (refused cyclic 0) (done []), after) (refused (r .number) (r .place), before))
-    → (r .number ≡ 0) × (c ≡ false) × (left ≡ after)
-not-refused {A} r c before after left e = go (eqb (r .number) 0) refl e
+    → (done [], left) ≡ unless r before (cond c (refused cyclic 0) (done []), after) → (r .number ≡ 0) × (c ≡ false) × (left ≡ after)
+not-refused {A} r c before after left e =
+    let d = unless-done r before left [] (cond c (refused cyclic 0) (done []), after) e in
+    (d .0, said c (ap (λ (x : Said × A). x .0) (d .1)), ap (λ (x : Said × A). x .1) (d .1))
   where
     said : (c : Bool) → done [] ≡ cond c (refused cyclic 0) (done []) → c ≡ false
     said true e = absurd (apart _ _ _ e)
     said false e = refl
-
-    go : (b : Bool) → eqb (r .number) 0 ≡ b
-        → _≡_ {A = Said × A} (done [], left) (cond b (cond c (refused cyclic 0) (done []), after) (refused (r .number) (r .place), before))
-        → (r .number ≡ 0) × (c ≡ false) × (left ≡ after)
-    go true q e = (eqb-true (r .number) 0 q, said c (ap (λ (x : Said × A). x .0) e), ap (λ (x : Said × A). x .1) e)
-    go false q e = absurd (apart _ _ _ (ap (λ (x : Said × A). x .0) e))
 
 pub sort-done :
     (t : Lts) (hidden reversed : Bool) (places marks stack left marks₁ stack₁ : List ℕ)

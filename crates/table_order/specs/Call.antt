@@ -2,10 +2,10 @@
 use Prim.Native.Nat.{ℕ}
 use mathlib.Core.Bool.{Bool, _&&_, cond}
 use mathlib.Core.List.{List, [], _∷_}
-use lib.Dec.{leb, eqb}
+use lib.Dec.{leb}
 use lib.ListN.{length}
 use Rattle.columns.specs.declared.answers.Refusal.{Refusal}
-use Rattle.columns.specs.Answers.{Said, done, refused}
+use Rattle.columns.specs.Answers.{Said, done, refused, unless}
 use Rattle.columns.specs.Columns.{written, cleared}
 use Rattle.columns.specs.Due.{due, allLong}
 use Rattle.columns.specs.Limits.{cyclic}
@@ -25,9 +25,7 @@ sorted t hidden reversed places = cond (hasCycle t hidden) places (written (t .n
 
 -- 11 at 0 for a cycle; a call that the checks refuse leaves everything as it was, any other one leaves the work zero
 unfoldable pub sortTopological : Lts → Bool → Bool → List ℕ → List ℕ → List ℕ → Said × (List ℕ × (List ℕ × List ℕ))
-unfolding sortRefusal hasCycle sorted
+unfolding unless sortRefusal hasCycle sorted
 sortTopological t hidden reversed places marks stack =
-    let r = sortRefusal t (length places) (length marks) (length stack) in
-    cond (eqb (r .number) 0)
+    unless (sortRefusal t (length places) (length marks) (length stack)) (places, (marks, stack))
     (cond (hasCycle t hidden) (refused cyclic 0) (done []), (sorted t hidden reversed places, (cleared marks, cleared stack)))
-    (refused (r .number) (r .place), (places, (marks, stack)))

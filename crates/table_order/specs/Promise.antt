@@ -3,15 +3,15 @@ use mathlib.Core.Path.{_≡_}
 use mathlib.Core.Bool.{Bool, true, false}
 use Prim.Native.Nat.{ℕ, _<_}
 use Rattle.table.specs.Lts.{Lts, Step}
-use Rattle.table.specs.Reach.{Walk, takes, edge}
+use Rattle.table.specs.Reach.{Way, takes}
 
 -- a cycle longer than a self-loop: a state reaches itself through another one by accepted rows
 pub record LongCycle (t : Lts) (hidden : Bool) : Type 0 where
   pub from : ℕ
   pub through : ℕ
   pub other : from ≡ through → ⊥
-  pub there : Walk (edge t hidden) from through
-  pub back : Walk (edge t hidden) through from
+  pub there : Way t hidden from through
+  pub back : Way t hidden through from
 
 -- p is a permutation of the numbers below n
 pub record Permutation (n : ℕ) (p : ℕ → ℕ) : Type 0 where

@@ -4,7 +4,8 @@ use mathlib.Core.Bool.{Bool}
 use mathlib.Core.List.{[], _∷_}
 use mathlib.Core.Path.{sym, ap, _∙_}
 use Rattle.columns.specs.declared.answers.Refusal.{Refusal}
-use Rattle.columns.specs.Answers.{bit, done}
+use Rattle.columns.specs.Answers.{done}
+use Rattle.columns.specs.Counting.{bit}
 use Rattle.columns.proofs.Saying.{asked-refused, asked-done}
 use Rattle.pairs.specs.Subset.{subsetRefusal, isSubsetOf}
 use Rattle.pairs.proofs.Subsets.{checked-of}

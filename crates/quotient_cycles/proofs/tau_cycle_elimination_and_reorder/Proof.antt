@@ -115,9 +115,9 @@ tau-cycle-elimination-and-reorder-requires : tie.Need-tau-cycle-elimination-and-
 tau-cycle-elimination-and-reorder-requires c κs = let r = ready (c .before .before .before .before .before .before .before .before
     .before .before .before .before .before) (c .before .before .before .before .before .before .before .before .before .before .before
     .before .if1 .left) in
-    let x = r .result-room in
-    let w = r .work-room in (
-      (r .valid, r .state-below, omega (arith, w .0)),
+    let x = r .0 .result-room in
+    let w = r .0 .work-room in (
+      (r .0 .valid, r .1, omega (arith, w .0)),
       (
         (x .0, x .1 .0, x .1 .1 .0),
         (
@@ -141,7 +141,7 @@ cast-t70 c = omega (
       .before .before .before .before .before .before .before .before .before .before .before) (c .before .before .before .before .before
       .before .before .before .before .before .before .before .before .before .before .before .before .before .before .before .before
       .before .before .before .before .before .before .before .before .before .before .before .before .before .before .before .before
-      .before .if1 .left) .valid .few-labels,
+      .before .if1 .left) .0 .valid .few-labels,
 )
 
 same-length : tie.Need-same-length

@@ -1,6 +1,5 @@
 -- `cell_of` meets its contract.
 use borrow.Author.Needs.{needs}
-use Prim.Native.Nat.{_-_}
 use mathlib.Core.Path.{sym}
 use lib.ListN.{List·getD-eq-default}
 use Rattle.columns.specs.Columns.{cell}

@@ -3,9 +3,8 @@ use borrow.Author.Needs.{needs}
 use native.Mathlib.Omega.{arith}
 use Prim.Native.Nat.{_-_}
 use mathlib.Core.Path.{refl, _∙_}
-use lib.ListN.{length}
+use lib.ListN.{length, replicate, length-replicate}
 use Rattle.columns.proofs.Lists.{Painted, painted-none, painted-more, painted-done, over-all, listed-const}
-use lib.ListN.{replicate, length-replicate}
 use Rattle.columns.proofs.cells.clear.Statement.{statement}
 use Rattle.columns.proofs.cells.clear.Tie as tie
 

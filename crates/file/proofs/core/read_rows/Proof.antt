@@ -1,6 +1,7 @@
 -- `core.read_rows` meets its contract.
 use borrow.Author.Needs.{needs}
-use Rattle.file.specs.Input.{withRows, columnsOver}
+use Rattle.file.specs.Input.{withRows}
+use Rattle.table.specs.Tables.{columnsOver}
 use Rattle.file.proofs.core.read_rows.Statement.{statement}
 use Rattle.file.proofs.core.read_rows.Tie as tie
 

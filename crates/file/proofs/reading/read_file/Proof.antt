@@ -5,8 +5,8 @@ use mathlib.Core.Path.{_≡_, refl, ap, _∙_}
 use Rattle.columns.specs.Answers.{done}
 use Rattle.columns.proofs.Saying.{left-refused, left-done}
 use Rattle.table.specs.declared.Table.{Table}
-use Rattle.table.specs.Tables.{Three, lengthsOf}
-use Rattle.file.specs.Input.{headerIn, withRows, tableIn, fileRefusal, headerNumbers, columnsOver, readFile}
+use Rattle.table.specs.Tables.{Three, lengthsOf, columnsIn, columnsOver}
+use Rattle.file.specs.Input.{headerIn, withRows, tableIn, fileRefusal, headerNumbers, readFile}
 use Rattle.file.proofs.Inputs.{Accepted, accepted-of, readable}
 use Rattle.file.proofs.reading.read_file.Statement.{statement}
 use Rattle.file.proofs.reading.read_file.Tie as tie
@@ -36,8 +36,8 @@ unfolding readFile
 returns c =
     let a = c .before .before .before .before .before .before .before .before in
     let s = a .args .bytes .now in
-    left-refused (fileRefusal s (lengthsOf (given a))) _ (c .before .before .file-refusal .ensures) (given a) (columnsOver (tableIn s)
-    (given a))
+    left-refused (fileRefusal s (lengthsOf (given a))) _ (c .before .before .file-refusal .ensures) (given a)
+    (columnsOver (columnsIn (tableIn s)) (given a))
     (headerNumbers (headerIn s)) _ (c .before .if1 .taken) (c .refusing-table .ensures)
 
 header-requires : tie.Need-header-requires
@@ -82,11 +82,12 @@ returns-2 c =
     let e = c .before .before .before .before .before .before .before .before .before .before .before .before .before .before .before
     .header .ensures in
     left-done (fileRefusal s (lengthsOf (given a))) _ (c .before .before .before .before .before .before .before .before .before .before
-    .before .before .before .before .before .before .before .file-refusal .ensures) (given a) (columnsOver (tableIn s) (given a))
+    .before .before .before .before .before .before .before .file-refusal .ensures) (given a)
+    (columnsOver (columnsIn (tableIn s)) (given a))
     (headerNumbers (headerIn s)) _ _ (c .before .before .before .before .before .before .before .before .before .before .before .before
     .before .before .before .before .if1 .left) (c .table-of .ensures ∙ ap (λ (t : Table). done (headerNumbers t)) e)
     (c .before .before .before .before .before .before .before .before .before .before .before .read-rows .ensures ∙ ap (λ (t : Table).
-    columnsOver (withRows t s) (given a)) e)
+    columnsOver (columnsIn (withRows t s)) (given a)) e)
 
 pub read-file-spec : {M : Type 1} → statement M
 read-file-spec =

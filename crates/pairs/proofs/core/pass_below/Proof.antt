@@ -8,8 +8,6 @@ use Rattle.pairs.specs.Subset.{notBelow}
 use Rattle.columns.proofs.Firsts.{NoneBelow, none-more, first-hit, first-past}
 use Rattle.columns.specs.Rows.{pairAt}
 use Rattle.pairs.proofs.Walking.{stays, stays-before, stays-here}
-use Prim.Native.Nat.{_≤_, _-_}
-use mathlib.Core.Bool.{not}
 use Rattle.pairs.proofs.core.pass_below.Statement.{statement}
 use Rattle.pairs.proofs.core.pass_below.Tie as tie
 

@@ -9,7 +9,6 @@ use Rattle.pairs.specs.Subset.{notBelow}
 use Rattle.pairs.proofs.Refusals.{shorter-left, shorter-right}
 use Rattle.pairs.proofs.Subsets.{rises, at-ends}
 use Rattle.pairs.proofs.Walking.{stands-below, SubsetWalk, walk-start, walk-skip, walk-found, walk-missing, walk-end}
-use borrow.Author.Tests.{not-true, not-false}
 use Rattle.pairs.proofs.core.subset.Statement.{statement}
 use Rattle.columns.specs.Rows.{pairAt}
 use Rattle.pairs.proofs.core.subset.Tie as tie

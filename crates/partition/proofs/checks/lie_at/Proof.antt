@@ -1,5 +1,5 @@
 -- `lie_at` meets its contract.
-use Prim.Native.Nat.{ℕ, _<_, _-_}
+use Prim.Native.Nat.{ℕ, _<_}
 use mathlib.Core.Bool.{Bool}
 use lib.ListN.{getD}
 use mathlib.Core.List.{List}

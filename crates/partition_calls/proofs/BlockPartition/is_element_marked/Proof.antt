@@ -3,15 +3,14 @@ use borrow.Author.Needs.{needs}
 use mathlib.Core.Path.{ap, _∙_}
 use native.Mathlib.Omega.{arith}
 use mathlib.Core.List.{[], _∷_}
-use mathlib.Core.Bool.{true, not}
+use mathlib.Core.Bool.{true, not, Bool}
 use Rattle.columns.proofs.Saying.{asked-refused, asked-done}
-use Rattle.columns.specs.Answers.{bit}
+use Rattle.columns.specs.Counting.{bit}
 use Rattle.partition.specs.Checks.{stateRefusal}
 use Rattle.partition.specs.Partition.{Partition, parts}
 use Rattle.partition.specs.Readers.{isElementMarked}
-use mathlib.Core.Bool.{true, Bool}
 use Rattle.columns.specs.Answers.{done}
-use Rattle.partition.specs.Readers.{unmarkedb}
+use Rattle.partition.specs.Marked.{unmarkedb}
 use Rattle.partition.proofs.Refusals.{argument-ready}
 use Rattle.partition.proofs.Marks.{block-known, marked-read}
 use Rattle.partition_calls.proofs.BlockPartition.is_element_marked.Statement.{statement}

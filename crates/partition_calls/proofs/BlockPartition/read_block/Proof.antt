@@ -3,7 +3,7 @@ use borrow.Author.Needs.{needs}
 use mathlib.Core.Bool.{true}
 use mathlib.Core.Path.{ap, _∙_}
 use native.Mathlib.Omega.{arith}
-use mathlib.Core.List.{[], _∷_}
+use mathlib.Core.List.{[], _∷_, List}
 use lib.ListN.{getD}
 use Rattle.columns.proofs.Saying.{asked-refused, asked-done}
 use Rattle.columns.specs.Answers.{done}
@@ -13,7 +13,6 @@ use Rattle.partition.specs.declared.block.Block.{Block}
 use Rattle.partition.specs.Partition.{Partition, parts}
 use Rattle.partition.specs.Readers.{readBlock}
 use Rattle.partition.proofs.Refusals.{argument-ready}
-use mathlib.Core.List.{List}
 use Prim.Native.Nat.{ℕ}
 use Rattle.partition_calls.proofs.BlockPartition.read_block.Statement.{statement}
 use Rattle.partition_calls.proofs.BlockPartition.read_block.Tie as tie

@@ -7,7 +7,7 @@ use lib.ListN.{getD}
 use lib.Dec.{ltb}
 use Rattle.columns.proofs.All.{all-none, all-more, all-fails, all-done}
 use Rattle.columns.specs.Counting.{all}
-use Rattle.partition_division.specs.Marked.{markedFrom}
+use Rattle.partition.specs.Marked.{markedFrom}
 use borrow.Author.Tests.{not-true, not-false}
 use Rattle.partition_division.proofs.checks.all_below.Statement.{statement}
 use Rattle.partition_division.proofs.checks.all_below.Tie as tie

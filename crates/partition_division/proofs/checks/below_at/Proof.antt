@@ -1,5 +1,4 @@
 -- `below_at` meets its contract.
-use Prim.Native.Nat.{_-_}
 use mathlib.Core.Path.{refl}
 use lib.ListN.{getD}
 use Rattle.partition_division.proofs.Noting.{below-free, below-yes, below-no}

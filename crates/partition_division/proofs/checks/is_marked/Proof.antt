@@ -1,5 +1,4 @@
 -- `is_marked` meets its contract.
-use Prim.Native.Nat.{_-_}
 use Rattle.partition_division.proofs.Noting.{other-block, too-early, is-one}
 use borrow.Author.Needs.{needs}
 use Rattle.partition_division.proofs.checks.is_marked.Statement.{statement}

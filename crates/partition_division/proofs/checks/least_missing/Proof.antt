@@ -1,5 +1,4 @@
 -- `least_missing` meets its contract.
-use Prim.Native.Nat.{_-_}
 use mathlib.Core.Path.{_∙_}
 use borrow.Author.Needs.{needs}
 use Rattle.columns.specs.Limits.{maxStates}

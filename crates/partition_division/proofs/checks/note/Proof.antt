@@ -6,7 +6,7 @@ use mathlib.Core.Path.{_≡_, refl, ap, sym, _∙_}
 use mathlib.Core.Logic.{_⊎_, ⊎-elim}
 use lib.ListN.{length, getD}
 use lib.Dec.{eqb}
-use Rattle.partition_division.specs.Marked.{markedFrom}
+use Rattle.partition.specs.Marked.{markedFrom}
 use Rattle.partition_passes.specs.Invariants.{tallied}
 use Rattle.partition_division.proofs.Noting.{noted-none, noted-pass, noted-more}
 use Rattle.partition_division.proofs.checks.note.Statement.{statement}

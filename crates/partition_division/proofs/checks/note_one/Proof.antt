@@ -1,5 +1,4 @@
 -- `note_one` meets its contract.
-use Prim.Native.Nat.{_-_}
 use Rattle.partition_division.proofs.Noting.{note-in, note-out}
 use borrow.Author.Needs.{needs}
 use Rattle.partition_division.proofs.checks.note_one.Statement.{statement}

@@ -2,7 +2,7 @@
 use borrow.Author.Needs.{needs}
 use mathlib.Core.Path.{_∙_}
 use native.Mathlib.Omega.{arith}
-use Prim.Native.Nat.{ℕ, _-_}
+use Prim.Native.Nat.{ℕ}
 use mathlib.Core.List.{List}
 use Rattle.partition.specs.Partition.{Partition, parts}
 use Rattle.partition_division.proofs.Unfit.{unfit-nine, unfit-alone, unfit-dense, unfit-ten}

@@ -25,12 +25,83 @@ use contract.Monad.{Fun}
 use contract.Running.{givenOf, tables, tablesOf}
 use sound.WpLaws.{FmC, fmOf, WpFn-mono}
 use types.Kit as Kit
-use types.Kit.{Given, Item, Sq, runs, anyQ, atRet, ‵, raw, _⊛_, ⋆, _$_, _∵_, !, qed, by, move, keep, drop, use0, use1}
-use types.Kit.{split, join, rewrite, fsplit, fjoin, fpick, fpack, feqL, feqI, suffices, frame, done}
+use types.Kit.{
+  Given,
+  Item,
+  Sq,
+  runs,
+  anyQ,
+  atRet,
+  ‵,
+  raw,
+  _⊛_,
+  ⋆,
+  _$_,
+  _∵_,
+  !,
+  qed,
+  by,
+  move,
+  keep,
+  drop,
+  use0,
+  use1,
+  split,
+  join,
+  rewrite,
+  fsplit,
+  fjoin,
+  fpick,
+  fpack,
+  feqL,
+  feqI,
+  suffices,
+  frame,
+  done,
+}
 use types.Part.{agg, whole, sub, look-in}
-use types.Run.{look, look-raw, store, store-raw, init, forget, stop, hop, fld, from, load, lit, and-then, no-more, of-opd, un, bin, addr}
-use types.Run.{assigns, assigns-last, land, first, blocks, skips, branches, stays, leaves-loop, exec, Below, again, loops, returns}
-use types.Run.{enter, alloc1, alloc0, params1, pass1, pass0, free1, free0}
+use types.Run.{
+  look,
+  look-raw,
+  store,
+  store-raw,
+  init,
+  forget,
+  stop,
+  hop,
+  fld,
+  from,
+  load,
+  lit,
+  and-then,
+  no-more,
+  of-opd,
+  un,
+  bin,
+  addr,
+  assigns,
+  assigns-last,
+  land,
+  first,
+  blocks,
+  skips,
+  branches,
+  stays,
+  leaves-loop,
+  exec,
+  Below,
+  again,
+  loops,
+  returns,
+  enter,
+  alloc1,
+  alloc0,
+  params1,
+  pass1,
+  pass0,
+  free1,
+  free0,
+}
 use borrow.Author.Tests.{lt-ltb, le-ltb}
 use denote.RattleType.{owns}
 use denote.Laws.{Is}
@@ -40,8 +111,20 @@ use denote.Array.{array-makes}
 use denote.Plain.{uint-vals, uint-tells, uint-makes, uint-lawful}
 use denote.Builtin.{u16, usize}
 use denote.Ref.{RefT}
-use denote.Slice.{sliceTy, sliceVal, MutSlice, ShrSlice, Room, finally, heres, at-slice, codedHoleys}
-use denote.Slice.{slice-vals, mut-slice-tells, shr-slice-tells}
+use denote.Slice.{
+  sliceTy,
+  sliceVal,
+  MutSlice,
+  ShrSlice,
+  Room,
+  finally,
+  heres,
+  at-slice,
+  codedHoleys,
+  slice-vals,
+  mut-slice-tells,
+  shr-slice-tells,
+}
 use denote.Lend.{Held}
 use denote.Index.{row, place-is, elem-back, opens-slice, closes-slice}
 use denote.Signature.{plain, shrSliceOf}
@@ -53,9 +136,22 @@ use denote.Triple.Entry.{onEntry}
 use denote.Triple.Spec.{Meets, tripleOf}
 use denote.Triple.Table.{entered, cited}
 use denote.Triple.Clauses.{lasts}
-use denote.Triple.Walked.{says, Stays, stay-dropped, stay-slice, gave-slice, walkOf, ends-at, walked, walk-meets}
-use denote.Triple.Walked.{goes-dropped, goes-slice, goes-gave-slice}
+use denote.Triple.Walked.{
+  says,
+  Stays,
+  stay-dropped,
+  stay-slice,
+  gave-slice,
+  walkOf,
+  ends-at,
+  walked,
+  walk-meets,
+  goes-dropped,
+  goes-slice,
+  goes-gave-slice,
+}
 use denote.Exit.{yes}
+use Rattle.columns.specs.Columns.{exchanged}
 use Rattle.columns.specs.Limits.{maxStates}
 use Rattle.columns.specs.Answers.{said}
 use Rattle.columns.proofs.answers.Answer as N
@@ -66,14 +162,31 @@ use Rattle.partition.proofs.block.Block.Laws as T′
 use Rattle.partition_calls.specs.declared.BlockPartition.{BlockPartition}
 use Rattle.partition_calls.proofs.BlockPartition as G
 use Rattle.partition_calls.proofs.BlockPartition.Laws as G′
-use Rattle.partition_records.specs.Records.{noBlock, exchanged}
+use Rattle.partition_records.specs.Records.{noBlock}
 use Rattle.partition_records.specs.Tables.{blank, went, swapNumbers}
 use Rattle.partition_records.specs.declared.swapping.Swapped.{Swapped}
 use Rattle.partition_records.proofs.Agreeing.{both-within, records-left}
 use Rattle.partition_records.proofs.Fields.{laidRecords, length-laid, laid-front, laid-more}
-use Rattle.partition_records.proofs.Shared.{R, Tab, table, block-val, table-vals, table-tells, is-table, ref-at}
-use Rattle.partition_records.proofs.Shared.{block-typed, table-typed, var, sets, resets}
-use Rattle.partition_records.proofs.Shared.{record-out, record-put, slot-row, row-slot, answers}
+use Rattle.partition_records.proofs.Shared.{
+  R,
+  Tab,
+  table,
+  block-val,
+  table-vals,
+  table-tells,
+  is-table,
+  ref-at,
+  block-typed,
+  table-typed,
+  var,
+  sets,
+  resets,
+  record-out,
+  record-put,
+  slot-row,
+  row-slot,
+  answers,
+}
 use Rattle.partition_records.proofs.swapping.Swapped as U
 use Rattle.partition_records.proofs.swapping.Swapped.Laws as U′
 use Rattle.partition_records.proofs.records.at_most as most
@@ -227,8 +340,9 @@ module _ {M : Type 1} (𝓤 : URA M) (H : Heap 𝓤) (A : Atoms 𝓤) (W : Given
       xj = getD xs j noBlock
 
       swaps : (go : Bool) → (go ≡ true → (i < length xs) × (j < length xs))
-          → ((us : List Block) → length us ≡ length xs → us ≡ cond go (exchanged i j xs) xs → Sq W (Rows go us) (runs (𝓣 .C) (𝓣 .Λ) E
-          code-mir.t-13 (atRet E Post))) → Sq W (Rows go xs) (runs (𝓣 .C) (𝓣 .Λ) E code-mir.t-12 (atRet E Post))
+          → ((us : List Block) → length us ≡ length xs → us ≡ cond go (exchanged noBlock i j xs) xs
+          → Sq W (Rows go us) (runs (𝓣 .C) (𝓣 .Λ) E code-mir.t-13 (atRet E Post)))
+          → Sq W (Rows go xs) (runs (𝓣 .C) (𝓣 .Λ) E code-mir.t-12 (atRet E Post))
       unfolding exchanged
       swaps false needed k = first ! $ branches ! (var ! 8 refl) (λ z. absurd z)
           (λ _. skips ! $ exec ! (𝓣 .C) (𝓣 .Λ) E code-mir.t-13 (atRet E Post) $ k xs refl refl)
@@ -428,7 +542,7 @@ module _ {M : Type 1} (𝓤 : URA M) (H : Heap 𝓤) (A : Atoms 𝓤) (W : Given
       (fobs γ₃ (codedHoleys R .code (heres R us))) ∷ ‵ (fbor κ₃ (Held R (length us) b₃ o₃ γ₃)) ∷ []
 
   exits : (t : List Block) (m : ℕ) (r : Swapped) (zs : List ℕ) (us : List Block) → Limited m → take m t ≡ take m xs → Swaps t m r zs →
-      us ≡ cond (r .go) (exchanged a b xs) xs → length zs ≡ length ls → length us ≡ len
+      us ≡ cond (r .go) (exchanged noBlock a b xs) xs → length zs ≡ length ls → length us ≡ len
       → Is N.the-row (r .answer) (LL.vals N.the-type N′.the-laws (r .answer))
       → ent 𝓤 (⋆ 𝓤 H A (Had zs us)) (Post (LL.val N.the-type N′.the-laws (r .answer)))
   exits t m r zs us h et d eu lz lu is =

@@ -19,11 +19,63 @@ use ghost.Atoms.{Atoms}
 use contract.Monad.{Fun}
 use contract.Running.{givenOf, tables, tablesOf}
 use sound.WpLaws.{FmC, fmOf, WpFn-mono}
-use types.Kit.{Given, Item, ‵, raw, _⊛_, some, later, ⋆, _$_, _∵_, !, qed, by, move, keep, drop, use1, use2, use3}
-use types.Kit.{split, join, pick, rewrite, fsplit, fjoin, feqL, suffices, frame, await, done}
+use types.Kit.{
+  Given,
+  Item,
+  ‵,
+  raw,
+  _⊛_,
+  some,
+  later,
+  ⋆,
+  _$_,
+  _∵_,
+  !,
+  qed,
+  by,
+  move,
+  keep,
+  drop,
+  use1,
+  use2,
+  use3,
+  split,
+  join,
+  pick,
+  rewrite,
+  fsplit,
+  fjoin,
+  feqL,
+  suffices,
+  frame,
+  await,
+  done,
+}
 use types.Part.{agg, whole, sub, look-in}
-use types.Run.{look, init, forget, stop, hop, fld, from, load, and-then, no-more, of-opd, addr, land, returns}
-use types.Run.{enter, alloc1, alloc0, params1, pass1, pass0, free1, free0}
+use types.Run.{
+  look,
+  init,
+  forget,
+  stop,
+  hop,
+  fld,
+  from,
+  load,
+  and-then,
+  no-more,
+  of-opd,
+  addr,
+  land,
+  returns,
+  enter,
+  alloc1,
+  alloc0,
+  params1,
+  pass1,
+  pass0,
+  free1,
+  free0,
+}
 use types.Tokens.{lft-new, lft-end}
 use types.SemTy.{cells, Arr}
 use borrow.Struct.Items.{made-array}
@@ -47,8 +99,7 @@ use denote.Triple.Entry.{onEntry}
 use denote.Triple.Spec.{Meets, tripleOf}
 use denote.Triple.Table.{entered, cited}
 use denote.Triple.Clauses.{lasts}
-use denote.Triple.Walked.{says, needs, Stays, stay-dropped, gave-slice, walkOf, ends-at}
-use denote.Triple.Walked.{walked, goes-dropped, goes-gave-slice, walk-meets}
+use denote.Triple.Walked.{says, needs, Stays, stay-dropped, gave-slice, walkOf, ends-at, walked, goes-dropped, goes-gave-slice, walk-meets}
 use denote.Exit.{yes}
 use Rattle.columns.specs.Limits.{maxStates}
 use Rattle.columns.specs.declared.answers.Answer.{Answer}
@@ -64,8 +115,21 @@ use Rattle.partition_calls.proofs.BlockPartition.Laws as G′
 use Rattle.partition_records.specs.Records.{swapRecords}
 use Rattle.partition_records.specs.Tables.{swapFirst}
 use Rattle.partition_records.specs.declared.swapping.SwappedTable.{SwappedTable}
-use Rattle.partition_records.proofs.Shared.{R, Tab, table, table-vals, table-val, table-tells, ref-at, table-typed}
-use Rattle.partition_records.proofs.Shared.{var, sets, slot-row, row-slot, answers}
+use Rattle.partition_records.proofs.Shared.{
+  R,
+  Tab,
+  table,
+  table-vals,
+  table-val,
+  table-tells,
+  ref-at,
+  table-typed,
+  var,
+  sets,
+  slot-row,
+  row-slot,
+  answers,
+}
 use Rattle.partition_records.proofs.swapping.SwappedTable as B
 use Rattle.partition_records.proofs.swapping.SwappedTable.Laws as B′
 use Rattle.partition_records.proofs.swapping.swap_blocks as swap

@@ -5,7 +5,7 @@ use Prim.Native.Nat.{ℕ}
 use mathlib.Core.Bool.{true, false}
 use mathlib.Core.Path.{_≡_, sym, ap, _∙_}
 use lib.Dec.{eqb}
-use Rattle.bisimulation.specs.Quotient.{blockOf}
+use Rattle.columns.specs.Blocks.{blockOf}
 use Rattle.columns.specs.Sets.{Row}
 use Rattle.columns.specs.Rows.{rowIn}
 use Rattle.quotient.proofs.Switches.{row-visible, row-loop, row-outward, row-inert}

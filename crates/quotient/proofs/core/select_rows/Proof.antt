@@ -3,7 +3,8 @@ use borrow.Author.Needs.{needs}
 use native.Mathlib.Omega.{arith}
 use Prim.Native.Nat.{_-_}
 use mathlib.Core.Path.{sym, _∙_}
-use Rattle.bisimulation.specs.Quotient.{blockOf, between}
+use Rattle.bisimulation.specs.Quotient.{between}
+use Rattle.columns.specs.Blocks.{blockOf}
 use Rattle.columns.specs.Rows.{rowIn}
 use Rattle.quotient.specs.Naive.{stays, naiveRows}
 use Rattle.quotient.proofs.Picks.{RowPicking, pick-start, pick-more, pick-pass, pick-done}

@@ -4,7 +4,8 @@ use native.Mathlib.Omega.{arith}
 use Prim.Native.Nat.{_-_}
 use mathlib.Core.Path.{sym, _∙_}
 use lib.ListN.{getD}
-use Rattle.bisimulation.specs.Quotient.{blockOf, between}
+use Rattle.bisimulation.specs.Quotient.{between}
+use Rattle.columns.specs.Blocks.{blockOf}
 use Rattle.quotient.proofs.Picks.{RowPicking, pick-start, pick-more, pick-pass, pick-done}
 use Rattle.quotient_block.specs.Chosen.{ofChosen, chosenRows}
 use Rattle.table.specs.Lts.{Fields, lts}

@@ -49,14 +49,15 @@ inner-row-requires c κs =
       omega (arith, m, v .long .label),
       omega (arith, m, v .long .target),
       omega (arith, v .fields (c .before .loop .i) (omega (arith, m)) .target, S q .pre .1),
+      q .before .at .ensures .0,
     )
 
 returns : tie.Need-returns Inv-loop μ-loop
 returns c =
     let q = c .before .before .before .before in
-    look-hit (L (S q)) (S q .args .home .now) (S q .args .s) _ _ (from q) (c .before .before .before .loop .i) _ _ (c .before .before
+    look-hit (L (S q)) (S q .args .home .now) (S q .args .s) _ _ (from q) (c .before .before .before .loop .i) _ (c .before .before
     .before .loop .inv) (omega arith)
-    (q .before .at .ensures .0) (c .before .inner-row .ensures) (c .if1 .taken)
+    (c .before .inner-row .ensures) (c .if1 .taken)
 
 add-i : tie.Need-add-i Inv-loop μ-loop
 add-i c = let q = c .before .before .before .before in omega (arith, from q .most, S q .pre .0 .few-rows)
@@ -67,9 +68,9 @@ loop-less c = omega arith
 loop-again : tie.Need-loop-again Inv-loop μ-loop
 loop-again c =
     let q = c .before .before .before .before in
-    look-more (L (S q)) (S q .args .home .now) (S q .args .s) _ _ (from q) (c .before .before .before .loop .i) _ _ (c .before .before
+    look-more (L (S q)) (S q .args .home .now) (S q .args .s) _ _ (from q) (c .before .before .before .loop .i) _ (c .before .before
     .before .loop .inv) (omega arith)
-    (q .before .at .ensures .0) (c .before .inner-row .ensures) (c .if1 .left)
+    (c .before .inner-row .ensures) (c .if1 .left)
 
 returns-2 : tie.Need-returns-2 Inv-loop μ-loop
 returns-2 c =

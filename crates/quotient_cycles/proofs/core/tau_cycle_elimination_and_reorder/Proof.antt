@@ -5,7 +5,7 @@ use mathlib.Core.Path.{_≡_, ap, _∙_}
 use mathlib.Core.List.{List}
 use native.Mathlib.Omega.{arith}
 use lib.ListN.{length, getD}
-use Rattle.bisimulation.specs.Quotient.{blockOf}
+use Rattle.columns.specs.Blocks.{blockOf}
 use Rattle.columns.specs.Columns.{zeros}
 use Rattle.columns.specs.Sets.{Row}
 use Rattle.columns.proofs.Lists.{written-at}

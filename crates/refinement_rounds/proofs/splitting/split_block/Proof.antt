@@ -5,8 +5,9 @@ use mathlib.Core.Path.{refl, sym, subst, _∙_}
 use Prim.Native.Nat.{_+_, _-_, _≤_}
 use lib.ListN.{length}
 use Rattle.partition.specs.Partition.{Partition, parts}
+use Rattle.partition.proofs.Standing.{stands}
 use Rattle.refinement_rounds.specs.Rooms.{storeBehind}
-use Rattle.refinement_rounds.proofs.OneBlock.{read-bounds, read-stands, read-ready, read-divided}
+use Rattle.refinement_rounds.proofs.OneBlock.{read-bounds, read-ready, read-divided}
 use Rattle.refinement_rounds.proofs.Rooms.{front-length, front-fits, front-clear, front-back, parts-behind}
 use Rattle.refinement_signing.specs.Numbered.{alikeAt, Numbered}
 use Rattle.refinement_signing.specs.Stored.{Store, Held}
@@ -93,7 +94,7 @@ number-block-requires c κs =
     let w = read-bounds (P a) (p .0 .0) _ (p .0 .1) _ _ (x .ensures .0) (z .ensures .0) in (
       subst Held (sym (parts-behind (a .args .n) (a .args .labels .now) (a .args .blocks .now) (a .args .d) (a .args .begins .now)))
           (p .1 .0 .0),
-      read-stands (P a) (p .0 .0) _ (p .0 .1) _ _ (x .ensures .0) (z .ensures .0),
+      stands (P a) (p .0 .0) _ (p .0 .1) _ _ (x .ensures .0) (z .ensures .0),
       p .1 .0 .1,
       w .0,
       omega (arith, w .1),

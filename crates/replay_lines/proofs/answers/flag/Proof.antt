@@ -4,7 +4,8 @@ use mathlib.Core.Bool.{Bool, true, false}
 use mathlib.Core.List.{[], _∷_}
 use mathlib.Core.Path.{_≡_, refl, ap, _∙_, _∙⁻¹_}
 use mir.Val.{boolByte}
-use Rattle.columns.specs.Answers.{bit, done, saidFlagOutcome}
+use Rattle.columns.specs.Answers.{done, saidFlagOutcome}
+use Rattle.columns.specs.Counting.{bit}
 use Rattle.replay_lines.proofs.answers.flag.Statement.{statement}
 use Rattle.replay_lines.proofs.answers.flag.Tie as tie
 

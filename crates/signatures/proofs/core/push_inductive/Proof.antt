@@ -8,7 +8,8 @@ use mathlib.Core.List.{[], map}
 use lib.Dec.{eqb}
 use lib.ListN.{getD}
 use Rattle.columns.proofs.TwoColumns.{pairs-none}
-use Rattle.signatures.specs.Inductive.{inertb, markedBy, keyedAt, inductivePushed}
+use Rattle.signatures.specs.Inductive.{markedBy, keyedAt, inductivePushed}
+use Rattle.table.specs.Hidden.{hiddenIn}
 use Rattle.signatures.specs.Strong.{ownRows, rowPair}
 use Rattle.signatures.proofs.Pushing.{Pushing, push-start, push-more, push-done}
 use Rattle.table.proofs.RowsOf.{RowsFrom, rows-from}
@@ -23,7 +24,7 @@ Inv-loop source label target element-offset element-to-block marked-split state 
     end d₀ pushed-labels pushed-blocks i d =
     Pushing []
     (λ k.
-    cond (inertb label target element-to-block b k && markedBy element-offset element-to-block marked-split (getD target k 0))
+    cond (hiddenIn label target element-to-block b k && markedBy element-offset element-to-block marked-split (getD target k 0))
     (tau-hat, getD state-to-key (getD target k 0) 0) (getD label k 0, getD element-to-block (getD target k 0) 0))
     (λ k. eqb (getD source k 0) state) i₀ end pushed-labels₀ pushed-blocks₀ i d pushed-labels pushed-blocks
 
@@ -94,8 +95,8 @@ known q = omega (
       (q .before .before .loop .i) (below (q .before)) .target,
 )
 
-inert-requires : tie.Need-inert-requires Inv-loop μ-loop
-inert-requires c κs =
+hidden-in-requires : tie.Need-hidden-in-requires Inv-loop μ-loop
+hidden-in-requires c κs =
     let v = valid
     (c .before .before .before .before .before .before .before .before .before .before .before .before .before .before .before) in (
       omega (arith, below (c .before), v .long .label),
@@ -242,8 +243,8 @@ loop-again c =
     (omega (arith, c .before .before .before .before .before .before .before .before .loop-test)))
     (keyed-either (a .state-to-key .now) (a .element-to-block .now) _ _
     (c .before .before .before .before .before .before .before .at2 .result) _ _ _
-    (c .before .before .before .before .before .before .inert .result && c .before .before .before .before .before .marked .result) _ e
-    (ap₂ _&&_ (c .before .before .before .before .before .before .inert .ensures)
+    (c .before .before .before .before .before .before .hidden-in .result && c .before .before .before .before .before .marked .result) _ e
+    (ap₂ _&&_ (c .before .before .before .before .before .before .hidden-in .ensures)
     (c .before .before .before .before .before .marked .ensures ∙
     ap (markedBy (a .element-offset .now) (a .element-to-block .now) (a .marked-split .now)) e))
     (c .before .before .before .either .ensures) (c .either2 .ensures))
@@ -298,7 +299,7 @@ push-inductive-spec =
     rows-of-requires
     loop-holds
     at-requires-2
-    inert-requires
+    hidden-in-requires
     marked-requires
     mul-either
     shared-slice-read-either

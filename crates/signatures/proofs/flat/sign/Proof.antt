@@ -11,7 +11,7 @@ use Rattle.columns.specs.Columns.{zeros}
 use Rattle.columns.specs.Rows.{pairsOf}
 use Rattle.columns.specs.Sets.{Pair}
 use Rattle.signatures.specs.Pairs.{Columns, signature, fits, roomFor}
-use Rattle.signatures.proofs.Outcomes.{finish-short, finish-done}
+use Rattle.signatures.proofs.Outcomes.{wrote-none, wrote-all, finished}
 use Rattle.signatures.proofs.Works.{zeroed-of, room-both}
 use Rattle.signatures.proofs.flat.sign.Statement.{statement}
 use Rattle.signatures.proofs.flat.sign.Tie as tie
@@ -60,14 +60,15 @@ returns c =
     let a = c .before .before .before .before .before .before .before .before .before .before .before .before .before .before .before
     .before .before .before .before .before .before .before .before in
     let w = c .before .before .before .before .before .before .before .before .before .before .clear-four .ensures in
-    finish-short (a .args .d) (signature (Pushed a)) (Out a) (Works a) _ _
+    finished (a .args .d) (signature (Pushed a)) (Out a) _ _ (Works a) _
+    (wrote-none (a .args .d) (signature (Pushed a)) (Out a) _
     (room a _ false
     (c .before .before .before .before .before .before .before .before .before .before .before .before .before .before .before .before
     .has-room .ensures)
     (not-true _
     (c .before .before .before .before .before .before .before .before .before .before .before .before .before .before .before .if1
     .taken)))
-    (c .refusing-number .ensures ∙ ap (λ r. refused (r .number) (r .place)) (c .before .refuse .ensures))
+    (c .refusing-number .ensures ∙ ap (λ r. refused (r .number) (r .place)) (c .before .refuse .ensures)))
     (zeroed-of _ (Works a) (w .0 .0, (w .0 .1, (w .1 .0, (w .1 .1, tt)))))
 
 flatten-requires : tie.Need-flatten-requires
@@ -118,7 +119,8 @@ returns-2 c =
     let f = c .before .before .before .before .before .before .before .before .before .before .before .before .before .before .before
     .before .before .before .before .before .before .before .flatten in
     let w = c .before .before .before .before .before .before .before .before .before .clear-four2 .ensures in
-    finish-done (a .args .d) (signature (Pushed a)) (Out a) (Works a) _ _ _
+    finished (a .args .d) (signature (Pushed a)) (Out a) _ _ (Works a) _
+    (wrote-all (a .args .d) (signature (Pushed a)) (Out a) _ _
     (room a _ true
     (c .before .before .before .before .before .before .before .before .before .before .before .before .before .before .before .before
     .before .before .before .before .before .before .before .before .before .before .before .before .before .before .has-room .ensures)
@@ -126,7 +128,7 @@ returns-2 c =
     (c .before .before .before .before .before .before .before .before .before .before .before .before .before .before .before .before
     .before .before .before .before .before .before .before .before .before .before .before .before .before .if1 .left)))
     (c .number .ensures ∙ ap (λ (k : ℕ). done (k ∷ [])) (f .ensures .0))
-    (f .ensures .1 .0)
+    (f .ensures .1 .0))
     (zeroed-of _ (Works a)
     (w .0 .0, (w .0 .1, (w .1 .0 ∙ ap zeros (f .kept .1 .1 .1 .1 .1 .0), (w .1 .1 ∙ ap zeros (f .kept .1 .1 .1 .1 .1 .1 .0), tt)))))
 

@@ -14,7 +14,7 @@ use Rattle.columns.specs.Rows.{pairsOf}
 use Rattle.columns.specs.Sets.{Pair}
 use Rattle.columns.proofs.Bools.{and-left, and-right}
 use Rattle.partition.specs.Partition.{Partition, parts}
-use Rattle.partition.specs.Readers.{unmarkedb}
+use Rattle.partition.specs.Marked.{unmarkedb}
 use Rattle.partition.proofs.Marks.{block-known}
 use Rattle.signatures.specs.Inductive.{markedBy, inductivePushed, inductiveSignature, branchingBisimSignatureInductive}
 use Rattle.signatures.specs.Pairs.{Columns, signature}

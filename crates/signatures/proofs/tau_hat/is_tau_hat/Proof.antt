@@ -3,7 +3,7 @@ use borrow.Author.Needs.{needs}
 use mathlib.Core.Path.{_∙_}
 use mathlib.Core.List.{[], _∷_}
 use lib.Dec.{eqb}
-use Rattle.columns.specs.Answers.{bit}
+use Rattle.columns.specs.Counting.{bit}
 use Rattle.columns.proofs.Saying.{asked-refused, asked-done}
 use Rattle.signatures.specs.TauHat.{labelsRefusal, isTauHat}
 use Rattle.signatures.proofs.tau_hat.is_tau_hat.Statement.{statement}

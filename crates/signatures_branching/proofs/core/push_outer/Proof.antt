@@ -11,7 +11,7 @@ use Rattle.columns.specs.Rows.{pairsOf}
 use Rattle.columns.proofs.Bools.{and-both, and-no-left, and-no-right}
 use Rattle.columns.proofs.Counting.{many-strict}
 use Rattle.columns.proofs.TwoColumns.{length-pairs}
-use Rattle.signatures.specs.Inductive.{inertb}
+use Rattle.table.specs.Hidden.{hiddenIn}
 use Rattle.signatures.specs.Strong.{rowPair}
 use Rattle.signatures.proofs.Pushing.{Pushing, push-start, push-more, push-pass, push-done}
 use Rattle.table.proofs.RowsOf.{RowsFrom, rows-from}
@@ -25,8 +25,8 @@ use Rattle.signatures_branching.proofs.core.push_outer.Tie as tie
 abbrev Inv-loop : tie.InvT-loop
 Inv-loop source label target element-to-block b x pushed-labels₀ pushed-blocks₀ d m i₀ end k₀ pushed-labels pushed-blocks i k =
     Pushing (pairsOf d pushed-labels₀ pushed-blocks₀) (λ j. (getD label j 0, getD element-to-block (getD target j 0) 0))
-    (λ j. eqb (getD source j 0) x && not (inertb label target element-to-block b j)) i₀ end pushed-labels₀ pushed-blocks₀ i k pushed-labels
-    pushed-blocks
+    (λ j. eqb (getD source j 0) x && not (hiddenIn label target element-to-block b j)) i₀ end pushed-labels₀ pushed-blocks₀ i k
+    pushed-labels pushed-blocks
 
 abbrev μ-loop : tie.MeasureT-loop
 μ-loop source label target element-to-block b x pushed-labels₀ pushed-blocks₀ d m i₀ end k₀ pushed-labels pushed-blocks i k = end - i
@@ -37,7 +37,7 @@ L a = lts (a .args .table) (a .args .source .now) (a .args .label .now) (a .args
 
 abbrev F : tie.Start Inv-loop μ-loop → ℕ → Bool
 F a j = eqb (getD (a .args .source .now) j 0) (a .args .x) && not
-    (inertb (a .args .label .now) (a .args .target .now) (a .args .element-to-block .now) (a .args .b) j)
+    (hiddenIn (a .args .label .now) (a .args .target .now) (a .args .element-to-block .now) (a .args .b) j)
 
 valid : (a : tie.Start Inv-loop μ-loop) → Valid (L a)
 valid a = a .pre .0 .0
@@ -77,8 +77,8 @@ below : (q : tie.In-loop Inv-loop μ-loop) → q .before .loop .i
     < q .before .before .before .before .before .before .before .before .before .before .args .table .m
 below q = omega (arith, from (q .before .before) .most, q .loop-test)
 
-inert-requires : tie.Need-inert-requires Inv-loop μ-loop
-inert-requires c κs =
+hidden-in-requires : tie.Need-hidden-in-requires Inv-loop μ-loop
+hidden-in-requires c κs =
     let v = valid (c .before .before .before .before .before .before .before .before .before .before) in
     let l = below c in (
       omega (arith, l, v .long .label),
@@ -105,7 +105,7 @@ loop-again c =
     let a = c .before .before .before .before .before .before .before .before .before .before .before .before .args in
     push-pass _ _ _ _ _ _ _ _ _ _ _ (c .before .before .before .loop .inv) (omega (arith, c .before .before .loop-test))
     (and-no-right (eqb (getD (a .source .now) (c .before .before .before .loop .i) 0) (a .x)) _
-    (ap not (sym (c .before .inert .ensures) ∙ c .if1 .taken)))
+    (ap not (sym (c .before .hidden-in .ensures) ∙ c .if1 .taken)))
 
 at-requires : tie.Need-at-requires Inv-loop μ-loop
 at-requires c κs = omega (
@@ -121,7 +121,7 @@ passes : (q : tie.After-at Inv-loop μ-loop) →
 passes q =
     and-both (from (q .before .before .before .before .before) .own (q .before .before .before .before .loop .i)
     (q .before .before .before .before .loop .inv .low) (omega (arith, q .before .before .before .loop-test)))
-    (ap not (sym (q .before .before .inert .ensures) ∙ q .before .if1 .left))
+    (ap not (sym (q .before .before .hidden-in .ensures) ∙ q .before .if1 .left))
 
 room : (q : tie.After-at Inv-loop μ-loop) → q .before .before .before .before .loop .k
     < q .before .before .before .before .before .before .before .before .before .before .before .before .before .args .d + length
@@ -260,7 +260,7 @@ push-outer-spec =
     cast-m
     rows-of-requires
     loop-holds
-    inert-requires
+    hidden-in-requires
     add-i
     loop-less
     loop-again

@@ -14,7 +14,7 @@ use Rattle.columns.specs.Rows.{pairsOf}
 use Rattle.columns.proofs.Bools.{and-both, and-no-left, and-no-right, contra}
 use Rattle.columns.proofs.Counting.{many-strict}
 use Rattle.columns.proofs.TwoColumns.{length-pairs}
-use Rattle.signatures.specs.Inductive.{inertb}
+use Rattle.table.specs.Hidden.{hiddenIn}
 use Rattle.signatures.specs.Strong.{rowPair}
 use Rattle.signatures.proofs.Pushing.{Pushing, push-start, push-more, push-pass, push-done}
 use Rattle.table.proofs.RowsOf.{RowsFrom, rows-from}
@@ -31,10 +31,10 @@ use Rattle.signatures_branching.proofs.core.visit.Tie as tie
 abbrev Inv-loop : tie.InvT-loop
 Inv-loop source label target element-to-block b pushed-labels₀ pushed-blocks₀ d marks₀ queue₀ head tail m x i₀ end high₀ k₀ pushed-labels
     pushed-blocks marks queue i high k =
-    Visit (length marks₀) m source target (inertb label target element-to-block b) (getD queue₀ 0 0) x queue₀ tail marks queue head high i
+    Visit (length marks₀) m source target (hiddenIn label target element-to-block b) (getD queue₀ 0 0) x queue₀ tail marks queue head high i
     × Pushing (pairsOf d pushed-labels₀ pushed-blocks₀) (λ j. (getD label j 0, getD element-to-block (getD target j 0) 0))
-    (λ j. eqb (getD source j 0) x && not (inertb label target element-to-block b j)) i₀ end pushed-labels₀ pushed-blocks₀ i k pushed-labels
-    pushed-blocks
+    (λ j. eqb (getD source j 0) x && not (hiddenIn label target element-to-block b j)) i₀ end pushed-labels₀ pushed-blocks₀ i k
+    pushed-labels pushed-blocks
 
 abbrev μ-loop : tie.MeasureT-loop
 μ-loop source label target element-to-block b pushed-labels₀ pushed-blocks₀ d marks₀ queue₀ head tail m x i₀ end high₀ k₀ pushed-labels
@@ -66,7 +66,7 @@ size a = visits a .search .size
 
 -- the test of its rows
 abbrev W : Start → ℕ → Bool
-W a = inertb (a .args .label .now) (a .args .target .now) (a .args .element-to-block .now) (a .args .b)
+W a = hiddenIn (a .args .label .now) (a .args .target .now) (a .args .element-to-block .now) (a .args .b)
 
 to : (a : Start) (i : ℕ) → i < a .args .table .m → getD (a .args .target .now) i 0 < length (a .args .marks .now)
 to a i l = omega (arith, valid a .fields i l .target, size a)
@@ -131,8 +131,8 @@ at-requires-2 c κs = omega (
       (c .before .before .before .before .before .before .before .before .before .before .before .before .before .before) .long .target,
 )
 
-inert-requires : tie.Need-inert-requires Inv-loop μ-loop
-inert-requires c κs =
+hidden-in-requires : tie.Need-hidden-in-requires Inv-loop μ-loop
+hidden-in-requires c κs =
     let l = below (c .before) in
     let w = valid
     (c .before .before .before .before .before .before .before .before .before .before .before .before .before .before .before) .long in
@@ -149,8 +149,8 @@ inert-requires c κs =
     )
 
 -- the test of a row: it is hidden and leads to the block
-tested : (q : tie.After-inert Inv-loop μ-loop)
-    → q .inert .result ≡ inertb
+tested : (q : tie.After-hidden-in Inv-loop μ-loop)
+    → q .hidden-in .result ≡ hiddenIn
     (q .before .before .before .before .before .before .before .before .before .before .before .before .before .before .before .before
     .args .label .now)
     (q .before .before .before .before .before .before .before .before .before .before .before .before .before .before .before .before
@@ -159,7 +159,7 @@ tested : (q : tie.After-inert Inv-loop μ-loop)
     .args .element-to-block .now)
     (q .before .before .before .before .before .before .before .before .before .before .before .before .before .before .before .before
     .args .b) (q .before .before .before .loop .i)
-tested q = q .inert .ensures
+tested q = q .hidden-in .ensures
 
 append-requires : tie.Need-append-requires Inv-loop μ-loop
 append-requires c κs =
@@ -231,13 +231,13 @@ loop-again c =
     )
 
 -- a row that is pushed, for which there is room
-module _ (q : tie.After-inert Inv-loop μ-loop) (out : q .inert .result ≡ false) where
+module _ (q : tie.After-hidden-in Inv-loop μ-loop) (out : q .hidden-in .result ≡ false) where
   abbrev F : ℕ → Bool
   F j =
       eqb (getD
       (q .before .before .before .before .before .before .before .before .before .before .before .before .before .before .before .before
       .args .source .now) j 0) (q .before .before .before .before .before .at .result)
-      && not (inertb
+      && not (hiddenIn
       (q .before .before .before .before .before .before .before .before .before .before .before .before .before .before .before .before
       .args .label .now)
       (q .before .before .before .before .before .before .before .before .before .before .before .before .before .before .before .before
@@ -437,7 +437,7 @@ visit-spec =
     rows-of-requires
     loop-holds
     at-requires-2
-    inert-requires
+    hidden-in-requires
     append-requires
     add-i
     loop-less

@@ -9,7 +9,7 @@ use Rattle.pairs_merge.specs.Merged.{heads}
 use Rattle.signatures.specs.Pairs.{Columns}
 use Rattle.signatures.proofs.Works.{zeroed-of}
 use Rattle.signatures_sorted.specs.Joining.{jointSet}
-use Rattle.signatures_sorted.proofs.Emptied.{finished}
+use Rattle.signatures.proofs.Outcomes.{finished}
 use Rattle.signatures_sorted.proofs.core.finish.Statement.{statement}
 use Rattle.signatures_sorted.proofs.core.finish.Tie as tie
 

@@ -12,7 +12,7 @@ use Rattle.columns.specs.Sets.{Pair}
 use Rattle.pairs_merge.specs.Merged.{heads}
 use Rattle.signatures.specs.Pairs.{Columns, fits, roomFor}
 use Rattle.signatures_sorted.specs.Joining.{jointSet}
-use Rattle.signatures_sorted.proofs.Emptied.{wrote-none, wrote-all}
+use Rattle.signatures.proofs.Outcomes.{wrote-all, wrote-none}
 use Rattle.signatures_sorted.proofs.core.write_set.Statement.{statement}
 use Rattle.signatures.proofs.Works.{room-both}
 use Rattle.signatures_sorted.proofs.core.write_set.Tie as tie

@@ -9,7 +9,7 @@ use lib.Dec.{eqb}
 use lib.ListN.{length, getD}
 use Rattle.columns.proofs.Bools.{and-both, and-no-left, and-no-right}
 use Rattle.columns.proofs.Counting.{many-le, many-strict}
-use Rattle.signatures.specs.Inductive.{inertb}
+use Rattle.table.specs.Hidden.{hiddenIn}
 use Rattle.signatures.specs.Strong.{ownRows}
 use Rattle.table.proofs.RowsOf.{RowsFrom, rows-from}
 use Rattle.pairs.specs.Lists.{startAt}
@@ -23,7 +23,7 @@ use Rattle.signatures_sorted.proofs.opening.open_lists.Tie as tie
 
 abbrev Inv-loop : tie.InvT-loop
 Inv-loop source label target element-to-block state starts high₀ low₀ end-high₀ end-low₀ m b i₀ end k₀ high low end-high end-low i k =
-    Opening starts (λ r. getD target r 0) (λ r. eqb (getD source r 0) state && inertb label target element-to-block
+    Opening starts (λ r. getD target r 0) (λ r. eqb (getD source r 0) state && hiddenIn label target element-to-block
     (getD element-to-block state 0) r) i₀ end
     high₀ low₀ end-high₀ end-low₀ i k high low end-high end-low
 
@@ -37,7 +37,7 @@ L a = lts (a .args .table) (a .args .source .now) (a .args .label .now) (a .args
 abbrev F : tie.Start Inv-loop μ-loop → ℕ → Bool
 F a r =
     eqb (getD (a .args .source .now) r 0) (a .args .state)
-    && inertb (a .args .label .now) (a .args .target .now) (a .args .element-to-block .now)
+    && hiddenIn (a .args .label .now) (a .args .target .now) (a .args .element-to-block .now)
     (getD (a .args .element-to-block .now) (a .args .state) 0) r
 
 valid : (a : tie.Start Inv-loop μ-loop) → Valid (L a)
@@ -93,8 +93,8 @@ few q = omega (
       (F (q .before .before .before .before .before .before .before .before .before .before .before .before .before .before)),
 )
 
-inert-requires : tie.Need-inert-requires Inv-loop μ-loop
-inert-requires c κs =
+hidden-in-requires : tie.Need-hidden-in-requires Inv-loop μ-loop
+hidden-in-requires c κs =
     let v = valid (c .before .before .before .before .before .before .before .before .before .before .before .before .before .before) in
     let l = below c in (
       omega (arith, l, v .long .label),
@@ -145,7 +145,7 @@ loop-less c =
     )
 
 -- what was tested of row i
-tested : (q : tie.After-inert Inv-loop μ-loop) → q .inert .result ≡ inertb
+tested : (q : tie.After-hidden-in Inv-loop μ-loop) → q .hidden-in .result ≡ hiddenIn
     (q .before .before .before .before .before .before .before .before .before .before .before .before .before .before .before .args .label
     .now) (q .before .before .before .before .before .before .before .before .before .before .before .before .before .before .before .args
     .target .now)
@@ -158,7 +158,8 @@ tested : (q : tie.After-inert Inv-loop μ-loop) → q .inert .result ≡ inertb
 tested q =
     let a = q .before .before .before .before .before .before .before .before .before .before .before .before .before .before .before .args
     in
-    q .inert .ensures ∙ ap (λ (b : ℕ). inertb (a .label .now) (a .target .now) (a .element-to-block .now) b (q .before .before .loop .i))
+    q .hidden-in .ensures
+    ∙ ap (λ (b : ℕ). hiddenIn (a .label .now) (a .target .now) (a .element-to-block .now) b (q .before .before .loop .i))
     (q .before .before .before .before .at .ensures .0)
 
 passes : (q : tie.Then1 Inv-loop μ-loop) →
@@ -180,7 +181,7 @@ room q =
       q .before .before .before .loop .inv .count,
       many-strict (q .before .before .before .loop .i) (a .args .table .m) (F a) (below (q .before .before)) (passes q),
       own-few (L a) (a .args .state)
-          (inertb (a .args .label .now) (a .args .target .now) (a .args .element-to-block .now)
+          (hiddenIn (a .args .label .now) (a .args .target .now) (a .args .element-to-block .now)
           (getD (a .args .element-to-block .now) (a .args .state) 0)),
     )
 
@@ -284,7 +285,7 @@ open-lists-spec =
     at-requires
     rows-of-requires
     loop-holds
-    inert-requires
+    hidden-in-requires
     at-requires-2
     open-requires
     add-k

@@ -7,9 +7,9 @@ use mathlib.Core.List.{[], _∷_}
 use lib.ListN.{length}
 use lib.Seq.{length-take-le}
 use Rattle.columns.specs.declared.answers.Refusal.{Refusal}
-use Rattle.columns.specs.Answers.{bit, done}
+use Rattle.columns.specs.Answers.{done}
 use Rattle.columns.specs.Columns.{listed, written, zeros}
-use Rattle.columns.specs.Counting.{many}
+use Rattle.columns.specs.Counting.{many, bit}
 use Rattle.columns.proofs.Lists.{front-written}
 use Rattle.columns.proofs.Saying.{left-refused, left-done}
 use Rattle.table.specs.Lts.{Lts, lts}

@@ -12,7 +12,7 @@ use Rattle.partition.specs.Partition.{Partition, parts}
 use Rattle.table.specs.Lts.{Lts, lts}
 use Rattle.table_closure.proofs.Closing.{goes, close-idle}
 use Rattle.table_closure.proofs.Lifting.{fits, listed, listed-close}
-use Rattle.table_closure.proofs.Standing.{stands}
+use Rattle.table_closure.proofs.Standing.{block-stands}
 use Rattle.table_closure.proofs.core.mark_backward_closure.Statement.{statement}
 use Rattle.table_closure.proofs.core.mark_backward_closure.Tie as tie
 
@@ -45,7 +45,7 @@ list-inner-requires c κs =
       (
         a .pre .0 .0,
         g .long .element-to-block,
-        stands (P a) g (a .args .b) (a .pre .1 .1 .1) (c .before .before .before .before .before .before .before .before .at .result)
+        block-stands (P a) g (a .args .b) (a .pre .1 .1 .1) (c .before .before .before .before .before .before .before .before .at .result)
             (c .before .before .before .before .before .before .before .at2 .result)
             (c .before .before .before .before .before .before .before .before .at .ensures .0)
             (c .before .before .before .before .before .before .before .at2 .ensures .0),

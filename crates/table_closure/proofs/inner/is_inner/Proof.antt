@@ -11,12 +11,12 @@ use Rattle.table_closure.specs.Inner.{innerb}
 use Rattle.table_closure.proofs.inner.is_inner.Statement.{statement}
 use Rattle.table_closure.proofs.inner.is_inner.Tie as tie
 
-is-silent-requires : tie.Need-is-silent-requires
-is-silent-requires c κs = search needs
+hidden-in-requires : tie.Need-hidden-in-requires
+hidden-in-requires c κs = search needs
 
 returns : tie.Need-returns
 unfolding innerb
-returns c = sym (and-no-left _ _ (sym (c .before .is-silent .ensures) ∙ not-true _ (c .if1 .taken)))
+returns c = sym (and-no-left _ _ (sym (c .before .hidden-in .ensures) ∙ not-true _ (c .if1 .taken)))
 
 at-requires : tie.Need-at-requires
 at-requires c κs = search needs
@@ -28,7 +28,7 @@ returns-2 : tie.Need-returns-2
 unfolding innerb
 returns-2 c =
     let a = c .before .before .before .before .before .before .before .before .before in
-    sym (and-both (sym (c .before .before .before .before .is-silent .ensures) ∙ not-false _ (c .before .before .before .if1 .left))
+    sym (and-both (sym (c .before .before .before .before .hidden-in .ensures) ∙ not-false _ (c .before .before .before .if1 .left))
     (eq-eqb _ _ (sym (ap (λ (s : ℕ). getD (a .args .element-to-block .now) s 0) (c .before .before .at .ensures .0)) ∙
     (sym (c .before .at2 .ensures .0) ∙ c .if2 .taken))))
 
@@ -43,4 +43,4 @@ returns-3 c =
 
 pub is-inner-spec : {M : Type 1} → statement M
 is-inner-spec =
-    tie.close (tie.spec is-silent-requires returns at-requires at-requires-2 returns-2 returns-3)
+    tie.close (tie.spec hidden-in-requires returns at-requires at-requires-2 returns-2 returns-3)

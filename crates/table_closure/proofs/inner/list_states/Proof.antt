@@ -6,6 +6,7 @@ use mathlib.Core.List.{List, _++_}
 use lib.ListN.{length, getD, take}
 use Rattle.table.specs.Lts.{Lts, lts, Valid}
 use Rattle.table_closure.specs.Inner.{innerRows, Stands}
+use Rattle.table_closure.proofs.Standing.{stands-state}
 use Rattle.table_closure.proofs.Listing.{Gathered, gather-start, gather-few, gather-room, gather-more, gather-done}
 use Rattle.table_closure.proofs.inner.list_states.Statement.{statement}
 use Rattle.table_closure.proofs.inner.list_states.Tie as tie
@@ -32,7 +33,9 @@ loop-holds : tie.Need-loop-holds Inv-loop μ-loop
 loop-holds c = let a = c .before .before .before .before .before .before in gather-start (L a) _ _ _ _ _ (stands a) _
 
 at-requires : tie.Need-at-requires Inv-loop μ-loop
-at-requires c κs = omega (arith, c .loop-test, stands (c .before .before .before .before .before .before .before .before) .most)
+at-requires c κs =
+    let s = stands (c .before .before .before .before .before .before .before .before) in
+    omega (arith, c .loop-test, c .before .loop .inv .low, s .stand .long)
 
 list-state-requires : tie.Need-list-state-requires Inv-loop μ-loop
 list-state-requires c κs =
@@ -40,7 +43,7 @@ list-state-requires c κs =
     let p = c .before .before .before .loop .inv in
     let e = c .before .at .ensures .0 in
     let w : c .before .before .before .loop .k < a .args .z = omega (arith, c .before .before .loop-test) in (
-      (valid a, omega (arith, e, stands a .state (c .before .before .before .loop .k) (p .low) w), a .pre .0 .1),
+      (valid a, omega (arith, e, stands-state _ _ _ _ _ _ (stands a) (c .before .before .before .loop .k) (p .low) w), a .pre .0 .1),
       (
         omega (
           arith,

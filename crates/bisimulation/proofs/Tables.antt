@@ -1,11 +1,12 @@
--- The rows between blocks of those rows that pass a test make a valid table.
+-- The rows between blocks of those rows of a table that pass a test make a valid table.
 use mathlib.Core.Path.{_≡_, refl}
-use mathlib.Core.Bool.{Bool}
+use mathlib.Core.Bool.{Bool, true}
 use mathlib.Core.List.{List}
 use Prim.Native.Nat.{ℕ, _≤_, _<_}
 use native.Mathlib.Omega.{arith}
 use lib.ListN.{length}
+use Rattle.bisimulation.specs.Quotient.{quotient}
 use Rattle.bisimulation.proofs.Kept.{kept, kept-out, kept-ascending, kept-few}
 use Rattle.columns.specs.Sets.{Row}
 use Rattle.table.specs.Lts.{Lts, rows, Valid}
 use Rattle.table.specs.Tables.{tableOf}
@@ -57,3 +58,10 @@ module _ (t : Lts) (v : Valid t) (count : ℕ) (few : count ≤ t .n) (block : �
     initial = refl;
     rows = laid-rows count (t .labels) (block (t .initial)) (kept p block (rows t)) x y z;
   }
+
+-- so do all of them
+pub quotient-valid :
+    (t : Lts) → Valid t → (count : ℕ) → count ≤ t .n → (block : ℕ → ℕ) → ((s : ℕ) → s < t .n → block s < count)
+    → Valid (tableOf count (t .labels) (block (t .initial)) (quotient block (rows t)))
+unfolding quotient
+quotient-valid t v count few block below = kept-valid t v count few block below (λ r. true)
