@@ -46,6 +46,11 @@ pub and-no-right : (a b : Bool) → b ≡ false → (a && b) ≡ false
 and-no-right true b e = e
 and-no-right false b e = refl
 
+-- either part of a test that fails
+pub and-split : (a c : Bool) → (a && c) ≡ false → (a ≡ false) ⊎ (c ≡ false)
+and-split true c e = inr e
+and-split false c e = inl refl
+
 pub or-split : (a b : Bool) → (a || b) ≡ true → (a ≡ true) ⊎ (b ≡ true)
 or-split true b e = inl refl
 or-split false b e = inr e

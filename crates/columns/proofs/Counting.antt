@@ -3,13 +3,13 @@ use Prim.Native.Nat.{ℕ, zero, suc, _+_, _≤_, _<_}
 use native.Mathlib.Omega.{arith}
 use native.Mathlib.Nat.{eq-or-lt-of-le}
 use native.Mathlib.Numerals.{add-one}
-use borrow.Author.Tests.{eq-eqb, ne-eqb}
-use mathlib.Core.Bool.{Bool, true, false, cond}
+use borrow.Author.Tests.{eq-eqb, ne-eqb, lt-ltb, le-ltb}
+use mathlib.Core.Bool.{Bool, true, false, cond, not, _&&_}
 use mathlib.Core.Path.{_≡_, refl, ap, sym, _∙_}
-use mathlib.Core.Logic.{⊎-elim}
-use lib.Dec.{eqb}
+use mathlib.Core.Logic.{⊎-elim, _⊎_, inl, inr}
+use lib.Dec.{eqb, ltb}
 use Rattle.columns.specs.Counting.{sum, many, first, bit}
-use Rattle.columns.proofs.Bools.{cases, contra, fails}
+use Rattle.columns.proofs.Bools.{cases, contra, fails, and-one, and-no-right}
 use Rattle.columns.proofs.All.{top-or-below, same-or-not, lt-or-le, not-below}
 use Rattle.columns.proofs.Sums.{sum-mono, sum-cong, sum-tight, sum-add, sum-zero, sum-one}
 
@@ -25,6 +25,22 @@ bit-imp s t h = ⊎-elim (λ e. omega (arith, bit-true s e, bit-true t (h e))) (
 
 pub bit-most : (s : Bool) → bit s ≤ 1
 bit-most s = ⊎-elim (λ e. omega (arith, bit-true s e)) (λ e. omega (arith, bit-false s e)) (cases s)
+
+pub bit-two : (b : Bool) → (bit b ≡ 1) ⊎ (bit b ≡ 0)
+bit-two true = inl refl
+bit-two false = inr refl
+
+pub bit-one : (b : Bool) → bit b ≡ 1 → b ≡ true
+bit-one true e = refl
+bit-one false e = absurd (omega (arith, e))
+
+pub bit-eqb : (b : Bool) → b ≡ eqb (bit b) 1
+bit-eqb true = refl
+bit-eqb false = refl
+
+pub bit-set : (b : Bool) → not (eqb (bit b) 0) ≡ b
+bit-set true = refl
+bit-set false = refl
 
 -- ---- how many pass
 pub many-sum : (n : ℕ) (f : ℕ → Bool) → many n f ≡ sum (λ k. bit (f k)) n
@@ -212,3 +228,24 @@ pub eqb-same : (a b c d : ℕ) → (a ≡ b → c ≡ d) → (c ≡ d → a ≡ 
 eqb-same a b c d h g =
     ⊎-elim (λ (e : a ≡ b). eq-eqb a b e ∙ sym (eq-eqb c d (h e))) (λ (m : a ≡ b → ⊥). ne-eqb a b m ∙ sym (ne-eqb c d (λ e. m (g e))))
     (same-or-not a b)
+
+-- those before s among the first n, where s is below n
+pub many-cut : (n s : ℕ) (f : ℕ → Bool) → s ≤ n → many n (λ t. f t && ltb t s) ≡ many s f
+unfolding many
+many-cut zero s f h = ap (λ (x : ℕ). many x f) (zero-is s h)
+  where
+    zero-is : (s : ℕ) → s ≤ 0 → 0 ≡ s
+    zero-is s h = omega arith
+many-cut (suc n) s f h =
+    ⊎-elim (λ (e : s ≡ suc n). top e)
+    (λ (m : s ≡ suc n → ⊥).
+    let w : s ≤ n = omega (arith, h, m) in
+    ap (λ (x : ℕ). many n (λ t. f t && ltb t s) + x) (last w) ∙ omega (arith, many-cut n s f w))
+    (same-or-not s (suc n))
+  where
+    last : s ≤ n → bit (f n && ltb n s) ≡ 0
+    last w = bit-false (f n && ltb n s) (and-no-right (f n) (ltb n s) (le-ltb n s w))
+
+    top : s ≡ suc n → many (suc n) (λ t. f t && ltb t s) ≡ many s f
+    top e = many-cong (suc n) (λ t. f t && ltb t s) f (λ t w. and-one (f t) (ltb t s) (lt-ltb t s (omega (arith, w, e)))) ∙
+        ap (λ (x : ℕ). many x f) (sym e)

@@ -50,3 +50,9 @@ module _ (n : ℕ) (f : ℕ → Bool) where
 
   pub some-none : NoneBelow f n → some n f ≡ false
   some-none r = fails (λ e. let p = some-out e in contra (p .passes) (r (p .at) (p .below)))
+
+-- a search that ends below a smaller bound ends there under it too
+pub first-short : (m n : ℕ) (f : ℕ → Bool) → m ≤ n → first n f ≤ m → first n f ≡ first m f
+first-short m n f w h =
+    let r = first-law n f in
+    first-is m f (first n f) h (r .before) (λ l. r .hit (omega (arith, l, w)))

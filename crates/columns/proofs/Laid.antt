@@ -1,10 +1,20 @@
 -- Lists laid one after the other: how long they are together, who is a member, and where each lies.
-use Prim.Native.Nat.{ℕ, zero, suc, _+_, _≤_, _<_}
+use Prim.Native.Nat.{ℕ, zero, suc, _+_, _≤_, _<_, _*_}
 use native.Mathlib.Numerals.{add-one}
 use native.Mathlib.Omega.{arith}
-use mathlib.Core.Path.{_≡_, refl, ap, ap₂, _∙_}
+use mathlib.Core.Path.{_≡_, refl, ap, ap₂, _∙_, sym}
 use mathlib.Core.Logic.{⊎-elim}
-use mathlib.Core.List.{List, [], _++_, List·Memᴰ·not-nil, List·Memᴰ·append-cases, Memᴰ·append-left, Memᴰ·append-right}
+use mathlib.Core.List.{
+  List,
+  [],
+  _++_,
+  List·Memᴰ·not-nil,
+  List·Memᴰ·append-cases,
+  Memᴰ·append-left,
+  Memᴰ·append-right,
+  append-nil,
+  append-assoc,
+}
 use lib.ListN.{length, length-append}
 use Rattle.columns.specs.Columns.{laid, listed}
 use Rattle.columns.specs.Counting.{sum}
@@ -67,3 +77,24 @@ module _ {A : Type 0} (h : ℕ → List A) (f : ℕ → A) where
       → listed (length (h s)) (λ k. f (length (laid h s) + k)) ≡ h s
   unfolding laid
   laid-each n e s w = listed-right (laid h s) (h s) f (laid-before n e (suc s) w)
+
+-- one of several lists that are laid one after the other
+pub laid-at : (h : ℕ → List ℕ) (i m : ℕ) → i < m → (r : List ℕ) × (laid h m ≡ laid h i ++ (h i ++ r))
+unfolding laid
+laid-at h i zero l = absurd (omega arith)
+laid-at h i (suc m) l =
+    ⊎-elim
+    (λ (e : i ≡ m). ([], ap (λ (k : ℕ). laid h k ++ h k) (sym e) ∙ ap (λ (x : List ℕ). laid h i ++ x) (sym (append-nil (h i)))))
+    (λ (w : i < m).
+    let q = laid-at h i m w in (
+      q .0 ++ h m,
+      ap (λ (x : List ℕ). x ++ h m) (q .1)
+          ∙ append-assoc (laid h i) (h i ++ q .0) (h m)
+          ∙ ap (λ (x : List ℕ). laid h i ++ x) (append-assoc (h i) (q .0) (h m)),
+    ))
+    (top-or-below l)
+
+pub length-even : (h : ℕ → List ℕ) (w k : ℕ) → ((j : ℕ) → length (h j) ≡ w) → length (laid h k) ≡ w * k
+unfolding laid
+length-even h w zero e = omega arith
+length-even h w (suc k) e = length-append (laid h k) (h k) ∙ omega (arith, length-even h w k e, e k)

@@ -12,6 +12,7 @@ pub mod Sorts
 pub mod Lists
 pub mod Risings
 pub mod TwoColumns
+pub mod ThreeColumns
 pub mod Blending
 pub mod RowSets
 pub mod Parts

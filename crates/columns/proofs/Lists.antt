@@ -38,6 +38,7 @@ use lib.Seq.{
   getD-append-add,
   getD-drop,
   ext-getD,
+  getD-set-same,
 }
 use Rattle.columns.specs.Columns.{listed, over, written, zeros, wiped}
 use Rattle.columns.proofs.All.{top-or-below, lt-or-le}
@@ -292,3 +293,12 @@ tail-zero h l m e z k w =
     let q : k ≡ h + (k - h) = omega arith in
     ap (λ (y : ℕ). getD l y 0) q ∙ sym (getD-drop h l (k - h) 0) ∙ ap (λ (x : List ℕ). getD x (k - h) 0) e ∙ getD-drop h m (k - h) 0 ∙
     z (h + (k - h))
+
+pub set-here : (l : List ℕ) (i x k : ℕ) → i < length l → k ≡ i → getD (set l i x) k 0 ≡ x
+set-here l i x k h e = ap (λ (j : ℕ). getD (set l i x) j 0) e ∙ getD-set-same l i x 0 h
+
+-- cells behind what is written over the front
+pub over-after : (l m : List ℕ) (i : ℕ) → length l ≤ i → getD (over l m) i 0 ≡ getD m i 0
+unfolding written
+over-after l m i h =
+    ap (λ (x : List ℕ). getD (over x m) i 0) (sym (listed-cells l)) ∙ written-after (length l) (λ k. getD l k 0) m i h

@@ -1,4 +1,6 @@
--- The members of a mapped list.
+-- A mapped list: its members, one cell of it set, and its front.
+use Prim.Native.Nat.{ℕ, zero, suc}
+use lib.ListN.{set, take}
 use mathlib.Core.Path.{_≡_, refl, sym, ap, subst}
 use mathlib.Core.Logic.{_⊎_, inl, inr, ⊎-elim}
 use mathlib.Core.Bool.{Bool, true}
@@ -35,3 +37,13 @@ module _ {A B : Type 0} (f : A → B) where
   pub map-alike : (g : A → B) (l : List A) → ((x : A) → Mem x l → f x ≡ g x) → map f l ≡ map g l
   map-alike g [] h = refl
   map-alike g (x ∷ l) h = rw (h x (List·Memᴰ·head refl), map-alike g l (λ y k. h y (List·Memᴰ·tail k)))
+
+pub map-set : {A B : Type 0} (f : A → B) (l : List A) (i : ℕ) (v : A) → map f (set l i v) ≡ set (map f l) i (f v)
+map-set f [] i v = refl
+map-set f (x ∷ l) zero v = refl
+map-set {B = B} f (x ∷ l) (suc i) v = ap (λ (t : List B). f x ∷ t) (map-set f l i v)
+
+pub take-map : {A B : Type 0} (f : A → B) (n : ℕ) (l : List A) → take n (map f l) ≡ map f (take n l)
+take-map f zero l = refl
+take-map f (suc n) [] = refl
+take-map {B = B} f (suc n) (x ∷ l) = ap (λ (t : List B). f x ∷ t) (take-map f n l)

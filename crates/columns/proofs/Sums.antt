@@ -112,3 +112,13 @@ sum-ins x z (suc m) h =
     ⊎-elim (λ l. omega (arith, ins-before x z m l))
     (λ l. ⊎-elim (λ u. omega (arith, ins-in x z m l u)) (λ u. omega (arith, ins-after x z m l u)) (lt-or-le m z))
     (lt-or-le m x)
+
+sum-all : (f : ℕ → ℕ) (c : ℕ) → ((j : ℕ) → j < c → 1 ≤ f j) → c ≤ sum f c
+sum-all f c h = omega (arith, sum-one c, sum-mono (λ _. 1) f c h)
+
+pub sum-least : (f : ℕ → ℕ) (c b : ℕ) → ((j : ℕ) → j < c → 1 ≤ f j) → b < c → (c - 1) + f b ≤ sum f c
+unfolding sum
+sum-least f zero b h w = absurd (omega arith)
+sum-least f (suc c) b h w =
+    ⊎-elim (λ (e : b ≡ c). omega (arith, ap f e, sum-all f c (λ j l. h j (omega arith))))
+    (λ (l : b < c). omega (arith, sum-least f c b (λ j m. h j (omega arith)) l, h c (omega arith))) (top-or-below w)

@@ -1,6 +1,7 @@
 -- Laws of `swapped`: two cells of a column exchanged.
-use Prim.Native.Nat.{ℕ, _<_}
-use mathlib.Core.Path.{_≡_, ap, _∙_}
+use native.Mathlib.Omega.{arith}
+use Prim.Native.Nat.{ℕ, _<_, _≤_}
+use mathlib.Core.Path.{_≡_, ap, _∙_, sym, subst}
 use mathlib.Core.Logic.{⊎-elim}
 use mathlib.Core.List.{List}
 use lib.ListN.{length, getD, set, length-set}
@@ -38,3 +39,16 @@ module _ (e : List ℕ) (i j : ℕ) (hi : i < length e) (hj : j < length e) wher
   pub swapped-other : (k : ℕ) → (k ≡ i → ⊥) → (k ≡ j → ⊥) → getD (swapped i j e) k 0 ≡ getD e k 0
   unfolding swapped
   swapped-other k n m = two-other e i j _ _ k n m
+
+-- what holds of the first z cells still does once two of them are exchanged
+pub swapped-holds :
+    (P : ℕ → Type 0) (l : List ℕ) (i j z : ℕ) → z ≤ length l → i < z → j < z → ((k : ℕ) → k < z → P (getD l k 0)) → (k : ℕ) → k < z →
+    P (getD (swapped i j l) k 0)
+swapped-holds P l i j z long wi wj h k wk =
+    let li : i < length l = omega arith in
+    let lj : j < length l = omega arith in
+    ⊎-elim (λ (q : k ≡ i). subst P (sym (ap (λ (y : ℕ). getD (swapped i j l) y 0) q ∙ swapped-i l i j li lj)) (h j wj))
+    (λ (m : k ≡ i → ⊥).
+    ⊎-elim (λ (q : k ≡ j). subst P (sym (ap (λ (y : ℕ). getD (swapped i j l) y 0) q ∙ swapped-j l i j li lj)) (h i wi))
+    (λ (m' : k ≡ j → ⊥). subst P (sym (swapped-other l i j li lj k m m')) (h k wk)) (same-or-not k j))
+    (same-or-not k i)

@@ -30,7 +30,8 @@ use Rattle.file.specs.Output.{
   outputSize,
   writeRefusal,
 }
-use Rattle.file.proofs.Stores.{sets-then, sets-over, length-words, length-even}
+use Rattle.file.proofs.Stores.{sets-then, sets-over, length-words}
+use Rattle.columns.proofs.Laid.{length-even}
 
 -- ---- what the writer goes by
 module _ (t : Lts) (k blocks room : ℕ) where

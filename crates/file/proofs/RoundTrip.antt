@@ -6,13 +6,13 @@ use borrow.Author.Tests.{le-leb, eq-eqb}
 use mathlib.Core.Bool.{true, _&&_}
 use mathlib.Core.Path.{_≡_, refl, ap, ap₂, sym, _∙_, subst⁻¹}
 use mathlib.Core.Logic.{⊎-elim}
-use mathlib.Core.List.{List, [], _∷_, _++_, append-assoc, append-nil}
+use mathlib.Core.List.{List, [], _∷_, _++_, append-assoc}
 use lib.Dec.{leb, eqb}
 use lib.ListN.{length, length-append, getD, take, drop}
 use lib.Seq.{getD-append-add, getD-take, length-take-le, take-at, drop-at}
+use Rattle.columns.proofs.Laid.{laid-at, length-even}
 use Rattle.columns.specs.Answers.{done, none}
 use Rattle.columns.specs.Columns.{laid}
-use Rattle.columns.proofs.All.{top-or-below}
 use Rattle.columns.proofs.Bools.{and-both}
 use Rattle.columns.proofs.Chains.{Holds}
 use Rattle.columns.proofs.Lists.{listed-take, listed-cong}
@@ -50,7 +50,7 @@ use Rattle.file.specs.Output.{
 }
 use Rattle.file.proofs.Inputs.{Accepted, of-accepted}
 use Rattle.file.proofs.Outputs.{length-row, length-before}
-use Rattle.file.proofs.Stores.{length-bytes, length-even}
+use Rattle.file.proofs.Stores.{length-bytes}
 
 -- ---- numbers behind a front of a list
 little-at : (w : ℕ) (p q : List ℕ) (k j : ℕ) → k ≡ length p + j → little w (p ++ q) k ≡ little w q j
@@ -59,22 +59,6 @@ little-at zero p q k j e = refl
 little-at (suc w) p q k j e =
     ap₂ (λ (x y : ℕ). x + 256 * y) (ap (λ (n : ℕ). getD (p ++ q) n 0) e ∙ getD-append-add p q j 0)
     (little-at w p q (k + 1) (j + 1) (omega arith))
-
--- one of several lists that are laid one after the other
-laid-at : (h : ℕ → List ℕ) (i m : ℕ) → i < m → (r : List ℕ) × (laid h m ≡ laid h i ++ (h i ++ r))
-unfolding laid
-laid-at h i zero l = absurd (omega arith)
-laid-at h i (suc m) l =
-    ⊎-elim
-    (λ (e : i ≡ m). ([], ap (λ (k : ℕ). laid h k ++ h k) (sym e) ∙ ap (λ (x : List ℕ). laid h i ++ x) (sym (append-nil (h i)))))
-    (λ (w : i < m).
-    let q = laid-at h i m w in (
-      q .0 ++ h m,
-      ap (λ (x : List ℕ). x ++ h m) (q .1)
-          ∙ append-assoc (laid h i) (h i ++ q .0) (h m)
-          ∙ ap (λ (x : List ℕ). laid h i ++ x) (append-assoc (h i) (q .0) (h m)),
-    ))
-    (top-or-below l)
 
 -- ---- the fields of a row
 module _ (a b c : ℕ) (r : List ℕ) where

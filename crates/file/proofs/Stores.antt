@@ -3,10 +3,10 @@ use Prim.Native.Nat.{ℕ, zero, suc, _+_, _*_, _/_, _≤_, _<_}
 use native.Mathlib.Omega.{arith}
 use mathlib.Core.Path.{_≡_, refl, ap, sym, _∙_}
 use mathlib.Core.List.{List, [], _∷_, _++_}
-use lib.ListN.{length, length-append, getD, set, drop}
+use lib.ListN.{length, getD, set, drop}
 use lib.Seq.{sets, sets-eq, length-sets}
 use Rattle.columns.specs.Columns.{laid, over}
-use Rattle.columns.proofs.Laid.{laid-more}
+use Rattle.columns.proofs.Laid.{laid-more, length-even}
 use Rattle.file.specs.Bytes.{bytesOf, words}
 
 -- ---- a run behind another
@@ -31,11 +31,6 @@ pub length-bytes : (w x : ℕ) → length (bytesOf w x) ≡ w
 unfolding bytesOf
 length-bytes zero x = refl
 length-bytes (suc w) x = ap suc (length-bytes w (x / 256))
-
-pub length-even : (h : ℕ → List ℕ) (w k : ℕ) → ((j : ℕ) → length (h j) ≡ w) → length (laid h k) ≡ w * k
-unfolding laid
-length-even h w zero e = omega arith
-length-even h w (suc k) e = length-append (laid h k) (h k) ∙ omega (arith, length-even h w k e, e k)
 
 pub length-words : (l : List ℕ) → length (words l) ≡ 2 * length l
 unfolding words

@@ -1,4 +1,5 @@
 -- A sound partition over another order, or with other marks in one block, is sound.
+use Rattle.columns.proofs.Lists.{set-here}
 use Prim.Native.Nat.{ℕ, _≤_, _<_}
 use native.Mathlib.Omega.{arith}
 use mathlib.Core.Path.{_≡_, ap, _∙_}
@@ -37,8 +38,11 @@ order-sound p g l o ll lo order places lies =
     }
 
 module _ (p : Partition) (h : Consistent p) (g : Long p) (b m : ℕ) (hb : b < p .count) where
+  room : b < length (p .marked-split)
+  room = omega (arith, hb, h .most, g .marked-split)
+
   pub marks-begin : getD (set (p .marked-split) b m) b 0 ≡ m
-  marks-begin = getD-set-same (p .marked-split) b m 0 (omega (arith, hb, h .most, g .marked-split))
+  marks-begin = getD-set-same (p .marked-split) b m 0 room
 
   pub marks-long : Long (withSplit p b m)
   marks-long = record {
@@ -57,7 +61,7 @@ module _ (p : Partition) (h : Consistent p) (g : Long p) (b m : ℕ) (hb : b < p
         let i = h .bounds j w in
         ⊎-elim
         (λ (e : j ≡ b).
-        let x : getD (set (p .marked-split) b m) j 0 ≡ m = ap (λ (y : ℕ). getD (set (p .marked-split) b m) y 0) e ∙ marks-begin in
+        let x = set-here (p .marked-split) b m j room e in
         record {
           some = i .some;
           from = omega (arith, x, low, ap (λ (y : ℕ). getD (p .begin) y 0) e);

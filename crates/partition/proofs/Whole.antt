@@ -1,13 +1,13 @@
 -- Two counts of blocks: stretches that hold just their own states add up to n; and a long block leaves room for few others.
-use Prim.Native.Nat.{ℕ, zero, suc, _+_, _-_, _≤_, _<_}
+use Prim.Native.Nat.{ℕ, _+_, _-_, _≤_, _<_}
 use native.Mathlib.Omega.{arith}
-use mathlib.Core.Path.{_≡_, ap, sym, subst, _∙_}
+use mathlib.Core.Path.{_≡_, sym, subst, _∙_}
 use mathlib.Core.Logic.{_⊎_, ⊎-elim}
 use lib.ListN.{getD}
 use Rattle.columns.specs.Counting.{sum}
 use Rattle.columns.specs.Inverse.{Inverse}
-use Rattle.columns.proofs.All.{lt-or-le, top-or-below}
-use Rattle.columns.proofs.Sums.{hit, sum-mono, sum-cong, sum-one, hit-same, hit-other, ins, ins-in, ins-before, ins-after}
+use Rattle.columns.proofs.All.{lt-or-le}
+use Rattle.columns.proofs.Sums.{hit, sum-cong, hit-same, hit-other, ins, ins-in, ins-before, ins-after, sum-least}
 use Rattle.partition.specs.Partition.{Partition, Consistent, Within, Lies, lengths}
 use Rattle.partition.proofs.Places.{homeAt, stretch-long, home-holds, all-homes}
 use Rattle.partition.proofs.Owned.{lengths-sum}
@@ -41,16 +41,6 @@ module _ (q : Partition) (order : Inverse (q .elements) (q .element-offset) (q .
       sym (stretch-long _ _ _ _ (bounds b w))
       ∙ sum-cong (ins (getD (q .begin) b 0) (getD (q .end) b 0)) (λ k. hit (homeAt q k) b) (q .n) (λ k wk. same b k w wk))
       ∙ all-homes q order lies
-
-sum-all : (f : ℕ → ℕ) (c : ℕ) → ((j : ℕ) → j < c → 1 ≤ f j) → c ≤ sum f c
-sum-all f c h = omega (arith, sum-one c, sum-mono (λ _. 1) f c h)
-
-sum-least : (f : ℕ → ℕ) (c b : ℕ) → ((j : ℕ) → j < c → 1 ≤ f j) → b < c → (c - 1) + f b ≤ sum f c
-unfolding sum
-sum-least f zero b h w = absurd (omega arith)
-sum-least f (suc c) b h w =
-    ⊎-elim (λ (e : b ≡ c). omega (arith, ap f e, sum-all f c (λ j l. h j (omega arith))))
-    (λ (l : b < c). omega (arith, sum-least f c b (λ j m. h j (omega arith)) l, h c (omega arith))) (top-or-below w)
 
 pub room : (p : Partition) → Consistent p → (b : ℕ) → b < p .count → (p .count - 1) + (getD (p .end) b 0 - getD (p .begin) b 0) ≤ p .n
 room p h b w =

@@ -7,8 +7,9 @@ use mathlib.Core.Path.{_≡_, refl, ap, sym, subst, _∙_}
 use mathlib.Core.Logic.{_⊎_, inl, inr, ⊎-elim}
 use mathlib.Core.List.{List}
 use lib.ListN.{getD, set, length-set}
-use lib.Seq.{getD-set-same, getD-set-other}
+use lib.Seq.{getD-set-other}
 use lib.Dec.{ltb}
+use Rattle.columns.proofs.Lists.{set-here}
 use Rattle.columns.specs.Inverse.{Inverse}
 use Rattle.columns.proofs.All.{same-or-not, lt-or-le}
 use Rattle.columns.proofs.Bools.{cases, contra}
@@ -231,8 +232,7 @@ module _ (p : Partition) (b : ℕ) (v : List ℕ) (h : Consistent p) (g : Long p
     end-left e =
         stores-miss (λ _. true) (home p b) (λ k. start p b v (k + 1)) (missing p b v) (set (p .end) b (getD (p .marked-split) b 0)) j
         (λ k _ _ q. a k q)
-        ∙ ap (λ (x : ℕ). getD (set (p .end) b (getD (p .marked-split) b 0)) x 0) e
-        ∙ getD-set-same (p .end) b (getD (p .marked-split) b 0) 0 (omega (arith, hb, h .most, g .end))
+        ∙ set-here (p .end) b (getD (p .marked-split) b 0) j (omega (arith, hb, h .most, g .end)) e
 
   -- ---- the states' cells
   module _ (s : ℕ) (w : s < p .n) where

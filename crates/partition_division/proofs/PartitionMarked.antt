@@ -7,7 +7,7 @@ use mathlib.Core.Path.{_≡_, refl, ap, sym, subst, _∙_}
 use mathlib.Core.Logic.{_⊎_, inl, inr, ⊎-elim}
 use mathlib.Core.List.{List}
 use lib.ListN.{length, getD, set}
-use lib.Seq.{getD-set-same}
+use Rattle.columns.proofs.Lists.{set-here}
 use Rattle.columns.specs.Counting.{first}
 use Rattle.columns.proofs.All.{same-or-not}
 use Rattle.columns.proofs.Bools.{cases, contra}
@@ -271,8 +271,7 @@ unfolding blockUnmarked
 alone-unmarked p b h g hb j w w' =
     ⊎-elim
     (λ (e : j ≡ b).
-    ap (λ (x : ℕ). getD (set (p .marked-split) b (getD (p .end) b 0)) x 0) e
-    ∙ getD-set-same (p .marked-split) b (getD (p .end) b 0) 0 (omega (arith, hb, h .most, g .marked-split))
+    set-here (p .marked-split) b (getD (p .end) b 0) j (omega (arith, hb, h .most, g .marked-split)) e
     ∙ ap (λ (x : ℕ). getD (p .end) x 0) (sym e))
     (λ (e : p .count ≤ j). absurd (omega (arith, e, w'))) w
 

@@ -25,7 +25,8 @@ use Rattle.partition.proofs.Holds.{long-of, of-long, consistent-of, of-consiste
 use Rattle.partition.proofs.Refusals.{blocks-ready}
 use Rattle.partition_records.specs.Records.{begins, splits, ends, lent, noBlock, swapRecords}
 use Rattle.partition_records.specs.Tables.{went, swapNumbers}
-use Rattle.partition_records.proofs.Fields.{field-at, take-map}
+use Rattle.partition_records.proofs.Fields.{field-at}
+use Rattle.columns.proofs.Maps.{take-map}
 
 -- ---- two lists with the same first n records
 module _ (e o b : List ℕ) (n count : ℕ) where

@@ -1,26 +1,17 @@
 -- The fields of block records as columns: their cells, and two records exchanged. And records laid over
 -- the front of a table.
-use Prim.Native.Nat.{ℕ, zero, suc, _+_, _≤_, _<_}
+use Prim.Native.Nat.{ℕ, suc, _+_, _≤_, _<_}
 use native.Mathlib.Numerals.{add-one}
 use native.Mathlib.Omega.{arith}
 use mathlib.Core.Path.{_≡_, refl, ap, sym, _∙_}
 use mathlib.Core.List.{List, [], _∷_, map, _++_}
 use lib.ListN.{length, getD, set, take, drop, length-map, List·getD-map}
 use lib.Seq.{ext-getD, length-take-le, take-suc, drop-cons, set-at, take-at, length-front, append-snoc}
+use Rattle.columns.proofs.Maps.{map-set}
 use Rattle.columns.specs.Columns.{listed, swapped, exchanged}
 use Rattle.columns.proofs.Lists.{listed-at, length-listed, Painted, painted-done, over-all}
 use Rattle.partition.specs.declared.block.Block.{Block}
 use Rattle.partition_records.specs.Records.{begins, splits, ends, noBlock}
-
-map-set : {A B : Type 0} (f : A → B) (l : List A) (i : ℕ) (v : A) → map f (set l i v) ≡ set (map f l) i (f v)
-map-set f [] i v = refl
-map-set f (x ∷ l) zero v = refl
-map-set {B = B} f (x ∷ l) (suc i) v = ap (λ (t : List B). f x ∷ t) (map-set f l i v)
-
-pub take-map : {A B : Type 0} (f : A → B) (n : ℕ) (l : List A) → take n (map f l) ≡ map f (take n l)
-take-map f zero l = refl
-take-map f (suc n) [] = refl
-take-map {B = B} f (suc n) (x ∷ l) = ap (λ (t : List B). f x ∷ t) (take-map f n l)
 
 -- ---- one field, where a record that isn't there has 0
 module _ (f : Block → ℕ) (z : f noBlock ≡ 0) where

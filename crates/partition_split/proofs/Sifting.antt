@@ -3,15 +3,14 @@ use Prim.Native.Nat.{ℕ, suc, _+_, _-_, _≤_, _<_}
 use native.Mathlib.Omega.{arith}
 use borrow.Author.Tests.{eq-eqb, ne-eqb}
 use mathlib.Core.Bool.{true, false}
-use mathlib.Core.Path.{_≡_, refl, ap, sym, subst, _∙_}
+use mathlib.Core.Path.{_≡_, refl, ap, sym, _∙_}
 use mathlib.Core.Logic.{⊎-elim}
 use mathlib.Core.List.{List}
 use lib.ListN.{length, getD}
 use Rattle.columns.specs.Columns.{swapped}
 use Rattle.columns.specs.Inverse.{swappedInverse}
-use Rattle.columns.proofs.All.{same-or-not}
 use Rattle.columns.proofs.Inverses.{length-swappedInverse}
-use Rattle.columns.proofs.Swaps.{swapped-i, swapped-j, swapped-other, length-swapped}
+use Rattle.columns.proofs.Swaps.{length-swapped, swapped-holds}
 use Rattle.partition_split.specs.Split.{chosen, Sifted, sifting, sifted}
 
 module _ (c : List ℕ) (s x : ℕ) (e : x ≡ getD c s 0) where
@@ -32,19 +31,6 @@ module _ (c l o : List ℕ) (d i : ℕ) where
   sift-pass : chosen c (getD l i 0) ≡ false → sifted (suc d) c l o i ≡ sifted d c l o (i + 1)
   unfolding sifted
   sift-pass t = rw t
-
--- what holds of the first z cells still does once two of them are exchanged
-swapped-holds :
-    (P : ℕ → Type 0) (l : List ℕ) (i j z : ℕ) → z ≤ length l → i < z → j < z → ((k : ℕ) → k < z → P (getD l k 0)) → (k : ℕ) → k < z →
-    P (getD (swapped i j l) k 0)
-swapped-holds P l i j z long wi wj h k wk =
-    let li : i < length l = omega arith in
-    let lj : j < length l = omega arith in
-    ⊎-elim (λ (q : k ≡ i). subst P (sym (ap (λ (y : ℕ). getD (swapped i j l) y 0) q ∙ swapped-i l i j li lj)) (h j wj))
-    (λ (m : k ≡ i → ⊥).
-    ⊎-elim (λ (q : k ≡ j). subst P (sym (ap (λ (y : ℕ). getD (swapped i j l) y 0) q ∙ swapped-j l i j li lj)) (h i wi))
-    (λ (m' : k ≡ j → ⊥). subst P (sym (swapped-other l i j li lj k m m')) (h k wk)) (same-or-not k j))
-    (same-or-not k i)
 
 -- ---- the loop: what is left from i to before e, sifted, gives f. A state that stands before z has a byte and an offset
 pub record Sifting (c : List ℕ) (z : ℕ) (f : Sifted) (l₀ o₀ l o : List ℕ) (i e : ℕ) : Type 0 where

@@ -1,16 +1,13 @@
 -- A loop over the rows of three columns that pushes a row into three others for each one that passes.
 use Prim.Native.Nat.{ℕ, _+_, _≤_, _<_}
-use native.Mathlib.Numerals.{add-one}
 use native.Mathlib.Omega.{arith}
-use mathlib.Core.Path.{_≡_, refl, ap, ap₂, sym, _∙_}
+use mathlib.Core.Path.{_≡_, refl, ap, sym, _∙_}
 use mathlib.Core.Bool.{Bool, true, false, cond}
 use mathlib.Core.List.{List, [], _∷_, _++_, append-nil}
 use lib.ListN.{length, set, length-set}
-use lib.Seq.{getD-set-same, getD-set-other}
-use Rattle.columns.specs.Columns.{listed}
+use Rattle.columns.proofs.ThreeColumns.{rows-none, rows-next, rows-more}
 use Rattle.columns.specs.Rows.{rowsOf, rowSet, rowIn}
 use Rattle.columns.specs.Sets.{Row, rowLt, insert, collect}
-use Rattle.columns.proofs.Lists.{listed-cong}
 
 -- `g r` for the members of a list that pass, in their order
 pub picks : {A B : Type 0} → (A → Bool) → (A → B) → List A → List B
@@ -39,30 +36,6 @@ module _ {A B : Type 0} (p : A → Bool) (g : A → B) where
       go false m n e = e
 
 -- ---- rows in three columns, by one more
-rows-none : (a b c : List ℕ) → rowsOf 0 a b c ≡ []
-unfolding rowsOf listed
-rows-none a b c = refl
-
-rows-next : (d : ℕ) (a b c : List ℕ) → rowsOf (d + 1) a b c ≡ rowsOf d a b c ++ (rowIn a b c d ∷ [])
-unfolding rowsOf listed rowIn
-rows-next d a b c = rw add-one refl
-
-rows-more :
-    (d : ℕ) (a b c : List ℕ) (x y z : ℕ) → d < length a → d < length b → d < length c
-    → rowsOf (d + 1) (set a d x) (set b d y) (set c d z) ≡ rowsOf d a b c ++ ((x, (y, z)) ∷ [])
-unfolding rowsOf listed
-rows-more d a b c x y z ha hb hc =
-    rw add-one
-    (ap₂ (λ (l : List Row) (r : Row). l ++ (r ∷ []))
-    (listed-cong {A = Row} d _ _
-    (λ i w.
-    rw (
-      getD-set-other a d i x 0 (λ e. omega arith),
-      getD-set-other b d i y 0 (λ e. omega arith),
-      getD-set-other c d i z 0 (λ e. omega arith),
-    )))
-    (rw (getD-set-same a d x 0 ha, getD-set-same b d y 0 hb, getD-set-same c d z 0 hc)))
-
 -- ---- the loop
 -- of the rows in s, l and t those below i are seen, and g's row is pushed for those that pass: d rows
 pub record RowPicking (p : Row → Bool) (g : Row → Row) (s l t a₀ b₀ c₀ : List ℕ) (m i d : ℕ) (a b c : List ℕ) : Type 0 where

@@ -1,7 +1,7 @@
 -- A row can go exactly if document 01 says so; the rows that stay are all others, ascending, and no other list is.
 use mathlib.Core.Path.{_≡_, sym, ap, subst, _∙_}
 use mathlib.Core.Logic.{⊎-elim, _↔_}
-use mathlib.Core.Bool.{Bool, true, false, not, _&&_}
+use mathlib.Core.Bool.{true, not, _&&_}
 use mathlib.Core.List.{List, map, map-map}
 use Prim.Native.Nat.{ℕ, _≤_, _<_}
 use native.Mathlib.Omega.{arith}
@@ -26,9 +26,6 @@ use Rattle.table.specs.Tables.{rowsOver}
 use Rattle.table.proofs.Rows.{row-step, step-row}
 use Rattle.table.proofs.Walks.{reaches-walk}
 use Rattle.quotient_redundant.specs.Redundant.{Redundant, moves, rival, witness, redundant, remains, remainingRows}
-
-passes-not : (b : Bool) → b ≡ false → not b ≡ true
-passes-not b e = ap not e
 
 module _ (t : Lts) (v : Valid t) where
   -- ---- no row stands twice
@@ -86,7 +83,7 @@ module _ (t : Lts) (v : Valid t) where
       of-witness : (r : Redundant t s a u) → r .from ≡ x → a ≡ b → r .to ≡ y → witness t i j ≡ true
       unfolding witness rival moves
       of-witness r p q o =
-          and-both (and-both (passes-not (eqb j i) (ne-eqb j i other)) (and-both (eq-eqb b a (sym q)) (passes-not _ (fails still))))
+          and-both (and-both (ap not (ne-eqb j i other)) (and-both (eq-eqb b a (sym q)) (ap not (fails still))))
           (and-both (subst (λ (z : ℕ). reaches t true s z ≡ true) p (reaches-walk t true v s (r .from) .1 (r .before)))
           (subst (λ (z : ℕ). reaches t true z u ≡ true) o (reaches-walk t true v (r .to) u .1 (r .after))))
         where
@@ -130,7 +127,7 @@ module _ (t : Lts) (v : Valid t) where
         subst (λ (x : Row). Mem x (remainingRows t)) (sym e)
         (map-in (rowAt t) (members (t .m) (remains t)) (r .row)
         (members-in (remains t) (t .m) (r .row) (r .below)
-        (passes-not _ (fails (λ q. back (redundant-exactly (r .row) (r .below) .0 q)))))),
+        (ap not (fails (λ q. back (redundant-exactly (r .row) (r .below) .0 q)))))),
   )
 
   pub remaining-ascending : Ascending rowLt (remainingRows t)

@@ -5,6 +5,7 @@ use mathlib.Core.List.{List}
 use Prim.Native.Nat.{ℕ, _<_}
 use lib.Dec.{eqb}
 use lib.ListN.{length, getD}
+use Rattle.columns.proofs.Counting.{bit-set}
 use Rattle.columns.specs.Counting.{bit}
 use Rattle.columns.proofs.Lists.{length-listed, listed-at}
 use Rattle.table.specs.Lts.{Lts, Valid}
@@ -18,10 +19,6 @@ length-from t s = length-listed (t .n) (λ v. bit (reaches t true s v))
 pub length-into : (t : Lts) (u : ℕ) → length (marksInto t u) ≡ t .n
 length-into t u = length-listed (t .n) (λ v. bit (reaches t true v u))
 
-set : (b : Bool) → not (eqb (bit b) 0) ≡ b
-set true = refl
-set false = refl
-
 module _ (t : Lts) (v : Valid t) (i j : ℕ) (h : j < t .m) (forward backward : List ℕ) (ef : forward ≡ marksFrom t (getD (t .source) i 0))
     (eb : backward ≡ marksInto t (getD (t .target) i 0)) where
   from : not (eqb (getD forward (getD (t .source) j 0) 0) 0) ≡ reaches t true (getD (t .source) i 0) (getD (t .source) j 0)
@@ -29,14 +26,14 @@ module _ (t : Lts) (v : Valid t) (i j : ℕ) (h : j < t .m) (forward backward : 
       ap (λ (l : List ℕ). not (eqb (getD l (getD (t .source) j 0) 0) 0)) ef
       ∙ ap (λ (x : ℕ). not (eqb x 0))
       (listed-at (t .n) (λ x. bit (reaches t true (getD (t .source) i 0) x)) (getD (t .source) j 0) (v .fields j h .source))
-      ∙ set (reaches t true (getD (t .source) i 0) (getD (t .source) j 0))
+      ∙ bit-set (reaches t true (getD (t .source) i 0) (getD (t .source) j 0))
 
   into : not (eqb (getD backward (getD (t .target) j 0) 0) 0) ≡ reaches t true (getD (t .target) j 0) (getD (t .target) i 0)
   into =
       ap (λ (l : List ℕ). not (eqb (getD l (getD (t .target) j 0) 0) 0)) eb
       ∙ ap (λ (x : ℕ). not (eqb x 0))
       (listed-at (t .n) (λ x. bit (reaches t true x (getD (t .target) i 0))) (getD (t .target) j 0) (v .fields j h .target))
-      ∙ set (reaches t true (getD (t .target) j 0) (getD (t .target) i 0))
+      ∙ bit-set (reaches t true (getD (t .target) j 0) (getD (t .target) i 0))
 
   pub witness-marks :
       rival (t .source) (t .label) (t .target) i j ≡ true

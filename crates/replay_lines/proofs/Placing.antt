@@ -67,11 +67,6 @@ next-beyond i after buffer left h e =
       good = ap (λ (p : input.Input). p .good) e ∙ filled-good (i .good) left (after .end);
     }
 
--- a test of `!b` that fails
-pub not-false : (b : Bool) → not b ≡ false → b ≡ true
-not-false true e = refl
-not-false false e = sym e
-
 pub read-none : (i j : input.Input) (value : ℕ) → j .good ≡ false → value ≡ 0 → Read i j value
 read-none i j value h e =
     record { good = λ q. absurd (contra q h); blank = λ q. absurd (contra q h); nothing = λ q. e }

@@ -17,7 +17,7 @@ abbrev three : ℕ → List ℕ → List ℕ → List ℕ → Lts
 three m source label target = record { n = 3; labels = 2; m = m; initial = 0; source = source; label = label; target = target }
 
 -- {0, 1} and {2}
-abbrev halves : Partition
+abbrev pub halves : Partition
 halves = parts (0 ∷ 1 ∷ 2 ∷ []) (0 ∷ 1 ∷ 2 ∷ []) (0 ∷ 0 ∷ 1 ∷ []) (0 ∷ 2 ∷ 9 ∷ []) (2 ∷ 3 ∷ 9 ∷ []) (2 ∷ 3 ∷ 9 ∷ []) 3 2
 
 -- six work slices of eight cells

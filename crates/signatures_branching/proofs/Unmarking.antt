@@ -5,10 +5,10 @@ use mathlib.Core.Path.{_≡_, ap, sym, _∙_}
 use mathlib.Core.Logic.{_⊎_, inl, inr, ⊎-elim}
 use mathlib.Core.List.{List}
 use lib.ListN.{length, getD, set}
-use lib.Seq.{getD-set-same, getD-set-other}
+use lib.Seq.{getD-set-other}
 use Rattle.columns.specs.Columns.{zeros}
 use Rattle.columns.proofs.All.{same-or-not}
-use Rattle.columns.proofs.Lists.{zeros-of}
+use Rattle.columns.proofs.Lists.{zeros-of, set-here}
 
 -- a state is not marked, or stands in the queue from k on
 abbrev pub MarksFrom : List ℕ → ℕ → List ℕ → ℕ → ℕ → Type 0
@@ -19,7 +19,7 @@ module _ (queue : List ℕ) (tail : ℕ) (marks : List ℕ) (k : ℕ) (h : (u : 
   unmark-more x e w u = go (same-or-not u x) (h u)
     where
       cleared : u ≡ x → getD (set marks x 0) u 0 ≡ 0
-      cleared q = ap (λ (y : ℕ). getD (set marks x 0) y 0) q ∙ getD-set-same marks x 0 0 w
+      cleared q = set-here marks x 0 _ w q
 
       go : (u ≡ x) ⊎ (u ≡ x → ⊥) → MarksFrom queue tail marks k u → MarksFrom queue tail (set marks x 0) (k + 1) u
       go (inl q) l = inl (cleared q)

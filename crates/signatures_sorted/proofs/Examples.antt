@@ -4,11 +4,12 @@ use mathlib.Core.Path.{_≡_, refl}
 use mathlib.Core.List.{List, [], _∷_}
 use lib.ListN.{replicate}
 use Rattle.signatures_branching.specs.Branching.{branchingSignature}
+use Rattle.signatures_branching.proofs.Examples.{halves}
 use Rattle.columns.specs.Answers.{Said, done, refused}
 use Rattle.columns.specs.Due.{allLong}
 use Rattle.columns.specs.Inverse.{inverseb, inverseAt}
 use Rattle.columns.specs.Counting.{all}
-use Rattle.partition.specs.Partition.{Partition, parts, boundsb, blockAt, withinb, liesb, lieAt, insideb, lengths}
+use Rattle.partition.specs.Partition.{boundsb, blockAt, withinb, liesb, lieAt, insideb, lengths}
 use Rattle.signatures.specs.Pairs.{Columns}
 use Rattle.signatures.specs.Signing.{Left}
 use Rattle.pairs.specs.Lists.{listAt}
@@ -27,11 +28,7 @@ small = record {
   target = 0 ∷ 1 ∷ 2 ∷ 2 ∷ 2 ∷ [];
 }
 
--- {0, 1} and {2}
-abbrev halves : Partition
-halves = parts (0 ∷ 1 ∷ 2 ∷ []) (0 ∷ 1 ∷ 2 ∷ []) (0 ∷ 0 ∷ 1 ∷ []) (0 ∷ 2 ∷ 9 ∷ []) (2 ∷ 3 ∷ 9 ∷ []) (2 ∷ 3 ∷ 9 ∷ []) 3 2
-
--- no list has a pair; list 0 alone has one; the branching signatures; a list that doesn't ascend
+-- the lists given: no list has a pair; list 0 alone has one; the branching signatures; a list that doesn't ascend
 abbrev bare : Given
 bare = flat (0 ∷ 0 ∷ 0 ∷ 0 ∷ []) [] []
 

@@ -9,7 +9,7 @@ use Rattle.table.specs.Stretch.{firstInto}
 use Rattle.table.specs.Transitions.{outgoingTransitions, nextIncomingRow}
 
 -- three states and no row
-abbrev bare : Lts
+abbrev pub bare : Lts
 bare = record { n = 3; labels = 2; m = 0; initial = 0; source = []; label = []; target = [] }
 
 -- three states and the rows (0, 0, 1), (0, 1, 2), (2, 0, 1): none out of state 1, none into state 0

@@ -8,13 +8,13 @@ use native.Mathlib.Omega.{arith}
 use borrow.Author.Tests.{eqb-true, eqb-false, eq-eqb, ne-eqb, leb-true}
 use lib.Dec.{eqb, leb}
 use lib.ListN.{length, getD, set, length-set, length-replicate}
-use lib.Seq.{getD-set-same, getD-set-other, ext-getD}
+use lib.Seq.{getD-set-other, ext-getD}
 use Rattle.columns.specs.Columns.{listed, zeros}
 use Rattle.columns.specs.Counting.{many, bit}
 use Rattle.columns.proofs.All.{top-or-below, same-or-not}
 use Rattle.columns.proofs.Bools.{and-left, and-right, bool-ext}
 use Rattle.columns.proofs.Counting.{many-one-more, many-cong, many-le, many-nothing}
-use Rattle.columns.proofs.Lists.{length-listed, listed-at, zeros-at}
+use Rattle.columns.proofs.Lists.{length-listed, listed-at, zeros-at, set-here}
 use Rattle.columns.proofs.Rooms.{roomy-of}
 use Rattle.table.specs.Lts.{Lts, Valid}
 use Rattle.table.specs.Checks.{worksLong}
@@ -25,9 +25,6 @@ use Rattle.table.proofs.Refusals.{asked-of}
 use Rattle.table.proofs.Walks.{joined, edge-row, row-edge, reaches-walk}
 
 -- ---- one cell of a list set
-set-here : (l : List ℕ) (i x k : ℕ) → i < length l → k ≡ i → getD (set l i x) k 0 ≡ x
-set-here l i x k h e = ap (λ (j : ℕ). getD (set l i x) j 0) e ∙ getD-set-same l i x 0 h
-
 module _ (edge : ℕ → ℕ → Bool) (n : ℕ) where
   -- ---- the start
   module _ (s : ℕ) (queue : List ℕ) (h : s < n) (room : n ≤ length queue) where

@@ -1,15 +1,16 @@
 -- Rows as a table, in columns of their own or over the front of lent ones: the table has these rows, and is valid where they ascend
 -- within its bounds. And what an answer with a header says determines it.
-use mathlib.Core.Path.{_≡_, refl, sym, ap, subst, _∙_}
+use mathlib.Core.Path.{_≡_, sym, ap, subst, _∙_}
 use mathlib.Core.List.{List, [], _∷_}
 use Prim.Native.Nat.{ℕ, _≤_, _<_}
 use native.Mathlib.Omega.{arith}
 use lib.ListN.{length, length-append, length-map, getD}
-use Rattle.columns.specs.Columns.{listed, over}
+use Rattle.columns.proofs.ThreeColumns.{rows-columns}
+use Rattle.columns.specs.Columns.{over}
 use Rattle.columns.specs.Limits.{maxLabels, maxRows, maxStates}
 use Rattle.columns.specs.Rows.{firstOf, secondOf, thirdOf, rowsOf, rowIn}
 use Rattle.columns.specs.Sets.{Row, rowLt, Ascending, StepIn}
-use Rattle.columns.proofs.Lists.{length-listed, listed-cons, listed-cong, over-front}
+use Rattle.columns.proofs.Lists.{length-listed, listed-cong, over-front}
 use Rattle.columns.proofs.Risings.{of-ascending}
 use Rattle.columns.proofs.Saying.{same-refusal, apart}
 use Rattle.table.specs.declared.answers.TableAnswer.{TableAnswer}
@@ -57,13 +58,6 @@ module _ (t : Lts) (l : List Row) (e : rows t ≡ l) where
   }
 
 -- ---- rows in columns of their own
-rows-columns : (l : List Row) → rowsOf (length l) (firstOf l) (secondOf l) (thirdOf l) ≡ l
-unfolding rowsOf listed
-rows-columns [] = refl
-rows-columns (r ∷ l) =
-    listed-cons (length l) (λ i. (getD (firstOf (r ∷ l)) i 0, (getD (secondOf (r ∷ l)) i 0, getD (thirdOf (r ∷ l)) i 0)))
-    ∙ ap (λ (m : List Row). r ∷ m) (rows-columns l)
-
 module _ (n labels initial : ℕ) (l : List Row) where
   pub tableOf-rows : rows (tableOf n labels initial l) ≡ l
   unfolding tableOf

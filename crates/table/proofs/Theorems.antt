@@ -1,7 +1,7 @@
 -- What the calls on a table say and leave once they are done, in document 01's words.
 use mathlib.Core.Path.{_≡_, refl, sym, ap, subst, _∙_}
-use mathlib.Core.Logic.{_⊎_, inl, inr, ⊎-elim}
-use mathlib.Core.Bool.{Bool, true, false}
+use mathlib.Core.Logic.{_⊎_, ⊎-elim}
+use mathlib.Core.Bool.{Bool, true}
 use mathlib.Core.List.{List, [], _∷_}
 use Prim.Native.Nat.{ℕ, _≤_, _<_}
 use native.Mathlib.Omega.{arith}
@@ -15,8 +15,8 @@ use Rattle.columns.specs.Counting.{many, bit}
 use Rattle.columns.specs.Sets.{Row, rowLt, pairLt}
 use Rattle.columns.proofs.All.{lt-or-le}
 use Rattle.columns.proofs.Bools.{contra}
-use Rattle.columns.proofs.Counting.{many-cong}
-use Rattle.columns.proofs.Lists.{listed-cells, length-over, over-front, length-written, written-at, written-after}
+use Rattle.columns.proofs.Counting.{many-cong, bit-two, bit-one, bit-eqb}
+use Rattle.columns.proofs.Lists.{length-over, over-front, length-written, written-at, written-after, over-after}
 use Rattle.columns.proofs.Orders.{row-order, lex-split, ltb-order, pair-order}
 use Rattle.columns.specs.Rows.{rowIn}
 use Rattle.table.specs.Incoming.{incomingOrder, backRow, incomingRefusal, incomingRows}
@@ -36,18 +36,6 @@ pub use Rattle.table.proofs.Meetings.{met-rows, met-ascending, met-step
 -- ---- reachability
 -- An edge is a step under some label that is taken, and a state reaches another exactly if there is a way along edges.
 pub use Rattle.table.proofs.Walks.{edge-step, reaches-walk}
-
-bit-two : (b : Bool) → (bit b ≡ 1) ⊎ (bit b ≡ 0)
-bit-two true = inl refl
-bit-two false = inr refl
-
-bit-one : (b : Bool) → bit b ≡ 1 → b ≡ true
-bit-one true e = refl
-bit-one false e = absurd (omega (arith, e))
-
-bit-eqb : (b : Bool) → b ≡ eqb (bit b) 1
-bit-eqb true = refl
-bit-eqb false = refl
 
 pub record ReachableDone (t : Lts) (hidden : Bool) (s : ℕ) (reached queue : List ℕ) (k : ℕ) (cells work : List ℕ) : Type 0 where
   pub valid : Valid t
@@ -144,12 +132,6 @@ module _ (t : Lts) (v : Valid t) (cells : List ℕ) (room : t .m ≤ length cell
     into = λ u. into-stretch (t .target) cells (t .m) by-target u _ _ refl refl;
     ascending = ordered;
   }
-
--- cells behind what is written over the front
-over-after : (l m : List ℕ) (i : ℕ) → length l ≤ i → getD (over l m) i 0 ≡ getD m i 0
-unfolding written
-over-after l m i h =
-    ap (λ (x : List ℕ). getD (over x m) i 0) (sym (listed-cells l)) ∙ written-after (length l) (λ k. getD l k 0) m i h
 
 pub record IncomingDone (t : Lts) (result spare : List ℕ) (k : ℕ) (cells work : List ℕ) : Type 0 where
   pub valid : Valid t

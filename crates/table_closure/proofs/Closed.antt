@@ -12,18 +12,13 @@ use lib.ListN.{getD}
 use Rattle.table_closure.specs.Promise.{Marked}
 use Rattle.table_closure.specs.Closure.{silentb, markSource, markInto, goesOn, readDown, close}
 use Rattle.columns.proofs.All.{top-or-below}
-use Rattle.columns.proofs.Bools.{contra}
+use Rattle.columns.proofs.Bools.{contra, and-split}
 use Rattle.partition.specs.Partition.{Partition, Sound, homeOf}
 use Rattle.table.specs.Lts.{Lts, Valid}
 use Rattle.table_closure.proofs.Closing.{goes-marked}
 use Rattle.table_closure.proofs.Growing.{MarksGrown}
 use Rattle.table_closure.proofs.Marking.{marked-from, from-marked, marks-stay, mark-marks}
 use Rattle.table_closure.proofs.Steps.{silent-home, source-grown, into-grown}
-
--- either part of a test that fails
-either : (a c : Bool) → (a && c) ≡ false → (a ≡ false) ⊎ (c ≡ false)
-either true c e = inr e
-either false c e = inl refl
 
 module _ (t : Lts) (v : Valid t) (b : ℕ) where
   abbrev from : ℕ → ℕ
@@ -117,7 +112,7 @@ module _ (t : Lts) (v : Valid t) (b : ℕ) where
       stops e =
           ⊎-elim (λ (z : ltb (getD (p .marked-split) b 0) (suc it) ≡ false). inl (ltb-false _ _ z))
           (λ (z : ltb (getD (p .begin) b 0) (getD (p .marked-split) b 0) ≡ false). inr (ltb-false _ _ z))
-          (either (ltb (getD (p .marked-split) b 0) (suc it)) (ltb (getD (p .begin) b 0) (getD (p .marked-split) b 0)) e)
+          (and-split (ltb (getD (p .marked-split) b 0) (suc it)) (ltb (getD (p .begin) b 0) (getD (p .marked-split) b 0)) e)
 
       go : (c : Bool) → goesOn p b (suc it) ≡ c
           → (Done (markInto t b (getD (p .elements) it 0) (t .m) p) it →

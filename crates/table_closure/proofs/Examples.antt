@@ -11,13 +11,11 @@ use Rattle.columns.specs.Inverse.{inverseb, inverseAt}
 use Rattle.columns.specs.Counting.{all}
 use Rattle.partition.specs.Partition.{Partition, parts, withinb, blockAt, boundsb, insideb, lieAt, liesb, lengths, consistentb, longb}
 use Rattle.table.specs.Lts.{Lts}
+use Rattle.table.proofs.Examples.{bare}
 
--- the rows (0, a, 1) and (1, a, 2); and no rows
+-- the rows (0, a, 1) and (1, a, 2)
 abbrev pub chain : ℕ → Lts
 chain a = record { n = 3; labels = 2; m = 2; initial = 0; source = 0 ∷ 1 ∷ []; label = a ∷ a ∷ []; target = 1 ∷ 2 ∷ [] }
-
-abbrev pub bareTable : Lts
-bareTable = record { n = 3; labels = 2; m = 0; initial = 0; source = []; label = []; target = [] }
 
 -- marked from this position on
 abbrev pub from : ℕ → List ℕ → Partition
@@ -36,7 +34,7 @@ abbrev pub leaves : Partition → Said × (Partition × (List ℕ × List ℕ))
 leaves p = (done [], (p, (zeros 6, zeros 6)))
 
 pub examples :
-    (run (chain 0) 3 ∷ run (chain 0) 0 ∷ run bareTable 2 ∷ run (chain 1) 2 ∷ run (chain 0) 2 ∷ [])
+    (run (chain 0) 3 ∷ run (chain 0) 0 ∷ run bare 2 ∷ run (chain 1) 2 ∷ run (chain 0) 2 ∷ [])
     ≡ (leaves (given 3) ∷ leaves (given 0) ∷ leaves (given 2) ∷ leaves (given 2) ∷ leaves (from 0 (0 ∷ 1 ∷ 2 ∷ [])) ∷ [])
 unfolding markBackwardClosure consistentb longb allLong inverseb inverseAt all boundsb blockAt withinb liesb lieAt insideb lengths
 examples = refl

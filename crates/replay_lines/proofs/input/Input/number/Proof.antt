@@ -1,6 +1,7 @@
 -- `input::Input::number` meets its contract: there is no number, or a blank and then digits.
+use borrow.Author.Tests.{not-false}
 use borrow.Author.Needs.{needs}
-use Rattle.replay_lines.proofs.Placing.{not-false, read-none, read-next}
+use Rattle.replay_lines.proofs.Placing.{read-none, read-next}
 use Rattle.replay_lines.proofs.input.Input.number.Statement.{statement}
 use Rattle.replay_lines.proofs.input.Input.number.Tie as tie
 
