@@ -1,4 +1,4 @@
--- Laws of `many` and `first`: how many pass, and the least that passes.
+-- Laws of `bit`, `many` and `first`: a flag as a number, how many pass, and the least that passes.
 use Prim.Native.Nat.{ℕ, zero, suc, _+_, _≤_, _<_}
 use native.Mathlib.Omega.{arith}
 use native.Mathlib.Nat.{eq-or-lt-of-le}

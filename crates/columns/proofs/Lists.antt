@@ -1,4 +1,4 @@
--- Lists that a counting loop writes from the front.
+-- Lists that a counting loop writes from the front, one list over another, zeros, and one cell set.
 use mathlib.Core.Path.{_≡_, refl, sym, ap, _∙_, ap₂}
 use mathlib.Core.Logic.{⊎-elim}
 use mathlib.Core.List.{List, [], _∷_, _++_, map, map-append, append-nil, append-assoc}

@@ -1,4 +1,4 @@
--- Laws of `swapped`: two cells of a column exchanged.
+-- Laws of `swapped`: two cells of a column exchanged, and what holds of each cell before and after.
 use native.Mathlib.Omega.{arith}
 use Prim.Native.Nat.{ℕ, _<_, _≤_}
 use mathlib.Core.Path.{_≡_, ap, _∙_, sym, subst}

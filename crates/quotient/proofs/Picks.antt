@@ -35,7 +35,6 @@ module _ {A B : Type 0} (p : A → Bool) (g : A → B) where
       go true m n e = ap (insert lt (g x)) e
       go false m n e = e
 
--- ---- rows in three columns, by one more
 -- ---- the loop
 -- of the rows in s, l and t those below i are seen, and g's row is pushed for those that pass: d rows
 pub record RowPicking (p : Row → Bool) (g : Row → Row) (s l t a₀ b₀ c₀ : List ℕ) (m i d : ℕ) (a b c : List ℕ) : Type 0 where

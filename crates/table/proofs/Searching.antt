@@ -24,7 +24,6 @@ use Rattle.table.specs.Stretch.{StretchOf}
 use Rattle.table.proofs.Refusals.{asked-of}
 use Rattle.table.proofs.Walks.{joined, edge-row, row-edge, reaches-walk}
 
--- ---- one cell of a list set
 module _ (edge : ℕ → ℕ → Bool) (n : ℕ) where
   -- ---- the start
   module _ (s : ℕ) (queue : List ℕ) (h : s < n) (room : n ≤ length queue) where
