@@ -5,17 +5,17 @@ use mathlib.Core.Path.{refl}
 use Rattle.columns.proofs.cells.at.Statement.{statement}
 use Rattle.columns.proofs.cells.at.Tie as tie
 
-mul-result : tie.Need-overflow-mul-result
-mul-result c = search rules
+offset_bounds-a-i : tie.Need-offset_bounds-a-i
+offset_bounds-a-i c = search rules
 
-shared-slice-read-result : tie.Need-shared-slice-read-result
-shared-slice-read-result c = search rules
+bounds-a-i : tie.Need-bounds-a-i
+bounds-a-i c = search rules
 
-cast-result : tie.Need-overflow-cast-result
-cast-result c = omega (arith, c.shared-slice-known.given c.before.args.i)
+overflow_cast-result : tie.Need-overflow_cast-result
+overflow_cast-result c = omega (arith, c.shared_slice_known-1.given c.args.i)
 
 returns : tie.Need-returns
-returns c = (refl, omega (arith, c.shared-slice-known.given c.before.args.i))
+returns c = (refl, omega (arith, c.shared_slice_known-1.given c.args.i))
 
-pub at-spec : {M : Type 1} → statement M
-at-spec = tie.close (tie.spec mul-result shared-slice-read-result cast-result returns)
+pub at_spec : {M : Type 1} → statement M
+at_spec = tie.close (tie.spec offset_bounds-a-i bounds-a-i overflow_cast-result returns)

@@ -7,19 +7,19 @@ use Rattle.columns.proofs.Lists.{get_d_any}
 use Rattle.columns.proofs.cells.cell_of.Statement.{statement}
 use Rattle.columns.proofs.cells.cell_of.Tie as tie
 
-mul-result : tie.Need-overflow-mul-result
-mul-result c = search rules
+offset_bounds-a-k : tie.Need-offset_bounds-a-k
+offset_bounds-a-k c = search rules
 
-shared-slice-read-result : tie.Need-shared-slice-read-result
-shared-slice-read-result c = search rules
+bounds-a-k : tie.Need-bounds-a-k
+bounds-a-k c = search rules
 
-returns : tie.Need-returns
+returns-then-k-a : tie.Need-returns-then-k-a
 unfolding cell
-returns c = get_d_any c.before.before.args.a.now c.before.before.args.i _ _ (search rules)
+returns-then-k-a c = get_d_any c.args.a.now c.args.i _ _ (search rules)
 
-returns-2 : tie.Need-returns-2
+returns-else-k-a : tie.Need-returns-else-k-a
 unfolding cell
-returns-2 c = sym (get_or-eq_default c.before.args.a.now c.before.args.i {n = c.before.args.i} (search rules))
+returns-else-k-a c = sym (get_or-eq_default c.args.a.now c.args.i {n = c.args.i} (search rules))
 
-pub cell-of-spec : {M : Type 1} → statement M
-cell-of-spec = tie.close (tie.spec mul-result shared-slice-read-result returns returns-2)
+pub cell_of_spec : {M : Type 1} → statement M
+cell_of_spec = tie.close (tie.spec offset_bounds-a-k bounds-a-k returns-then-k-a returns-else-k-a)

@@ -9,54 +9,54 @@ use Rattle.columns.specs.Columns.{listed}
 use Rattle.columns.proofs.cells.count_up.Statement.{statement}
 use Rattle.columns.proofs.cells.count_up.Tie as tie
 
-abbrev invariant-loop : tie.invariant-loop
-invariant-loop a₀ i₀ a i = Painted (λ k. k) (length a₀) a₀ i a
+abbrev invariant-loop-i : tie.invariant-loop-i
+invariant-loop-i a₀ i₀ a i = Painted (λ k. k) (length a₀) a₀ i a
 
-abbrev decreases-loop : tie.decreases-loop
-decreases-loop a₀ i₀ a i = length a₀ - i
+abbrev decreases-loop-i : tie.decreases-loop-i
+decreases-loop-i a₀ i₀ a i = length a₀ - i
 
-loop-holds : tie.Need-loop-init invariant-loop decreases-loop
-loop-holds c = painted_none (λ k. k) (length c.args.a.now) c.args.a.now
+loop-i-init : tie.Need-loop-i-init invariant-loop-i decreases-loop-i
+loop-i-init c = painted_none (λ k. k) (length c.args.a.now) c.args.a.now
 
-cast-a : tie.Need-overflow-cast-a invariant-loop decreases-loop
-cast-a c = search rules
+overflow_cast-a : tie.Need-overflow_cast-a invariant-loop-i decreases-loop-i
+overflow_cast-a c = search rules
 
-mul-a : tie.Need-overflow-mul-a invariant-loop decreases-loop
-mul-a c = search rules
+offset_bounds-a-i : tie.Need-offset_bounds-a-i invariant-loop-i decreases-loop-i
+offset_bounds-a-i c = search rules
 
-slice-write-a : tie.Need-slice-write-a invariant-loop decreases-loop
-slice-write-a c = search rules
+bounds-a-i : tie.Need-bounds-a-i invariant-loop-i decreases-loop-i
+bounds-a-i c = search rules
 
-add-i : tie.Need-overflow-add-i invariant-loop decreases-loop
-add-i c = search rules
+overflow_add-i : tie.Need-overflow_add-i invariant-loop-i decreases-loop-i
+overflow_add-i c = search rules
 
-loop-less : tie.Need-loop-smaller invariant-loop decreases-loop
-loop-less c = search rules
+loop-i-smaller : tie.Need-loop-i-smaller invariant-loop-i decreases-loop-i
+loop-i-smaller c = search rules
 
-loop-again : tie.Need-loop-preserved invariant-loop decreases-loop
-loop-again c = painted_more (λ k. k) _ _ _ _ _ (omega arith) (omega arith) refl c.before.loop.invariant
+loop-i-preserved : tie.Need-loop-i-preserved invariant-loop-i decreases-loop-i
+loop-i-preserved c = painted_more (λ k. k) _ _ _ _ _ (omega arith) (omega arith) refl c.loop-i.invariant
 
-same_length : tie.Need-same-length invariant-loop decreases-loop
-same_length c = c.before.loop.invariant.1.1
+shape_of-a : tie.Need-shape_of-a invariant-loop-i decreases-loop-i
+shape_of-a c = c.loop-i.invariant.1.1
 
-returns : tie.Need-returns invariant-loop decreases-loop
+returns : tie.Need-returns invariant-loop-i decreases-loop-i
 returns c =
-    let l = c.before.before.args.a.now in
-    painted_done (λ k. k) (length l) l _ _ (listed (length l) (λ k. k)) c.before.loop.invariant (omega arith) refl
+    let l = c.args.a.now in
+    painted_done (λ k. k) (length l) l _ _ (listed (length l) (λ k. k)) c.loop-i.invariant (omega arith) refl
     ∙ over-all (listed (length l) (λ k. k)) l (length-listed (length l) (λ k. k))
 
-pub count-up-spec : {M : Type 1} → statement M
-count-up-spec =
+pub count_up_spec : {M : Type 1} → statement M
+count_up_spec =
     tie.close
     (tie.spec
-    invariant-loop
-    decreases-loop
-    loop-holds
-    cast-a
-    mul-a
-    slice-write-a
-    add-i
-    loop-less
-    loop-again
-    same_length
+    invariant-loop-i
+    decreases-loop-i
+    loop-i-init
+    overflow_cast-a
+    offset_bounds-a-i
+    bounds-a-i
+    overflow_add-i
+    loop-i-smaller
+    loop-i-preserved
+    shape_of-a
     returns)

@@ -7,48 +7,48 @@ use Rattle.columns.proofs.cells.swap_cells.Tie as tie
 use Rattle.columns.proofs.cells.swap_cells.Reads as reads
 use Rattle.columns.proofs.cells.swap_cells.Lts as lts
 
-mul-x : tie.Need-overflow-mul-x
-mul-x c = search rules
+offset_bounds-a-i : tie.Need-offset_bounds-a-i
+offset_bounds-a-i c = search rules
 
-slice-read-x : tie.Need-slice-read-x
-slice-read-x c = search rules
+bounds-a-i : tie.Need-bounds-a-i
+bounds-a-i c = search rules
 
-mul-y : tie.Need-overflow-mul-y
-mul-y c = search rules
+offset_bounds-a-j : tie.Need-offset_bounds-a-j
+offset_bounds-a-j c = search rules
 
-slice-read-y : tie.Need-slice-read-y
-slice-read-y c = search rules
+bounds-a-j : tie.Need-bounds-a-j
+bounds-a-j c = search rules
 
-mul-a : tie.Need-overflow-mul-a
-mul-a c = search rules
+offset_bounds-a-i-2 : tie.Need-offset_bounds-a-i-2
+offset_bounds-a-i-2 c = search rules
 
-slice-write-a : tie.Need-slice-write-a
-slice-write-a c = search rules
+bounds-a-i-2 : tie.Need-bounds-a-i-2
+bounds-a-i-2 c = search rules
 
-mul-a-2 : tie.Need-overflow-mul-a-2
-mul-a-2 c = search rules
+offset_bounds-a-j-2 : tie.Need-offset_bounds-a-j-2
+offset_bounds-a-j-2 c = search rules
 
-slice-write-a-2 : tie.Need-slice-write-a-2
-slice-write-a-2 c = search rules
+bounds-a-j-2 : tie.Need-bounds-a-j-2
+bounds-a-j-2 c = search rules
 
-same_length : tie.Need-same-length
-same_length c = search rules
+shape_of-a : tie.Need-shape_of-a
+shape_of-a c = search rules
 
 returns : tie.Need-returns
 unfolding swapped
 returns c = refl
 
-pub swap-cells-spec : {M : Type 1} → statement M
-swap-cells-spec =
+pub swap_cells_spec : {M : Type 1} → statement M
+swap_cells_spec =
     tie.close
     (tie.spec
-    mul-x
-    slice-read-x
-    mul-y
-    slice-read-y
-    mul-a
-    slice-write-a
-    mul-a-2
-    slice-write-a-2
-    same_length
+    offset_bounds-a-i
+    bounds-a-i
+    offset_bounds-a-j
+    bounds-a-j
+    offset_bounds-a-i-2
+    bounds-a-i-2
+    offset_bounds-a-j-2
+    bounds-a-j-2
+    shape_of-a
     returns)

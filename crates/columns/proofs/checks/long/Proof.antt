@@ -9,53 +9,53 @@ use Rattle.columns.proofs.Rooms.{short_at, long_all}
 use Rattle.columns.proofs.checks.long.Statement.{statement}
 use Rattle.columns.proofs.checks.long.Tie as tie
 
-abbrev invariant-loop : tie.invariant-loop
-invariant-loop cells lengths i₀ i = (i ≤ length lengths) × ((k : ℕ) → k < i → cells ≤ get_or lengths k 0)
+abbrev invariant-loop-i : tie.invariant-loop-i
+invariant-loop-i cells lengths i₀ i = (i ≤ length lengths) × ((k : ℕ) → k < i → cells ≤ get_or lengths k 0)
 
-abbrev decreases-loop : tie.decreases-loop
-decreases-loop cells lengths i₀ i = length lengths - i
+abbrev decreases-loop-i : tie.decreases-loop-i
+decreases-loop-i cells lengths i₀ i = length lengths - i
 
-loop-holds : tie.Need-loop-init invariant-loop decreases-loop
-loop-holds c = (omega arith, λ k h. absurd (omega (arith, h)))
+loop-i-init : tie.Need-loop-i-init invariant-loop-i decreases-loop-i
+loop-i-init c = (omega arith, λ k h. absurd (omega (arith, h)))
 
-mul-if1 : tie.Need-overflow-mul-if1 invariant-loop decreases-loop
-mul-if1 c = omega arith
+offset_bounds-lengths-i : tie.Need-offset_bounds-lengths-i invariant-loop-i decreases-loop-i
+offset_bounds-lengths-i c = omega arith
 
-shared-slice-read-if1 : tie.Need-shared-slice-read-if1 invariant-loop decreases-loop
-shared-slice-read-if1 c = omega arith
+bounds-lengths-i : tie.Need-bounds-lengths-i invariant-loop-i decreases-loop-i
+bounds-lengths-i c = omega arith
 
-returns : tie.Need-returns invariant-loop decreases-loop
-returns c = let a = c.before.before.before.before in
-    short_at a.args.cells a.args.lengths.now c.before.before.before.loop.i (omega arith) c.if1.true
+returns-then-lengths-i : tie.Need-returns-then-lengths-i invariant-loop-i decreases-loop-i
+returns-then-lengths-i c = let a = c in
+    short_at a.args.cells a.args.lengths.now c.loop-i.i (omega arith) c.if-lengths-i.true
 
-add-i : tie.Need-overflow-add-i invariant-loop decreases-loop
-add-i c = omega arith
+overflow_add-i : tie.Need-overflow_add-i invariant-loop-i decreases-loop-i
+overflow_add-i c = omega arith
 
-loop-less : tie.Need-loop-smaller invariant-loop decreases-loop
-loop-less c = omega arith
+loop-i-smaller : tie.Need-loop-i-smaller invariant-loop-i decreases-loop-i
+loop-i-smaller c = omega arith
 
-loop-again : tie.Need-loop-preserved invariant-loop decreases-loop
-loop-again c = let a = c.before.before.before.before in (
+loop-i-preserved : tie.Need-loop-i-preserved invariant-loop-i decreases-loop-i
+loop-i-preserved c = let a = c in (
   omega arith,
-  λ k h. ⊎_elim (λ (e : k ≡ c.before.before.before.loop.i). omega (arith, ap (λ (j : ℕ). get_or a.args.lengths.now j 0) e))
-      (c.before.before.before.loop.invariant.1 k) (top_or-below (omega (arith, h))),
+  λ k h. ⊎_elim (λ (e : k ≡ c.loop-i.i). omega (arith, ap (λ (j : ℕ). get_or a.args.lengths.now j 0) e))
+      (c.loop-i.invariant.1 k) (top_or-below (omega (arith, h))),
 )
 
-returns-2 : tie.Need-returns-2 invariant-loop decreases-loop
-returns-2 c = let a = c.before.before in
-    long_all a.args.cells a.args.lengths.now (λ i h. c.before.loop.invariant.1 i (omega (arith, h)))
+returns : tie.Need-returns invariant-loop-i decreases-loop-i
+returns c = let a = c in
+    long_all a.args.cells a.args.lengths.now (λ i h. c.loop-i.invariant.1 i (omega (arith, h)))
 
-pub long-spec : {M : Type 1} → statement M
-long-spec =
+pub long_spec : {M : Type 1} → statement M
+long_spec =
     tie.close
     (tie.spec
-    invariant-loop
-    decreases-loop
-    loop-holds
-    mul-if1
-    shared-slice-read-if1
-    returns
-    add-i
-    loop-less
-    loop-again
-    returns-2)
+    invariant-loop-i
+    decreases-loop-i
+    loop-i-init
+    offset_bounds-lengths-i
+    bounds-lengths-i
+    returns-then-lengths-i
+    overflow_add-i
+    loop-i-smaller
+    loop-i-preserved
+    returns)

@@ -4,13 +4,13 @@ use Rattle.columns.specs.Due.{or_else}
 use Rattle.columns.proofs.checks.or_else.Statement.{statement}
 use Rattle.columns.proofs.checks.or_else.Tie as tie
 
+returns-then-number-eq0 : tie.Need-returns-then-number-eq0
+unfolding or_else
+returns-then-number-eq0 c = simp (eq-eqb _ _ c.if-number-eq0.true)
+
 returns : tie.Need-returns
 unfolding or_else
-returns c = simp (eq-eqb _ _ c.if1.true)
+returns c = simp (ne_eqb _ _ c.if-number-eq0.false)
 
-returns-2 : tie.Need-returns-2
-unfolding or_else
-returns-2 c = simp (ne_eqb _ _ c.if1.false)
-
-pub or-else-spec : {M : Type 1} → statement M
-or-else-spec = tie.close (tie.spec returns returns-2)
+pub or_else_spec : {M : Type 1} → statement M
+or_else_spec = tie.close (tie.spec returns-then-number-eq0 returns)

@@ -8,16 +8,16 @@ use Rattle.columns.proofs.checks.refuse_unless.Tie as tie
 refuse-requires : tie.Need-refuse-requires
 refuse-requires c κs = search rules
 
-returns : tie.Need-returns
+returns-then-holds : tie.Need-returns-then-holds
 unfolding due
-returns c = c.refuse.ensures ∙ simp c.before.if1.true
+returns-then-holds c = c.refuse.ensures ∙ simp c.if-holds.true
 
 refuse-requires-2 : tie.Need-refuse-requires-2
 refuse-requires-2 c κs = search rules
 
-returns-2 : tie.Need-returns-2
+returns : tie.Need-returns
 unfolding due
-returns-2 c = c.refuse2.ensures ∙ simp c.before.if1.false
+returns c = c.refuse-2.ensures ∙ simp c.if-holds.false
 
-pub refuse-unless-spec : {M : Type 1} → statement M
-refuse-unless-spec = tie.close (tie.spec refuse-requires returns refuse-requires-2 returns-2)
+pub refuse_unless_spec : {M : Type 1} → statement M
+refuse_unless_spec = tie.close (tie.spec refuse-requires returns-then-holds refuse-requires-2 returns)

@@ -8,61 +8,61 @@ use Rattle.columns.specs.Columns.{cell}
 use Rattle.columns.proofs.rows.gather.Statement.{statement}
 use Rattle.columns.proofs.rows.gather.Tie as tie
 
-abbrev invariant-loop : tie.invariant-loop
-invariant-loop a order to₀ i₀ to i = Painted (λ k. cell a (get_or order k 0)) (length order) to₀ i to
+abbrev invariant-loop-i : tie.invariant-loop-i
+invariant-loop-i a order to₀ i₀ to i = Painted (λ k. cell a (get_or order k 0)) (length order) to₀ i to
 
-abbrev decreases-loop : tie.decreases-loop
-decreases-loop a order to₀ i₀ to i = length order - i
+abbrev decreases-loop-i : tie.decreases-loop-i
+decreases-loop-i a order to₀ i₀ to i = length order - i
 
-loop-holds : tie.Need-loop-init invariant-loop decreases-loop
-loop-holds c = painted_none _ (length c.before.before.before.args.order.now) c.before.before.before.args.to.now
+loop-i-init : tie.Need-loop-i-init invariant-loop-i decreases-loop-i
+loop-i-init c = painted_none _ (length c.args.order.now) c.args.to.now
 
-mul-cell-of : tie.Need-overflow-mul-cell-of invariant-loop decreases-loop
-mul-cell-of c = search rules
+offset_bounds-order-i : tie.Need-offset_bounds-order-i invariant-loop-i decreases-loop-i
+offset_bounds-order-i c = search rules
 
-shared-slice-read-cell-of : tie.Need-shared-slice-read-cell-of invariant-loop decreases-loop
-shared-slice-read-cell-of c = search rules
+bounds-order-i : tie.Need-bounds-order-i invariant-loop-i decreases-loop-i
+bounds-order-i c = search rules
 
-cell-of-requires : tie.Need-cell-of-requires invariant-loop decreases-loop
-cell-of-requires c κs = search rules
+cell_of-requires : tie.Need-cell_of-requires invariant-loop-i decreases-loop-i
+cell_of-requires c κs = search rules
 
-mul-to : tie.Need-overflow-mul-to invariant-loop decreases-loop
-mul-to c = search rules
+offset_bounds-to-i : tie.Need-offset_bounds-to-i invariant-loop-i decreases-loop-i
+offset_bounds-to-i c = search rules
 
-slice-write-to : tie.Need-slice-write-to invariant-loop decreases-loop
-slice-write-to c = search rules
+bounds-to-i : tie.Need-bounds-to-i invariant-loop-i decreases-loop-i
+bounds-to-i c = search rules
 
-add-i : tie.Need-overflow-add-i invariant-loop decreases-loop
-add-i c = search rules
+overflow_add-i : tie.Need-overflow_add-i invariant-loop-i decreases-loop-i
+overflow_add-i c = search rules
 
-loop-less : tie.Need-loop-smaller invariant-loop decreases-loop
-loop-less c = search rules
+loop-i-smaller : tie.Need-loop-i-smaller invariant-loop-i decreases-loop-i
+loop-i-smaller c = search rules
 
-loop-again : tie.Need-loop-preserved invariant-loop decreases-loop
-loop-again c = painted_more _ _ _ _ _ _ (omega arith) (omega arith) c.cell_of.ensures c.before.before.before.loop.invariant
+loop-i-preserved : tie.Need-loop-i-preserved invariant-loop-i decreases-loop-i
+loop-i-preserved c = painted_more _ _ _ _ _ _ (omega arith) (omega arith) c.cell_of.ensures c.loop-i.invariant
 
-same_length : tie.Need-same-length invariant-loop decreases-loop
-same_length c = c.before.loop.invariant.1.1
+shape_of-to : tie.Need-shape_of-to invariant-loop-i decreases-loop-i
+shape_of-to c = c.loop-i.invariant.1.1
 
-returns : tie.Need-returns invariant-loop decreases-loop
-returns c = painted_done _ _ _ _ _ _ c.before.loop.invariant (omega arith)
-    (listed-map (cell c.before.before.before.before.before.args.a.now)
-    c.before.before.before.before.before.args.order.now)
+returns : tie.Need-returns invariant-loop-i decreases-loop-i
+returns c = painted_done _ _ _ _ _ _ c.loop-i.invariant (omega arith)
+    (listed-map (cell c.args.a.now)
+    c.args.order.now)
 
-pub gather-spec : {M : Type 1} → statement M
-gather-spec =
+pub gather_spec : {M : Type 1} → statement M
+gather_spec =
     tie.close
     (tie.spec
-    invariant-loop
-    decreases-loop
-    loop-holds
-    mul-cell-of
-    shared-slice-read-cell-of
-    cell-of-requires
-    mul-to
-    slice-write-to
-    add-i
-    loop-less
-    loop-again
-    same_length
+    invariant-loop-i
+    decreases-loop-i
+    loop-i-init
+    offset_bounds-order-i
+    bounds-order-i
+    cell_of-requires
+    offset_bounds-to-i
+    bounds-to-i
+    overflow_add-i
+    loop-i-smaller
+    loop-i-preserved
+    shape_of-to
     returns)

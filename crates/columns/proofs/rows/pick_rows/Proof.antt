@@ -9,8 +9,8 @@ use Rattle.columns.specs.Rows.{firsts_by, pick_rows, picked}
 use Rattle.columns.proofs.rows.pick_rows.Statement.{statement}
 use Rattle.columns.proofs.rows.pick_rows.Tie as tie
 
-count-up-requires : tie.Need-count-up-requires
-count-up-requires c κs = search rules
+count_up-requires : tie.Need-count_up-requires
+count_up-requires c κs = search rules
 
 sort-requires : tie.Need-sort-requires
 sort-requires c κs = search rules
@@ -18,35 +18,35 @@ sort-requires c κs = search rules
 distinct-requires : tie.Need-distinct-requires
 distinct-requires c κs = search rules
 
-same_length : tie.Need-same-length
-same_length c = search rules
+shape_of-order : tie.Need-shape_of-order
+shape_of-order c = search rules
 
-same-length-2 : tie.Need-same-length-2
-same-length-2 c = search rules
+shape_of-spare : tie.Need-shape_of-spare
+shape_of-spare c = search rules
 
 returns : tie.Need-returns
 unfolding pick_rows picked
 returns c =
-    let a = c.before.before.before.before.before.before.before.before.before.before.before.before.before.before.before.before.before.before.before.before.args.a.now in
-    let b = c.before.before.before.before.before.before.before.before.before.before.before.before.before.before.before.before.before.before.before.before.args.b.now in
-    let d = c.before.before.before.before.before.before.before.before.before.before.before.before.before.before.before.before.before.before.before.before.args.c.now in
-    let e : c.before.before.before.before.before.before.before.before.sort.new.1.1.1.0 ≡ sort_by a b d
+    let a = c.args.a.now in
+    let b = c.args.b.now in
+    let d = c.args.c.now in
+    let e : c.sort.new.order ≡ sort_by a b d
     (listed (length
-    c.before.before.before.before.before.before.before.before.before.before.before.before.before.before.before.before.before.before.before.before.args.order.now) (λ k. k)) =
-    c.before.before.before.before.before.before.before.before.sort.ensures.0 ∙
+    c.args.order.now) (λ k. k)) =
+    c.sort.ensures.0 ∙
     ap (sort_by a b d)
-    c.before.before.before.before.before.before.before.before.before.before.before.before.before.count-up.ensures in (
-      c.before.before.distinct.ensures.0 ∙ ap (λ (l : List ℕ). length (firsts_by a b d l)) e,
+    c.count_up.ensures in (
+      c.distinct.ensures.0 ∙ ap (λ (l : List ℕ). length (firsts_by a b d l)) e,
       (
-        c.before.before.distinct.ensures.1 ∙ ap (λ (l : List ℕ). over (firsts_by a b d l) l) e,
-        c.before.before.before.before.before.before.before.before.sort.ensures.1 ∙
+        c.distinct.ensures.1 ∙ ap (λ (l : List ℕ). over (firsts_by a b d l) l) e,
+        c.sort.ensures.1 ∙
             ap (λ (n : ℕ). wiped (n / 2)
-            c.before.before.before.before.before.before.before.before.before.before.before.before.before.before.before.before.before.before.before.before.args.spare.now)
-            c.before.before.before.before.before.before.before.before.before.before.before.before.before.count-up.auto.0,
+            c.args.spare.now)
+            c.count_up.auto.a,
       ),
     )
 
-pub pick-rows-spec : {M : Type 1} → statement M
-pick-rows-spec =
+pub pick_rows_spec : {M : Type 1} → statement M
+pick_rows_spec =
     tie.close
-    (tie.spec count-up-requires sort-requires distinct-requires same_length same-length-2 returns)
+    (tie.spec count_up-requires sort-requires distinct-requires shape_of-order shape_of-spare returns)

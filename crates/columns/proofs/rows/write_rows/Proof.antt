@@ -12,29 +12,29 @@ gather-requires-2 c κs = search rules
 gather-requires-3 : tie.Need-gather-requires-3
 gather-requires-3 c κs = search rules
 
-same_length : tie.Need-same-length
-same_length c = search rules
+shape_of-x : tie.Need-shape_of-x
+shape_of-x c = search rules
 
-same-length-2 : tie.Need-same-length-2
-same-length-2 c = search rules
+shape_of-y : tie.Need-shape_of-y
+shape_of-y c = search rules
 
-same-length-3 : tie.Need-same-length-3
-same-length-3 c = search rules
+shape_of-z : tie.Need-shape_of-z
+shape_of-z c = search rules
 
 returns : tie.Need-returns
 returns c = (
-  c.before.before.before.before.before.before.before.before.before.before.gather.ensures,
-  (c.before.before.before.before.before.before.gather2.ensures, c.before.before.gather3.ensures),
+  c.gather.ensures,
+  (c.gather-2.ensures, c.gather-3.ensures),
 )
 
-pub write-rows-spec : {M : Type 1} → statement M
-write-rows-spec =
+pub write_rows_spec : {M : Type 1} → statement M
+write_rows_spec =
     tie.close
     (tie.spec
     gather-requires
     gather-requires-2
     gather-requires-3
-    same_length
-    same-length-2
-    same-length-3
+    shape_of-x
+    shape_of-y
+    shape_of-z
     returns)
