@@ -1,6 +1,7 @@
 pub mod Saying
 pub mod Doing
 pub mod Determined
+pub mod OneResult
 pub mod Chains
 pub mod Bools
 pub mod Rooms

@@ -1,16 +1,12 @@
--- What document 01 asks of a contract: any two results that it allows are equal. T is what a function takes and answers, and C what a
--- caller learns from its `ensures` as they stand in src/. Two calls with the same arguments a answer r and q, and x and y are what each
--- `&mut` parameter holds when they return. T alone says which those are: a slice that is lent for writing, and that no `ensures` speaks
--- of, leaves `OneResult` without a proof.
+-- What document 01 asks of a contract: any two results that it allows are equal. A contract equates what the answer says, and every
+-- cell that is lent to the call, with a definition d; so d alone is named.
 use Rattle.std.specs.Prelude.{◌≡◌}
-use contract.Lifetimes.{Lfts}
-use denote.Triple.Clauses.{Ended, Lasts, AtExit, at_exit}
-use denote.Triple.Entry.{Args, Res}
+use Rattle.columns.specs.Answers.{Said}
 
-abbrev pub Contract : Ended → Type 1
-Contract T = (κs : Lfts T.signature.lifetimes) → Args T.signature κs → Res T.signature κs → AtExit T κs → Type 0
+-- a call that only answers: two answers a and b that it allows are equal
+abbrev pub DeterminedAnswer : {A : Type 0} → (A → Said) → Said → Type 0
+DeterminedAnswer {A} says d = (a b : A) → says a ≡ d → says b ≡ d → a ≡ b
 
-abbrev pub OneResult : (T : Ended) → Contract T → Type 0
-OneResult T C =
-    (κs : Lfts T.signature.lifetimes) (a : Args T.signature κs) (r q : Res T.signature κs) (x y : Lasts T κs a)
-    → C κs a r (at_exit T κs a x) → C κs a q (at_exit T κs a y) → (r ≡ q) × (x ≡ y)
+-- a call that is lent cells: so are its answers, and the cells x and y at return
+abbrev pub Determined : {A L : Type 0} → (A → Said) → Said × L → Type 0
+Determined {A} {L} says d = (a b : A) (x y : L) → (says a, x) ≡ d → (says b, y) ≡ d → (a ≡ b) × (x ≡ y)

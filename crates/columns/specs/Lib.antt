@@ -1,5 +1,6 @@
 pub mod Answers
 pub mod Determined
+pub mod OneResult
 pub mod Counting
 pub mod Columns
 pub mod Inverse

@@ -1,15 +1,17 @@
 -- Any two results that the contract of reading or of writing a file allows are equal.
-use Rattle.columns.specs.Determined.{OneResult}
-use Rattle.columns.proofs.Determined.{skip, determined}
+use Rattle.std.specs.Prelude.{ℕ, List}
+use Rattle.columns.specs.Answers.{said_number}
+use Rattle.columns.specs.Determined.{Determined}
+use Rattle.columns.proofs.Determined.{determined}
 use Rattle.columns.proofs.Saying.{same_number}
+use Rattle.table.specs.Lts.{Lts}
+use Rattle.table.specs.Tables.{Three, said_table}
 use Rattle.table.proofs.Tables.{same_table}
-use Rattle.file.proofs.reading as reading
-use Rattle.file.proofs.writing as writing
+use Rattle.file.specs.Input.{read_file}
+use Rattle.file.specs.Output.{write_file}
 
--- the columns of the rows
-pub read_file_lem : OneResult reading.read_file.ended reading.read_file.Reads.Learnt
-read_file_lem κs a r q x y = determined same_table (λ c. skip 1 (c.0, (c.1.0, (c.1.1, tt)))) r q
+pub read_file_lem : (s : List ℕ) (out : Three) → Determined said_table (read_file s out)
+read_file_lem s out = determined same_table
 
--- the bytes
-pub write_file_lem : OneResult writing.write_file.ended writing.write_file.Reads.Learnt
-write_file_lem κs a r q x y = determined same_number (λ c. skip 6 (c, tt)) r q
+pub write_file_lem : (t : Lts) (k : ℕ) (blocks bytes : List ℕ) → Determined said_number (write_file t k blocks bytes)
+write_file_lem t k blocks bytes = determined same_number

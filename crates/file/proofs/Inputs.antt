@@ -1,5 +1,5 @@
 -- Laws of reading: a field, the lengths, the header, the rows, and what holds of a file that is not refused.
-use Rattle.core.specs.Prelude.{◌≡◌, ℕ, ◌+◌, ◌*◌, ◌<◌, ◌≤◌, Bool, eqb, leb, List, [], ◌∷◌, length, take}
+use Rattle.std.specs.Prelude.{◌≡◌, ℕ, ◌+◌, ◌*◌, ◌<◌, ◌≤◌, Bool, eqb, leb, List, [], ◌∷◌, length, take}
 use native.Mathlib.Omega.{arith}
 use borrow.Author.Tests.{eqb-true, leb-true, lt-leb, le-leb, eq-eqb}
 use mathlib.Core.Path.{refl, ap, sym, ◌∙◌}

@@ -8,3 +8,4 @@ pub mod RoundTrip
 pub mod Theorems
 pub mod Examples
 pub mod Determined
+pub mod OneResult

@@ -1,5 +1,5 @@
 -- Numbers as bytes, the lowest first. A file is a list of bytes.
-use Rattle.core.specs.Prelude.{ℕ, zero, suc, ◌+◌, ◌*◌, ◌/◌, ◌%◌, List, [], ◌∷◌, length, slice_index}
+use Rattle.std.specs.Prelude.{ℕ, zero, suc, ◌+◌, ◌*◌, ◌/◌, ◌%◌, List, [], ◌∷◌, length, slice_index}
 use Rattle.columns.specs.Columns.{laid}
 
 -- the number in `width` bytes from `at` on

@@ -1,5 +1,5 @@
 -- What stands in an output file: a table, and the block of each source state.
-use Rattle.core.specs.Prelude.{ℕ, ◌+◌, ◌*◌, ◌/◌, List}
+use Rattle.std.specs.Prelude.{ℕ, ◌+◌, ◌*◌, ◌/◌, List}
 use Rattle.columns.specs.Columns.{listed}
 use Rattle.table.specs.declared.Table.{Table}
 use Rattle.table.specs.Lts.{Lts, lts}

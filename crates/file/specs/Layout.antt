@@ -1,5 +1,5 @@
 -- Where the parts of a file stand and how long they are, in bytes.
-use Rattle.core.specs.Prelude.{ℕ}
+use Rattle.std.specs.Prelude.{ℕ}
 
 -- the kinds of a body: the header of a table, its rows, the block of each source state
 abbrev pub header_kind : ℕ

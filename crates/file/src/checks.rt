@@ -1,5 +1,5 @@
 // The tests of an input file, all of them made before a row is handed over.
-ghost use Rattle.core.specs.Prelude.{◌≡◌, ◌+◌, ◌*◌, ◌<◌, ◌≤◌, [], ◌∷◌, length};
+ghost use Rattle.std.specs.Prelude.{◌≡◌, ◌+◌, ◌*◌, ◌<◌, ◌≤◌, [], ◌∷◌, length};
 ghost use Rattle.columns.specs.Due.{due};
 ghost use Rattle.table.specs.Checks.{table_tests};
 ghost use Rattle.file.specs.Input.{with_rows, field_test, field_tests, length_tests, sized_tests, file_refusal, long_refusal};

@@ -1,5 +1,5 @@
 // The work of the calls: reading the rows of an input file, writing an output file. No entry points: each says what it requires.
-ghost use Rattle.core.specs.Prelude.{◌≡◌, ◌+◌, ◌*◌, ◌<◌, ◌≤◌, length};
+ghost use Rattle.std.specs.Prelude.{◌≡◌, ◌+◌, ◌*◌, ◌<◌, ◌≤◌, length};
 ghost use Rattle.std.proofs.lemmas.List.Edits.{sets};
 ghost use Rattle.columns.specs.Columns.{over};
 ghost use Rattle.table.specs.Lts.{RowsLong, lts};

@@ -1,5 +1,5 @@
 // Reading an input file.
-ghost use Rattle.core.specs.Prelude.{◌≡◌};
+ghost use Rattle.std.specs.Prelude.{◌≡◌};
 ghost use Rattle.table.specs.Tables.{Three, said_table};
 ghost use Rattle.file.specs.Input.{read_file};
 

@@ -1,5 +1,5 @@
 // Writing an output file: a table, and the block of each state of another.
-ghost use Rattle.core.specs.Prelude.{◌≡◌, ◌<◌, ◌≤◌, [], ◌∷◌, length};
+ghost use Rattle.std.specs.Prelude.{◌≡◌, ◌<◌, ◌≤◌, [], ◌∷◌, length};
 ghost use Rattle.columns.specs.Answers.{said_number};
 ghost use Rattle.columns.specs.Due.{due};
 ghost use Rattle.file.specs.Output.{blocks_test, write_refusal, write_file};

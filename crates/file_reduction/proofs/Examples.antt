@@ -1,5 +1,5 @@
 -- Document 01's input file gives its output file, byte for byte, with a byte behind it left as it was; with a byte too few it is 16.
-use Rattle.core.specs.Prelude.{◌≡◌, [], ◌∷◌, ◌++◌}
+use Rattle.std.specs.Prelude.{◌≡◌, [], ◌∷◌, ◌++◌}
 use mathlib.Core.Path.{refl}
 use Rattle.columns.specs.Answers.{done, refused}
 use Rattle.columns.specs.Columns.{zeros}

@@ -3,3 +3,4 @@ pub mod Done
 pub mod Theorems
 pub mod Examples
 pub mod Determined
+pub mod OneResult

@@ -1,6 +1,6 @@
 -- What the answer of a reduction from file to file says: the bytes written; states, labels and rows of the source; blocks and rows of the
 -- result; the rounds that split something.
-use Rattle.core.specs.Prelude.{[], ◌∷◌}
+use Rattle.std.specs.Prelude.{[], ◌∷◌}
 use Rattle.columns.specs.Answers.{Said, done, refused}
 use Rattle.file_reduction.specs.declared.answers.FileAnswer.{FileAnswer}
 use Rattle.file_reduction.specs.declared.answers.FileOutcome.{FileOutcome}

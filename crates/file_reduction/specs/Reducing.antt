@@ -1,5 +1,5 @@
 -- What `reduce_file` refuses, answers and leaves.
-use Rattle.core.specs.Prelude.{ℕ, true, List, [], ◌∷◌, ◌++◌, length}
+use Rattle.std.specs.Prelude.{ℕ, true, List, [], ◌∷◌, ◌++◌, length}
 use Rattle.bisimulation.specs.Quotient.{quotient}
 use Rattle.columns.specs.Answers.{Said, leaving}
 use Rattle.columns.specs.Columns.{over}

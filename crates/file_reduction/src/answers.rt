@@ -1,5 +1,5 @@
 // The answer of a reduction from file to file.
-ghost use Rattle.core.specs.Prelude.{◌≡◌};
+ghost use Rattle.std.specs.Prelude.{◌≡◌};
 ghost use Rattle.columns.specs.Answers.{refused};
 ghost use Rattle.file_reduction.specs.Answers.{said_file};
 

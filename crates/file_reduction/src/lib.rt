@@ -1,6 +1,6 @@
 // From file to file: the table of an input file is reduced strongly, and written as an output file. All memory is the call's own: no work
 // is lent.
-ghost use Rattle.core.specs.Prelude.{◌≡◌, ◌<◌, [], ◌∷◌, length};
+ghost use Rattle.std.specs.Prelude.{◌≡◌, ◌<◌, [], ◌∷◌, length};
 ghost use Rattle.columns.specs.Columns.{EachLong};
 ghost use Rattle.file.specs.Input.{table_in, named_end};
 ghost use Rattle.file_reduction.specs.Answers.{said_file};

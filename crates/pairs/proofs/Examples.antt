@@ -1,5 +1,5 @@
 -- What is absent: what `is_subset_of` says. Then 15 for given lists.
-use Rattle.core.specs.Prelude.{◌≡◌, [], ◌∷◌}
+use Rattle.std.specs.Prelude.{◌≡◌, [], ◌∷◌}
 use mathlib.Core.Path.{refl}
 use Rattle.columns.specs.Limits.{wrong_list}
 use Rattle.columns.specs.Answers.{done, refused, none, refusal}

@@ -5,3 +5,4 @@ pub mod Listing
 pub mod Theorems
 pub mod Examples
 pub mod Determined
+pub mod OneResult

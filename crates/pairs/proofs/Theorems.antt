@@ -1,5 +1,5 @@
 -- What `is_subset_of` has found where it says done, and when lists of pairs are refused, in document 01's words.
-use Rattle.core.specs.Prelude.{◌≡◌, ℕ, ◌⊎◌, List, [], ◌∷◌}
+use Rattle.std.specs.Prelude.{◌≡◌, ℕ, ◌⊎◌, List, [], ◌∷◌}
 use Rattle.columns.specs.Answers.{done}
 use Rattle.columns.specs.Counting.{bit}
 use Rattle.columns.specs.Sets.{Mem, Pair, pair_lt, Ascending}

@@ -1,5 +1,5 @@
 -- Pairs (label, block) in two lent columns, and 15 for a list of pairs that does not ascend.
-use Rattle.core.specs.Prelude.{ℕ, ◌-◌, Bool, cond, not, ◌&&◌, List, length, nat_le, nat_lt}
+use Rattle.std.specs.Prelude.{ℕ, ◌-◌, Bool, cond, not, ◌&&◌, List, length, nat_le, nat_lt}
 use Rattle.columns.specs.Limits.{wrong_list}
 use Rattle.columns.specs.Counting.{first}
 use Rattle.columns.specs.Due.{Test, test}

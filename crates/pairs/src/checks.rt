@@ -1,5 +1,5 @@
 // 15 for the lists of pairs that a call is lent.
-ghost use Rattle.core.specs.Prelude.{◌≡◌, [], ◌∷◌};
+ghost use Rattle.std.specs.Prelude.{◌≡◌, [], ◌∷◌};
 ghost use Rattle.columns.specs.Due.{due};
 ghost use Rattle.pairs.specs.Pairs.{list_test};
 ghost use Rattle.pairs.specs.Subset.{subset_refusal};

@@ -1,5 +1,5 @@
 // What other crates call once two lists of pairs are checked. No entry points: each says what it requires.
-ghost use Rattle.core.specs.Prelude.{◌≡◌, ◌≤◌, ◌&&◌, length, nat_lt};
+ghost use Rattle.std.specs.Prelude.{◌≡◌, ◌≤◌, ◌&&◌, length, nat_lt};
 ghost use Rattle.columns.specs.Sets.{pair_lt, pair_eq, Ascending};
 ghost use Rattle.pairs.specs.Pairs.{pairs};
 ghost use Rattle.pairs.specs.Subset.{not_below, subsetb};

@@ -4,7 +4,7 @@ pub mod core;
 pub mod lists;
 pub mod pairs;
 
-ghost use Rattle.core.specs.Prelude.{◌≡◌};
+ghost use Rattle.std.specs.Prelude.{◌≡◌};
 ghost use Rattle.columns.specs.Answers.{said_flag};
 ghost use Rattle.pairs.specs.Subset.{is_subset_of};
 

@@ -1,6 +1,6 @@
 // Given lists of pairs: flat in two columns, with n + 1 starts; list u is the pairs from start u to before start u + 1.
 // No entry points: what a call that is lent such lists tests.
-ghost use Rattle.core.specs.Prelude.{◌≡◌, ◌+◌, ◌<◌, ◌≤◌, length, slice_index};
+ghost use Rattle.std.specs.Prelude.{◌≡◌, ◌+◌, ◌<◌, ◌≤◌, length, slice_index};
 ghost use Rattle.columns.specs.Counting.{first};
 ghost use Rattle.pairs.specs.Pairs.{end_of};
 ghost use Rattle.pairs.specs.Lists.{bad_start, bad_in_lists, Starts, lists_refusal};

@@ -1,5 +1,5 @@
 // Pairs (label, block) in two lent columns. No entry points: what the checks and the walk read.
-ghost use Rattle.core.specs.Prelude.{◌≡◌, ◌<◌, ◌≤◌, length};
+ghost use Rattle.std.specs.Prelude.{◌≡◌, ◌<◌, ◌≤◌, length};
 ghost use Rattle.columns.specs.Counting.{first};
 ghost use Rattle.columns.specs.Sets.{pair_lt, pair_eq};
 ghost use Rattle.pairs.specs.Pairs.{shorter, bad_pair};

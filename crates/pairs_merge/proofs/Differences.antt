@@ -1,5 +1,5 @@
 -- The members of one set that another has not: they ascend, none is in the other, and with the other they are the union.
-use Rattle.core.specs.Prelude.{◌≡◌, Bool, true, false, cond, List, [], ◌∷◌, ◌++◌}
+use Rattle.std.specs.Prelude.{◌≡◌, Bool, true, false, cond, List, [], ◌∷◌, ◌++◌}
 use mathlib.Core.Path.{refl, ap, sym, ◌∙◌, subst}
 use mathlib.Core.Logic.{⊎_elim}
 use mathlib.Core.List.Memᴰ

@@ -1,5 +1,5 @@
 -- The members of one set that another has not.
-use Rattle.core.specs.Prelude.{cond, List, [], ◌∷◌}
+use Rattle.std.specs.Prelude.{cond, List, [], ◌∷◌}
 use Rattle.columns.specs.Sets.{Pair}
 use Rattle.pairs.specs.Subset.{has_pair}
 

@@ -1,5 +1,5 @@
 // The heads of the lists that are merged. No entry points. A place in the flat pairs is two cells, high and low.
-ghost use Rattle.core.specs.Prelude.{◌≡◌, ℕ, ◌+◌, ◌<◌, length, ◌≢◌};
+ghost use Rattle.std.specs.Prelude.{◌≡◌, ℕ, ◌+◌, ◌<◌, length, ◌≢◌};
 ghost use Rattle.pairs_merge.specs.Merged.{wide, heads, not_after, Fit};
 
 use columns::cells::at;

@@ -1,5 +1,5 @@
 // How many pairs are left of the lists. No entry points.
-ghost use Rattle.core.specs.Prelude.{◌≡◌, ◌*◌, ◌<◌, ◌≤◌, [], length};
+ghost use Rattle.std.specs.Prelude.{◌≡◌, ◌*◌, ◌<◌, ◌≤◌, [], length};
 ghost use Rattle.pairs_merge.specs.Merged.{heads};
 ghost use Rattle.pairs_merge.specs.Rest.{left_of, left_in};
 

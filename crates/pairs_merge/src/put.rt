@@ -1,5 +1,5 @@
 // One pair more in two result columns. No entry points.
-ghost use Rattle.core.specs.Prelude.{◌≡◌, ◌<◌, ◌≤◌, length};
+ghost use Rattle.std.specs.Prelude.{◌≡◌, ◌<◌, ◌≤◌, length};
 ghost use Rattle.pairs_merge.specs.Put.{last_is, put_first, put_last, put_count};
 
 use pairs::pairs::equal;

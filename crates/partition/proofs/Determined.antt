@@ -1,25 +1,27 @@
 -- Any two results that the contract of a call on one block allows are equal.
-use mathlib.Core.Path.{refl}
-use Rattle.columns.specs.Determined.{OneResult}
+use Prim.Native.Nat.{ℕ}
+use Rattle.columns.specs.Answers.{said_number, said_flag}
+use Rattle.columns.specs.Determined.{DeterminedAnswer}
 use Rattle.columns.proofs.Determined.{determined_answer}
 use Rattle.columns.proofs.Saying.{same_number, same_flag}
-use Rattle.partition.proofs.block.Block as calls
+use Rattle.partition.specs.declared.block.Block.{Block}
+use Rattle.partition.specs.Block as calls
 use Rattle.partition.proofs.Sayings.{same_block}
 
-pub new : OneResult calls.new.ended calls.new.Reads.Learnt
-new κs a r q x y e f = (determined_answer same_block r q e f, refl)
+pub new : (begin end : ℕ) → DeterminedAnswer calls.said_block (calls.new_block begin begin end)
+new begin end = determined_answer same_block
 
-pub new_unmarked_lem : OneResult calls.new_unmarked.ended calls.new_unmarked.Reads.Learnt
-new_unmarked_lem κs a r q x y e f = (determined_answer same_block r q e f, refl)
+pub new_unmarked_lem : (begin end : ℕ) → DeterminedAnswer calls.said_block (calls.new_block begin end end)
+new_unmarked_lem begin end = determined_answer same_block
 
-pub len : OneResult calls.len.ended calls.len.Reads.Learnt
-len κs a r q x y e f = (determined_answer same_number r q e f, refl)
+pub len : (b : Block) → DeterminedAnswer said_number (calls.len b)
+len b = determined_answer same_number
 
-pub len_marked_lem : OneResult calls.len_marked.ended calls.len_marked.Reads.Learnt
-len_marked_lem κs a r q x y e f = (determined_answer same_number r q e f, refl)
+pub len_marked_lem : (b : Block) → DeterminedAnswer said_number (calls.len_marked b)
+len_marked_lem b = determined_answer same_number
 
-pub has_marked_lem : OneResult calls.has_marked.ended calls.has_marked.Reads.Learnt
-has_marked_lem κs a r q x y e f = (determined_answer same_flag r q e f, refl)
+pub has_marked_lem : (b : Block) → DeterminedAnswer said_flag (calls.has_marked b)
+has_marked_lem b = determined_answer same_flag
 
-pub has_unmarked_lem : OneResult calls.has_unmarked.ended calls.has_unmarked.Reads.Learnt
-has_unmarked_lem κs a r q x y e f = (determined_answer same_flag r q e f, refl)
+pub has_unmarked_lem : (b : Block) → DeterminedAnswer said_flag (calls.has_unmarked b)
+has_unmarked_lem b = determined_answer same_flag

@@ -19,3 +19,4 @@ pub mod Blocks
 pub mod Readings
 pub mod Theorems
 pub mod Determined
+pub mod OneResult

@@ -9,7 +9,7 @@ use columns::answers::{
 };
 use columns::limits::{INCONSISTENT, MAX_STATES, OUT_OF_RANGE};
 
-#[derive(Drop)]
+#[derive(Clone, Copy)]
 pub struct Block {
     pub begin: u16,
     pub marked_split: u16,

@@ -1,54 +1,56 @@
--- Any two results that the contract of a call on a partition allows are equal.
-use Rattle.core.specs.Prelude.{◌≡◌}
-use mathlib.Core.Path.{refl, sym, ◌∙◌}
-use contract.Lifetimes.{Lfts}
-use denote.Triple.Clauses.{Lasts, at_exit}
-use denote.Triple.Entry.{Args, Res}
-use Rattle.columns.specs.Determined.{OneResult}
-use Rattle.columns.proofs.Determined.{skip, determined_answer, determined}
+-- Any two results that the contract of a call on a partition allows are equal. p is the partition that is lent.
+use Rattle.std.specs.Prelude.{◌≡◌, ℕ, List}
+use mathlib.Core.Path.{sym, ◌∙◌}
+use denote.Ref.{Bor}
+use Rattle.columns.specs.Answers.{said, said_number, said_flag}
+use Rattle.columns.specs.Determined.{DeterminedAnswer, Determined}
+use Rattle.columns.specs.Lent.{Lent}
+use Rattle.columns.proofs.Determined.{determined_answer, determined}
 use Rattle.columns.proofs.Saying.{same_answer, same_number, same_flag}
+use Rattle.partition.specs.Block.{said_block}
+use Rattle.partition.specs.Fresh.{new_partition}
+use Rattle.partition.specs.Lent.{BeginsAt}
+use Rattle.partition.specs.Mark.{mark_element}
+use Rattle.partition.specs.Partition.{Partition}
+use Rattle.partition.specs.Readers.{num_of_blocks, len_of, block_number, is_element_marked, read_block, iter_block, iter_begin, iter_block_refusal}
+use Rattle.partition.specs.SwapBlocks.{swap_blocks}
 use Rattle.partition.proofs.Sayings.{same_block}
-use Rattle.partition_calls.proofs.BlockPartition as calls
-use Rattle.partition_calls.specs.contracts.BlockPartition.iter_block.{ended}
-use Rattle.partition_calls.proofs.BlockPartition.iter_block.Reads.{Learnt}
+use Rattle.partition_calls.specs.Saying.{said_partition}
 use Rattle.partition_calls.proofs.Sayings.{same_partition}
 
--- the six columns
-pub new : OneResult calls.new.ended calls.new.Reads.Learnt
-new κs a r q x y =
-    determined same_partition
-    (λ c. skip 1 (c.elements, (c.element_offset, (c.element_to_block, (c.begin, (c.marked_split_lem, (c.end, tt))))))) r q
+pub new : (p : Partition) → Determined said_partition (new_partition p)
+new p = determined same_partition
 
-pub num_of_blocks_lem : OneResult calls.num_of_blocks.ended calls.num_of_blocks.Reads.Learnt
-num_of_blocks_lem κs a r q x y e f = (determined_answer same_number r q e f, refl)
+pub num_of_blocks_lem : (p : Partition) → DeterminedAnswer said_number (num_of_blocks p)
+num_of_blocks_lem p = determined_answer same_number
 
-pub len : OneResult calls.len.ended calls.len.Reads.Learnt
-len κs a r q x y e f = (determined_answer same_number r q e f, refl)
+pub len : (p : Partition) → DeterminedAnswer said_number (len_of p)
+len p = determined_answer same_number
 
-pub block_number_lem : OneResult calls.block_number.ended calls.block_number.Reads.Learnt
-block_number_lem κs a r q x y e f = (determined_answer same_number r q e f, refl)
+pub block_number_lem : (p : Partition) (s : ℕ) → DeterminedAnswer said_number (block_number p s)
+block_number_lem p s = determined_answer same_number
 
-pub is_element_marked_lem : OneResult calls.is_element_marked.ended calls.is_element_marked.Reads.Learnt
-is_element_marked_lem κs a r q x y e f = (determined_answer same_flag r q e f, refl)
+pub is_element_marked_lem : (p : Partition) (s : ℕ) → DeterminedAnswer said_flag (is_element_marked p s)
+is_element_marked_lem p s = determined_answer same_flag
 
-pub read_block_lem : OneResult calls.read_block.ended calls.read_block.Reads.Learnt
-read_block_lem κs a r q x y e f = (determined_answer same_block r q e f, refl)
+pub read_block_lem : (p : Partition) (b : ℕ) → DeterminedAnswer said_block (read_block p b)
+read_block_lem p b = determined_answer same_block
 
--- `iter_block` answers a part of the lent elements: two that it may answer have the same cells, and lie at the same place
+-- what `iter_block` answers: a part of the lent elements
+abbrev pub Iterated : Partition → ℕ → Lent (List ℕ) → Bor (List ℕ) → Type 0
+Iterated p b elements r = (r.now ≡ iter_block p b) × BeginsAt r elements (iter_begin p b)
+
+-- two parts that it may answer have the same cells, and lie at the same place
 pub iter_block_lem :
-    (κs : Lfts ended.signature.lifetimes) (a : Args ended.signature κs) (r q : Res ended.signature κs) (x y : Lasts ended κs a)
-    → Learnt κs a r (at_exit ended κs a x) → Learnt κs a q (at_exit ended κs a y) → (r.now ≡ q.now) × (r.ref_ptr ≡ q.ref_ptr)
-iter_block_lem κs a r q x y e f = (e.0 ∙ sym f.0, e.1 ∙ sym f.1)
+    (p : Partition) (b : ℕ) (elements : Lent (List ℕ)) (r q : Bor (List ℕ)) → Iterated p b elements r → Iterated p b elements q →
+    (r.now ≡ q.now) × (r.ref_ptr ≡ q.ref_ptr)
+iter_block_lem p b elements r q u v = (u.0 ∙ sym v.0, u.1 ∙ sym v.1)
 
-pub iter_block_refusal_lem : OneResult calls.iter_block_refusal.ended calls.iter_block_refusal.Reads.Learnt
-iter_block_refusal_lem κs a r q x y e f = (determined_answer same_answer r q e f, refl)
+pub iter_block_refusal_lem : (p : Partition) (b : ℕ) → DeterminedAnswer said (iter_block_refusal p b)
+iter_block_refusal_lem p b = determined_answer same_answer
 
--- elements, offsets and splits
-pub mark_element_lem : OneResult calls.mark_element.ended calls.mark_element.Reads.Learnt
-mark_element_lem κs a r q x y =
-    determined same_answer (λ c. skip 1 (c.elements, (c.element_offset, skip 2 (c.marked_split_lem, skip 2 tt)))) r q
+pub mark_element_lem : (p : Partition) (s : ℕ) → Determined said (mark_element p s)
+mark_element_lem p s = determined same_answer
 
--- the states' blocks, and the block table
-pub swap-blocks : OneResult calls.swap_blocks.ended calls.swap_blocks.Reads.Learnt
-swap-blocks κs a r q x y =
-    determined same_answer (λ c. skip 3 (c.element_to_block, (c.begin, (c.marked_split_lem, (c.end, skip 2 tt))))) r q
+pub swap-blocks : (p : Partition) (l r : ℕ) → Determined said (swap_blocks p l r)
+swap-blocks p l r = determined same_answer

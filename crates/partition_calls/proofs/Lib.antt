@@ -1,3 +1,4 @@
 pub mod Sayings
 pub mod Determined
+pub mod OneResult
 pub mod Theorems

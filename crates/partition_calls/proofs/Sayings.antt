@@ -1,5 +1,5 @@
 -- What an answer that holds a partition says determines it.
-use Rattle.core.specs.Prelude.{◌≡◌, [], ◌∷◌}
+use Rattle.std.specs.Prelude.{◌≡◌, [], ◌∷◌}
 use mathlib.Core.Path.{ap, sym}
 use Rattle.columns.specs.Answers.{done}
 use Rattle.columns.proofs.Saying.{same-refusal, apart}

@@ -1,5 +1,5 @@
 -- What an answer says that holds a partition: n and the block count. And the block count after an answer that says it.
-use Rattle.core.specs.Prelude.{ℕ, ◌-◌, [], ◌∷◌, length, slice_index_or}
+use Rattle.std.specs.Prelude.{ℕ, ◌-◌, [], ◌∷◌, length, slice_index_or}
 use Rattle.columns.specs.Answers.{Said, done, refused}
 use Rattle.partition_calls.specs.declared.PartitionAnswer.{PartitionAnswer}
 use Rattle.partition_calls.specs.declared.PartitionOutcome.{PartitionOutcome}

@@ -1,5 +1,5 @@
 // The calls that change a partition.
-ghost use Rattle.core.specs.Prelude.{◌≡◌};
+ghost use Rattle.std.specs.Prelude.{◌≡◌};
 ghost use Rattle.columns.specs.Answers.{said};
 ghost use Rattle.partition_calls.specs.Saying.{said_partition};
 ghost use Rattle.partition.specs.Fresh.{new_partition};

@@ -1,5 +1,5 @@
 // The calls that read a partition and change nothing.
-ghost use Rattle.core.specs.Prelude.{◌≡◌};
+ghost use Rattle.std.specs.Prelude.{◌≡◌};
 ghost use Rattle.columns.specs.Answers.{said, said_number, said_flag};
 ghost use Rattle.partition.specs.Block.{said_block};
 ghost use Rattle.partition.specs.Readers.{num_of_blocks, len_of, block_number, is_element_marked, read_block, iter_block, iter_begin, iter_block_refusal};

@@ -1,9 +1,12 @@
 -- Any two results that the contract of `display` allows are equal.
-use Rattle.columns.specs.Determined.{OneResult}
-use Rattle.columns.proofs.Determined.{skip, determined}
+use Prim.Native.Nat.{ℕ}
+use mathlib.Core.List.{List}
+use Rattle.columns.specs.Answers.{said_number}
+use Rattle.columns.specs.Determined.{Determined}
+use Rattle.columns.proofs.Determined.{determined}
 use Rattle.columns.proofs.Saying.{same_number}
-use Rattle.partition_display.proofs.display as call
+use Rattle.partition.specs.Partition.{Partition}
+use Rattle.partition_display.specs.Display.{displayed}
 
--- the text
-pub display : OneResult call.ended call.Reads.Learnt
-display κs a r q x y = determined same_number (λ c. skip 7 (c, tt)) r q
+pub display : (p : Partition) (text : List ℕ) → Determined said_number (displayed p text)
+display p text = determined same_number

@@ -4,3 +4,4 @@ pub mod Digits
 pub mod Theorems
 pub mod Examples
 pub mod Determined
+pub mod OneResult

@@ -1,15 +1,11 @@
--- Any two results that the contract of `partition_marked_with` allows are equal.
-use Rattle.core.specs.Prelude.{[], ◌∷◌}
-use Rattle.columns.specs.Determined.{OneResult}
-use Rattle.columns.proofs.Determined.{skip, works, determined}
+-- Any two results that the contract of `partition_marked_with` allows are equal. The cells are the partition, with the block count that
+-- the answer says, and the work slices.
+use Rattle.std.specs.Prelude.{ℕ, List}
+use Rattle.columns.specs.Determined.{Determined}
+use Rattle.columns.proofs.Determined.{determined}
+use Rattle.partition.specs.Partition.{Partition}
+use Rattle.partition_division.specs.Division.{Work, said_division, partition_marked_with}
 use Rattle.partition_division.proofs.Sayings.{same_division}
-use Rattle.partition_division.proofs.partition_marked_with as call
 
--- the six columns of the partition, and the work slices
-pub partition_marked_with_lem : OneResult call.ended call.Reads.Learnt
-partition_marked_with_lem κs a r q x y =
-    determined same_division
-    (λ c.
-    let p = c.0 in
-    let work = works 3 (c.1.old_elements ∷ c.1.block_sizes ∷ c.1.spare ∷ []) in
-    skip 1 (p.elements, (p.element_offset, (p.element_to_block, (p.begin, (p.marked_split_lem, (p.end, skip 2 work))))))) r q
+pub partition_marked_with_lem : (p : Partition) (b : ℕ) (v : List ℕ) (w : Work) → Determined said_division (partition_marked_with p b v w)
+partition_marked_with_lem p b v w = determined same_division

@@ -10,3 +10,4 @@ pub mod Unfit
 pub mod Theorems
 pub mod Sayings
 pub mod Determined
+pub mod OneResult

@@ -1,6 +1,6 @@
 -- What `partition_marked` leaves alone: the other blocks keep their table entries, nothing but the marked stretch is moved, and the
 -- number of blocks grows by exactly the blocks made.
-use Rattle.core.specs.Prelude.{◌≡◌, ℕ, ◌+◌, ◌-◌, ◌<◌, ◌≤◌, true, false, ◌⊎◌, List, get_or}
+use Rattle.std.specs.Prelude.{◌≡◌, ℕ, ◌+◌, ◌-◌, ◌<◌, ◌≤◌, true, false, ◌⊎◌, List, get_or}
 use native.Mathlib.Omega.{arith}
 use mathlib.Core.Path.{refl, ap, sym, subst, ◌∙◌}
 use mathlib.Core.Logic.{⊎_elim}

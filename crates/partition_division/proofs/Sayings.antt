@@ -1,5 +1,5 @@
 -- What an answer of `partition_marked_with` says determines it.
-use Rattle.core.specs.Prelude.{◌≡◌}
+use Rattle.std.specs.Prelude.{◌≡◌}
 use mathlib.Core.Path.{ap, sym}
 use Rattle.columns.proofs.Saying.{same-refusal, apart}
 use Rattle.partition_division.specs.declared.DivisionAnswer.{DivisionAnswer}

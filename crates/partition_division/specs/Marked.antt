@@ -1,5 +1,5 @@
 -- The marked states of a block and their numbers. p is the partition that is lent, b the block, v the column of the numbers.
-use Rattle.core.specs.Prelude.{ℕ, Bool, true, cond, ◌&&◌, List, ◌==◌, nat_lt, slice_index}
+use Rattle.std.specs.Prelude.{ℕ, Bool, true, cond, ◌&&◌, List, ◌==◌, nat_lt, slice_index}
 use Rattle.columns.specs.Counting.{many, first, all}
 use Rattle.columns.specs.Columns.{length_in}
 use Rattle.partition.specs.Marked.{marked_in}

@@ -1,5 +1,5 @@
 // What `partition_marked_with` refuses. No work memory is touched: numbers are noted in a local array.
-ghost use Rattle.core.specs.Prelude.{◌≡◌, ℕ, ◌<◌, ◌≤◌, true, ltb, List, [], ◌∷◌, length, if◌then◌else◌, ◌==◌, nat_eq, nat_lt, slice_index, slice_set};
+ghost use Rattle.std.specs.Prelude.{◌≡◌, ℕ, ◌<◌, ◌≤◌, true, ltb, List, [], ◌∷◌, length, if◌then◌else◌, ◌==◌, nat_eq, nat_lt, slice_index, slice_set};
 ghost use Rattle.columns.specs.Due.{due};
 ghost use Rattle.columns.specs.Counting.{first, all};
 ghost use Rattle.partition.specs.Marked.{marked_from};

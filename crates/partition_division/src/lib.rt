@@ -1,5 +1,5 @@
 // `partition_marked_with` (block_partition.rs): the marked states of a block, divided by number.
-ghost use Rattle.core.specs.Prelude.{◌≡◌};
+ghost use Rattle.std.specs.Prelude.{◌≡◌};
 ghost use Rattle.partition_division.specs.Division.{said_division, work, partition_marked_with};
 ghost use Rattle.partition_calls.specs.Saying.{count_said};
 ghost use Rattle.partition.specs.Partition.{parts};

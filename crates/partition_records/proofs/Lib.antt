@@ -4,3 +4,4 @@ pub mod Forms
 pub mod Theorems
 mod Shared
 pub mod Determined
+pub mod OneResult

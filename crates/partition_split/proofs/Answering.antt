@@ -1,5 +1,5 @@
 -- What a call of `split_marked` goes by that is not refused, and its two ways out.
-use Rattle.core.specs.Prelude.{◌≡◌, ℕ, ◌<◌, ◌≤◌, leb, List, [], ◌∷◌, length}
+use Rattle.std.specs.Prelude.{◌≡◌, ℕ, ◌<◌, ◌≤◌, leb, List, [], ◌∷◌, length}
 use borrow.Author.Tests.{leb-true}
 use mathlib.Core.Path.{ap, ◌∙◌}
 use Rattle.columns.specs.declared.answers.NumberAnswer.{NumberAnswer}

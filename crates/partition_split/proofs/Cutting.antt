@@ -1,5 +1,5 @@
 -- A block cut in two: what each cell holds then, and that the partition stays consistent.
-use Rattle.core.specs.Prelude.{◌≡◌, ℕ, ◌+◌, ◌<◌, ◌≤◌, get_or}
+use Rattle.std.specs.Prelude.{◌≡◌, ℕ, ◌+◌, ◌<◌, ◌≤◌, get_or}
 use native.Mathlib.Omega.{arith}
 use mathlib.Core.Path.{ap, sym, subst, ◌∙◌}
 use mathlib.Core.Logic.{⊎_elim}

@@ -1,11 +1,12 @@
--- Any two results that the contract of `split_marked` allows are equal.
-use Rattle.columns.specs.Determined.{OneResult}
-use Rattle.columns.proofs.Determined.{skip, determined}
+-- Any two results that the contract of `split_marked` allows are equal. The cells are the partition, with the block count that the
+-- answer says.
+use Rattle.std.specs.Prelude.{ℕ, List}
+use Rattle.columns.specs.Answers.{said_number}
+use Rattle.columns.specs.Determined.{Determined}
+use Rattle.columns.proofs.Determined.{determined}
 use Rattle.columns.proofs.Saying.{same_number}
-use Rattle.partition_split.proofs.split_marked as call
+use Rattle.partition.specs.Partition.{Partition}
+use Rattle.partition_split.specs.Split.{split_marked}
 
--- the six columns
-pub split_marked_lem : OneResult call.ended call.Reads.Learnt
-split_marked_lem κs a r q x y =
-    determined same_number
-    (λ c. skip 1 (c.elements, (c.element_offset, (c.element_to_block, (c.begin, (c.marked_split_lem, (c.end, skip 2 tt))))))) r q
+pub split_marked_lem : (p : Partition) (b : ℕ) (c : List ℕ) → Determined said_number (split_marked p b c)
+split_marked_lem p b c = determined same_number

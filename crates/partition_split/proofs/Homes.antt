@@ -1,6 +1,6 @@
 -- Whose block changes: after a split the new block holds the marked and chosen states of block b and nobody else, and every other
 -- state has the block that it had. And when a split happens.
-use Rattle.core.specs.Prelude.{◌≡◌, ℕ, ◌-◌, ◌<◌, ◌≤◌, Bool, true, false, cond, List, get_or}
+use Rattle.std.specs.Prelude.{◌≡◌, ℕ, ◌-◌, ◌<◌, ◌≤◌, Bool, true, false, cond, List, get_or}
 use native.Mathlib.Omega.{arith}
 use mathlib.Core.Path.{ap, sym, subst, ◌∙◌}
 use mathlib.Core.Logic.{⊎_elim}

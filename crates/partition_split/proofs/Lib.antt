@@ -9,3 +9,4 @@ pub mod Steps
 pub mod Answering
 pub mod Theorems
 pub mod Determined
+pub mod OneResult

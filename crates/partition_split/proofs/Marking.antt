@@ -1,6 +1,6 @@
 -- Which states are marked after `split`: without a new block those that were; with one, no state of the two parts. The marks of the
 -- other blocks stay anyhow.
-use Rattle.core.specs.Prelude.{◌≡◌, ℕ, ◌<◌, ◌≤◌, true, false, ltb, List, get_or}
+use Rattle.std.specs.Prelude.{◌≡◌, ℕ, ◌<◌, ◌≤◌, true, false, ltb, List, get_or}
 use native.Mathlib.Omega.{arith}
 use borrow.Author.Tests.{lt-ltb}
 use mathlib.Core.Path.{ap, sym, ◌∙◌}

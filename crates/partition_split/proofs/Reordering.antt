@@ -1,5 +1,5 @@
 -- The marked stretch of a block sifted: each position keeps its block, so the partition stays consistent.
-use Rattle.core.specs.Prelude.{◌≡◌, ℕ, ◌+◌, ◌-◌, ◌<◌, ◌≤◌, List, get_or}
+use Rattle.std.specs.Prelude.{◌≡◌, ℕ, ◌+◌, ◌-◌, ◌<◌, ◌≤◌, List, get_or}
 use native.Mathlib.Omega.{arith}
 use mathlib.Core.Path.{ap, sym, subst, ◌∙◌}
 use mathlib.Core.Logic.{⊎_elim}

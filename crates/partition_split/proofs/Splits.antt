@@ -1,6 +1,6 @@
 -- Laws of `split`: a block is made or the table stays; consistency is kept, the block count grows by the blocks made, and nothing
 -- outside the marked stretch of block b changes.
-use Rattle.core.specs.Prelude.{◌≡◌, ℕ, ◌+◌, ◌<◌, ◌≤◌, Bool, true, false, cond, not, eqb, List, get_or}
+use Rattle.std.specs.Prelude.{◌≡◌, ℕ, ◌+◌, ◌<◌, ◌≤◌, Bool, true, false, cond, not, eqb, List, get_or}
 use native.Mathlib.Omega.{arith}
 use borrow.Author.Tests.{eqb-false, eq-eqb, ne_eqb, not-true}
 use mathlib.Core.Path.{refl, ap, sym, subst, ◌∙◌}

@@ -1,6 +1,6 @@
 -- What `split_marked` has done where it says done, in document 01's words. p is the partition that is lent, b the block, c the bytes of
 -- the choice, and q the partition at return. `taken`: a marked state of block b that is chosen.
-use Rattle.core.specs.Prelude.{◌≡◌, ℕ, ◌+◌, ◌<◌, Bool, true, false, List, [], ◌∷◌, get_or}
+use Rattle.std.specs.Prelude.{◌≡◌, ℕ, ◌+◌, ◌<◌, Bool, true, false, List, [], ◌∷◌, get_or}
 use mathlib.Core.Path.{refl, ap, sym, subst, ◌∙◌}
 use Rattle.columns.specs.Answers.{done}
 use Rattle.columns.specs.Counting.{bit}

@@ -1,5 +1,5 @@
 // The work of `split_marked`, on columns that are checked already. This is no entry point: it asks that the columns are sound.
-ghost use Rattle.core.specs.Prelude.{◌≡◌, ℕ, ◌-◌, ◌<◌, ◌≤◌, cond, length, slice_index, slice_set};
+ghost use Rattle.std.specs.Prelude.{◌≡◌, ℕ, ◌-◌, ◌<◌, ◌≤◌, cond, length, slice_index, slice_set};
 ghost use Rattle.partition.specs.Partition.{Sound, parts};
 ghost use Rattle.partition_split.specs.Split.{sifting, sifted, split};
 

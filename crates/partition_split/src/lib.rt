@@ -1,5 +1,5 @@
 // `split_marked` (block_partition.rs): the chosen ones among the marked states of a block become a block of their own.
-ghost use Rattle.core.specs.Prelude.{◌≡◌};
+ghost use Rattle.std.specs.Prelude.{◌≡◌};
 ghost use Rattle.columns.specs.Answers.{said_number};
 ghost use Rattle.partition_split.specs.Split.{split_marked};
 ghost use Rattle.partition_calls.specs.Saying.{count_said};

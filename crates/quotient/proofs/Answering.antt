@@ -1,5 +1,5 @@
 -- What a call of `quotient_lts_naive` goes by that is not refused, and its two ways out.
-use Rattle.core.specs.Prelude.{◌≡◌, ℕ, ◌+◌, Bool, List, map, length}
+use Rattle.std.specs.Prelude.{◌≡◌, ℕ, ◌+◌, Bool, List, map, length}
 use mathlib.Core.Path.{refl}
 use Rattle.columns.specs.declared.answers.Refusal.{Refusal}
 use Rattle.columns.specs.Answers.{Said, done, refused}

@@ -1,5 +1,5 @@
 -- Where a call of `quotient_lts_naive` is done, the header that it says and the rows that it leaves are the quotient.
-use Rattle.core.specs.Prelude.{◌≡◌, ℕ, Bool, List, [], ◌∷◌, length}
+use Rattle.std.specs.Prelude.{◌≡◌, ℕ, Bool, List, [], ◌∷◌, length}
 use native.Mathlib.Omega.{arith}
 use mathlib.Core.Path.{refl, ap, subst}
 use Rattle.columns.specs.Blocks.{block_of}

@@ -1,10 +1,14 @@
 -- Any two results that the contract of `quotient_lts_naive` allows are equal.
-use Rattle.columns.specs.Determined.{OneResult}
-use Rattle.columns.proofs.Determined.{skip, works, determined}
+use Rattle.std.specs.Prelude.{ℕ, Bool, List}
+use Rattle.columns.specs.Determined.{Determined}
+use Rattle.columns.proofs.Determined.{determined}
+use Rattle.partition.specs.Partition.{Partition}
+use Rattle.quotient.specs.Call.{quotient_lts_naive}
+use Rattle.table.specs.Lts.{Lts}
+use Rattle.table.specs.Tables.{Three, said_table}
 use Rattle.table.proofs.Tables.{same_table}
-use Rattle.quotient.proofs.quotient_lts_naive as call
 
--- the columns of the rows, and the work slices
-pub quotient_lts_naive_lem : OneResult call.ended call.Reads.Learnt
-quotient_lts_naive_lem κs a r q x y =
-    determined same_table (λ c. skip 13 (c.0.0, (c.0.1.0, (c.0.1.1, works 5 c.1)))) r q
+pub quotient_lts_naive_lem :
+    (inerts loops : Bool) (t : Lts) (p : Partition) (out : Three) (work : List (List ℕ))
+    → Determined said_table (quotient_lts_naive inerts loops t p out work)
+quotient_lts_naive_lem inerts loops t p out work = determined same_table

@@ -4,3 +4,4 @@ pub mod Theorems
 pub mod Answering
 pub mod Calls
 pub mod Determined
+pub mod OneResult

@@ -1,5 +1,5 @@
 -- The test of one row, as the code makes it: by its label, then whether it is a self-loop, then whether it stays in its block.
-use Rattle.core.specs.Prelude.{◌≡◌, ℕ, Bool, true, false, not, ◌&&◌, eqb}
+use Rattle.std.specs.Prelude.{◌≡◌, ℕ, Bool, true, false, not, ◌&&◌, eqb}
 use mathlib.Core.Path.{refl}
 use Rattle.columns.specs.Sets.{Row}
 use Rattle.quotient.specs.Naive.{inert_step, stays}

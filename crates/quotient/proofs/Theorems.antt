@@ -1,7 +1,7 @@
 -- The naive quotient in document 01's words: a row is there exactly if a row between its blocks is not dropped; each switch drops its
 -- own kind of row, and no row is of both kinds; with both off it is the quotient of the theory; and it is a valid table.
 use borrow.Author.Tests.{not-true}
-use Rattle.core.specs.Prelude.{◌≡◌, ℕ, ◌<◌, ◌≤◌, Bool, true, false, not, ◌&&◌, eqb, ◌↔◌, List, length}
+use Rattle.std.specs.Prelude.{◌≡◌, ℕ, ◌<◌, ◌≤◌, Bool, true, false, not, ◌&&◌, eqb, ◌↔◌, List, length}
 use mathlib.Core.Path.{refl, subst}
 use Rattle.bisimulation.specs.Quotient.{quotient}
 use Rattle.bisimulation.proofs.Kept.{From, kept_in, kept_out, kept_ascending, kept_few}

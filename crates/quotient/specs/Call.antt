@@ -1,5 +1,5 @@
 -- `quotient_lts_naive` as it is called: what it refuses, says and leaves.
-use Rattle.core.specs.Prelude.{ℕ, Bool, List, map, length}
+use Rattle.std.specs.Prelude.{ℕ, Bool, List, map, length}
 use Rattle.columns.specs.Blocks.{block_of}
 use Rattle.columns.specs.declared.answers.Refusal.{Refusal}
 use Rattle.columns.specs.Answers.{Said, leaving}

@@ -1,6 +1,6 @@
 -- The naive quotient of rows by blocks: the rows between blocks as a set, but for those that a switch drops. `block` gives each state
 -- its block.
-use Rattle.core.specs.Prelude.{ℕ, Bool, not, ◌&&◌, List, [], ◌∷◌, length, ◌==◌}
+use Rattle.std.specs.Prelude.{ℕ, Bool, not, ◌&&◌, List, [], ◌∷◌, length, ◌==◌}
 use Rattle.bisimulation.specs.Quotient.{between}
 use Rattle.columns.specs.Blocks.{block_of}
 use Rattle.columns.specs.Sets.{Row, row_lt, collect}

@@ -1,6 +1,6 @@
 // The rows of a quotient, on columns that are checked already. No entry points: each says what it requires. `home` has the block of each
 // state.
-ghost use Rattle.core.specs.Prelude.{◌≡◌, ◌<◌, ◌≤◌, length, set, slice_index, slice_set};
+ghost use Rattle.std.specs.Prelude.{◌≡◌, ◌<◌, ◌≤◌, length, set, slice_index, slice_set};
 ghost use Rattle.columns.specs.Blocks.{block_of};
 ghost use Rattle.columns.specs.Lent.{Cleared};
 ghost use Rattle.columns.specs.Rows.{row_set, row_in};

@@ -1,5 +1,5 @@
 // The naive quotient of a table by the blocks of a partition (quotient.rs).
-ghost use Rattle.core.specs.Prelude.{◌≡◌, [], ◌∷◌};
+ghost use Rattle.std.specs.Prelude.{◌≡◌, [], ◌∷◌};
 ghost use Rattle.quotient.specs.Call.{quotient_lts_naive};
 ghost use Rattle.table.specs.Tables.{said_table};
 ghost use Rattle.partition.specs.Partition.{parts};

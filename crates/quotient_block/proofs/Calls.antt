@@ -1,6 +1,6 @@
 -- The two ways out of a call of `quotient_lts_block`; and where it is done, the header that it says and the rows that it leaves are the
 -- quotient.
-use Rattle.core.specs.Prelude.{◌≡◌, ℕ, Bool, true, false, cond, ltb, List, [], ◌∷◌}
+use Rattle.std.specs.Prelude.{◌≡◌, ℕ, Bool, true, false, cond, ltb, List, [], ◌∷◌}
 use native.Mathlib.Omega.{arith}
 use mathlib.Core.Path.{refl, sym, ap, subst}
 use Rattle.columns.specs.Blocks.{block_of}

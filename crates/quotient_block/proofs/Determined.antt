@@ -1,10 +1,14 @@
 -- Any two results that the contract of `quotient_lts_block` allows are equal.
-use Rattle.columns.specs.Determined.{OneResult}
-use Rattle.columns.proofs.Determined.{skip, works, determined}
+use Rattle.std.specs.Prelude.{ℕ, Bool, List}
+use Rattle.columns.specs.Determined.{Determined}
+use Rattle.columns.proofs.Determined.{determined}
+use Rattle.partition.specs.Partition.{Partition}
+use Rattle.quotient_block.specs.Call.{quotient_lts_block}
+use Rattle.table.specs.Lts.{Lts}
+use Rattle.table.specs.Tables.{Three, said_table}
 use Rattle.table.proofs.Tables.{same_table}
-use Rattle.quotient_block.proofs.quotient_lts_block as call
 
--- the columns of the rows, and the work slices
-pub quotient_lts_block_lem : OneResult call.ended call.Reads.Learnt
-quotient_lts_block_lem κs a r q x y =
-    determined same_table (λ c. skip 13 (c.0.0, (c.0.1.0, (c.0.1.1, works 6 c.1)))) r q
+pub quotient_lts_block_lem :
+    (branching loops : Bool) (t : Lts) (p : Partition) (out : Three) (work : List (List ℕ))
+    → Determined said_table (quotient_lts_block branching loops t p out work)
+quotient_lts_block_lem branching loops t p out work = determined same_table

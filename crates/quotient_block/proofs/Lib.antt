@@ -5,3 +5,4 @@ pub mod Chosen
 pub mod Theorems
 pub mod Calls
 pub mod Determined
+pub mod OneResult

@@ -1,6 +1,6 @@
 -- The quotient by chosen states in document 01's words: the state chosen for a block is a state of it, with BRANCHING a bottom state, and
 -- there is none exactly if the walk comes back to a state; the rows are those of the chosen states; and they are a valid table.
-use Rattle.core.specs.Prelude.{◌≡◌, ℕ, ◌<◌, ◌≤◌, Bool, true, false, not, ◌&&◌, eqb, ◌↔◌, List}
+use Rattle.std.specs.Prelude.{◌≡◌, ℕ, ◌<◌, ◌≤◌, Bool, true, false, not, ◌&&◌, eqb, ◌↔◌, List}
 use native.Mathlib.Omega.{arith}
 use borrow.Author.Tests.{eqb-true, eq-eqb, not-true}
 use mathlib.Core.Path.{refl, sym, ap, subst, ◌∙◌}

@@ -1,6 +1,6 @@
 -- The walk to a bottom state: it follows the first hidden row to another state of the block, as long as there is one. `home` has the
 -- block of each state.
-use Rattle.core.specs.Prelude.{ℕ, zero, suc, Bool, cond, ◌&&◌, List, ◌==◌, nat_le, slice_index}
+use Rattle.std.specs.Prelude.{ℕ, zero, suc, Bool, cond, ◌&&◌, List, ◌==◌, nat_le, slice_index}
 use Rattle.columns.specs.Blocks.{block_of}
 use Rattle.columns.specs.Counting.{first}
 use Rattle.columns.specs.Rows.{row_in}

@@ -1,5 +1,5 @@
 -- `quotient_lts_block` as it is called: what it refuses, says and leaves.
-use Rattle.core.specs.Prelude.{ℕ, Bool, List}
+use Rattle.std.specs.Prelude.{ℕ, Bool, List}
 use Rattle.columns.specs.Answers.{Said, unless}
 use Rattle.columns.specs.Columns.{zeroed}
 use Rattle.partition.specs.Partition.{Partition}

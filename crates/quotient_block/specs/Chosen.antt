@@ -1,5 +1,5 @@
 -- The quotient by one state of each block: the state that is chosen, and the rows of these.
-use Rattle.core.specs.Prelude.{◌≡◌, ℕ, ◌<◌, ◌≤◌, Bool, cond, not, ◌&&◌, List, length, ◌==◌, nat_eq, nat_lt, slice_index}
+use Rattle.std.specs.Prelude.{◌≡◌, ℕ, ◌<◌, ◌≤◌, Bool, cond, not, ◌&&◌, List, length, ◌==◌, nat_eq, nat_lt, slice_index}
 use Rattle.bisimulation.specs.Quotient.{between}
 use Rattle.columns.specs.Blocks.{block_of}
 use Rattle.columns.specs.Answers.{Said, done, refused}

@@ -1,6 +1,6 @@
 // The state chosen for each block and the rows of these, on columns that are checked already. No entry points: each says what it requires.
 // `home` has the block of each state.
-ghost use Rattle.core.specs.Prelude.{◌≡◌, ℕ, ◌<◌, ◌≤◌, length, if◌then◌else◌, slice_index};
+ghost use Rattle.std.specs.Prelude.{◌≡◌, ℕ, ◌<◌, ◌≤◌, length, if◌then◌else◌, slice_index};
 ghost use Rattle.columns.specs.Blocks.{block_of};
 ghost use Rattle.columns.specs.Columns.{written};
 ghost use Rattle.columns.specs.Lent.{Cleared};

@@ -1,5 +1,5 @@
 // The quotient of a table by one state of each block of a partition (quotient.rs).
-ghost use Rattle.core.specs.Prelude.{◌≡◌, [], ◌∷◌};
+ghost use Rattle.std.specs.Prelude.{◌≡◌, [], ◌∷◌};
 ghost use Rattle.quotient_block.specs.Call.{quotient_lts_block};
 ghost use Rattle.table.specs.Tables.{said_table};
 ghost use Rattle.partition.specs.Partition.{parts};

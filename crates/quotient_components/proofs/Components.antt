@@ -1,6 +1,6 @@
 -- Two states share a number exactly if they reach each other by hidden steps; the numbers are those below the number of components, and
 -- follow the least members.
-use Rattle.core.specs.Prelude.{◌≡◌, ℕ, ◌<◌, ◌≤◌, true, ◌↔◌}
+use Rattle.std.specs.Prelude.{◌≡◌, ℕ, ◌<◌, ◌≤◌, true, ◌↔◌}
 use Rattle.columns.specs.Number.{least, leads, number}
 use Rattle.columns.proofs.Bools.{and_left, and_right, and_both}
 use Rattle.columns.proofs.Counting.{many-le, many_strict}

@@ -1,9 +1,12 @@
 -- Any two results that the contract of `tau_scc_decomposition` allows are equal.
-use Rattle.columns.specs.Determined.{OneResult}
-use Rattle.columns.proofs.Determined.{skip, works, determined}
+use Rattle.std.specs.Prelude.{ℕ, List}
+use Rattle.columns.specs.Answers.{said_number}
+use Rattle.columns.specs.Determined.{Determined}
+use Rattle.columns.proofs.Determined.{determined}
 use Rattle.columns.proofs.Saying.{same_number}
-use Rattle.quotient_components.proofs.tau_scc_decomposition as call
+use Rattle.table.specs.Lts.{Lts}
+use Rattle.quotient_components.specs.Call.{tau_scc_decomposition}
 
--- the numbers, and the work slices
-pub tau_scc_decomposition_lem : OneResult call.ended call.Reads.Learnt
-tau_scc_decomposition_lem κs a r q x y = determined same_number (λ c. skip 4 (c.0, works 7 c.1)) r q
+pub tau_scc_decomposition_lem :
+    (t : Lts) (numbers : List ℕ) (work : List (List ℕ)) → Determined said_number (tau_scc_decomposition t numbers work)
+tau_scc_decomposition_lem t numbers work = determined same_number

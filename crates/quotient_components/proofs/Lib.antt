@@ -3,3 +3,4 @@ pub mod Numbering
 pub mod Theorems
 pub mod Examples
 pub mod Determined
+pub mod OneResult

@@ -1,6 +1,6 @@
 -- What `tau_scc_decomposition` has done where it says done, in document 01's words. t is the table that is lent; `given` and `work` are
 -- what the result column and the work slices held, `left` and `work₁` what they hold at return.
-use Rattle.core.specs.Prelude.{◌≡◌, ℕ, ◌<◌, true, ◌↔◌, List, [], ◌∷◌, map, length, get_or}
+use Rattle.std.specs.Prelude.{◌≡◌, ℕ, ◌<◌, true, ◌↔◌, List, [], ◌∷◌, map, length, get_or}
 use mathlib.Core.Path.{refl, sym, ap, subst, ◌∙◌}
 use native.Mathlib.Omega.{arith}
 use Rattle.columns.specs.Answers.{done}

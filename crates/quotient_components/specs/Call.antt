@@ -1,5 +1,5 @@
 -- `tau_scc_decomposition` as it is called: what it refuses, says and leaves.
-use Rattle.core.specs.Prelude.{ℕ, List, [], ◌∷◌, map, length}
+use Rattle.std.specs.Prelude.{ℕ, List, [], ◌∷◌, map, length}
 use Rattle.columns.specs.declared.answers.Refusal.{Refusal}
 use Rattle.columns.specs.Answers.{Said, leaving}
 use Rattle.columns.specs.Columns.{written, zeroed}

@@ -1,5 +1,5 @@
 -- States that reach each other by hidden steps share a number; numbers follow the least member.
-use Rattle.core.specs.Prelude.{ℕ, Bool, true, ◌&&◌}
+use Rattle.std.specs.Prelude.{ℕ, Bool, true, ◌&&◌}
 use Rattle.columns.specs.Counting.{many}
 use Rattle.columns.specs.Number.{leads, number}
 use Rattle.table.specs.Lts.{Lts}

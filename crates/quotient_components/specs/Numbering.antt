@@ -1,5 +1,5 @@
 -- Loop invariants of the numbering: what the proofs go by, nothing that a contract of an operation says.
-use Rattle.core.specs.Prelude.{ℕ, cond, List, ◌==◌, nat_lt}
+use Rattle.std.specs.Prelude.{ℕ, cond, List, ◌==◌, nat_lt}
 use Rattle.columns.specs.Columns.{listed}
 use Rattle.columns.specs.Number.{least}
 use Rattle.table.specs.Lts.{Lts}

@@ -1,5 +1,5 @@
 // What is done once a table is checked. No entry points: each says what it requires.
-ghost use Rattle.core.specs.Prelude.{◌≡◌, ◌+◌, ◌*◌, ◌<◌, ◌≤◌, length, slice_index};
+ghost use Rattle.std.specs.Prelude.{◌≡◌, ◌+◌, ◌*◌, ◌<◌, ◌≤◌, length, slice_index};
 ghost use Rattle.columns.specs.Columns.{listed, written};
 ghost use Rattle.columns.specs.Counting.{many};
 ghost use Rattle.columns.specs.Lent.{Cleared};

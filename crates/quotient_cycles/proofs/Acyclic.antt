@@ -1,5 +1,5 @@
 -- The quotient by components is a valid table, and has no hidden cycle longer than a self-loop: a hidden walk in it is one in the table.
-use Rattle.core.specs.Prelude.{◌≡◌, ℕ, Bool, true}
+use Rattle.std.specs.Prelude.{◌≡◌, ℕ, Bool, true}
 use mathlib.Core.Path.{refl, sym, subst, ◌∙◌}
 use borrow.Author.Tests.{eqb-true}
 use Rattle.quotient.specs.Naive.{stays, naive_rows}

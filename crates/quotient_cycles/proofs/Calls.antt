@@ -1,5 +1,5 @@
 -- What the call goes by once its checks have passed.
-use Rattle.core.specs.Prelude.{◌≡◌, ℕ, ◌<◌, List}
+use Rattle.std.specs.Prelude.{◌≡◌, ℕ, ◌<◌, List}
 use Rattle.columns.specs.declared.answers.Refusal.{Refusal}
 use Rattle.table.specs.Checks.{call_room, table_argument_refusal}
 use Rattle.table.specs.Lts.{Lts}

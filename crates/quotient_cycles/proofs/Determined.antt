@@ -1,14 +1,15 @@
 -- Any two results that the contract of `tau_cycle_elimination_and_reorder` allows are equal.
-use Rattle.core.specs.Prelude.{◌≡◌}
+use Rattle.std.specs.Prelude.{◌≡◌, ℕ, Bool, List}
 use mathlib.Core.Path.{sym, ap}
-use Rattle.columns.specs.Determined.{OneResult}
-use Rattle.columns.proofs.Determined.{skip, works, determined}
+use Rattle.columns.specs.Determined.{Determined}
+use Rattle.columns.proofs.Determined.{determined}
 use Rattle.columns.proofs.Saying.{same-refusal, apart}
+use Rattle.table.specs.Lts.{Lts}
+use Rattle.table.specs.Tables.{Three}
 use Rattle.quotient_cycles.specs.declared.ReorderedAnswer.{ReorderedAnswer}
 use Rattle.quotient_cycles.specs.declared.ReorderedOutcome.{ReorderedOutcome}
 use Rattle.quotient_cycles.specs.declared.ReorderedOutcome.TheVariants as R
-use Rattle.quotient_cycles.specs.Call.{said_reordered_outcome, said_reordered}
-use Rattle.quotient_cycles.proofs.tau_cycle_elimination_and_reorder as call
+use Rattle.quotient_cycles.specs.Call.{said_reordered_outcome, said_reordered, tau_cycle_elimination_and_reorder}
 
 -- two answers that say the same are equal
 same_outcome : (a b : ReorderedOutcome) → said_reordered_outcome a ≡ said_reordered_outcome b → a ≡ b
@@ -20,7 +21,7 @@ same_outcome (R.Refused r) (R.Refused q) e = ap R.Refused (same-refusal r q e)
 pub same-reordered : (a b : ReorderedAnswer) → said_reordered a ≡ said_reordered b → a ≡ b
 same-reordered a b e = λ t. record { outcome = same_outcome a.outcome b.outcome e t }
 
--- the columns of the rows, and the work slices
-pub tau_cycle_elimination_and_reorder_lem : OneResult call.ended call.Reads.Learnt
-tau_cycle_elimination_and_reorder_lem κs a r q x y =
-    determined same-reordered (λ c. skip 6 (c.0.0, (c.0.1.0, (c.0.1.1, works 9 c.1)))) r q
+pub tau_cycle_elimination_and_reorder_lem :
+    (t : Lts) (state : ℕ) (eliminate : Bool) (out : Three) (work : List (List ℕ))
+    → Determined said_reordered (tau_cycle_elimination_and_reorder t state eliminate out work)
+tau_cycle_elimination_and_reorder_lem t state eliminate out work = determined same-reordered

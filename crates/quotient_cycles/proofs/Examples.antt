@@ -1,5 +1,5 @@
 -- Small tables, by computation.
-use Rattle.core.specs.Prelude.{◌≡◌, ℕ, Bool, true, false, List, [], ◌∷◌}
+use Rattle.std.specs.Prelude.{◌≡◌, ℕ, Bool, true, false, List, [], ◌∷◌}
 use mathlib.Core.Path.{refl}
 use Rattle.columns.specs.Columns.{listed}
 use Rattle.columns.specs.Sets.{Row}

@@ -6,3 +6,4 @@ pub mod Calls
 pub mod Theorems
 pub mod Examples
 pub mod Determined
+pub mod OneResult

@@ -1,5 +1,5 @@
 -- The rows of a naive quotient, by another column of numbers.
-use Rattle.core.specs.Prelude.{◌≡◌, ℕ, ◌<◌, Bool, eqb}
+use Rattle.std.specs.Prelude.{◌≡◌, ℕ, ◌<◌, Bool, eqb}
 use mathlib.Core.Path.{sym, ap, ◌∙◌}
 use borrow.Author.Tests.{eqb-true, eq-eqb}
 use Rattle.bisimulation.specs.Quotient.{between, quotient}

@@ -1,7 +1,7 @@
 -- What comes out, in document 01's words. Two states get one number exactly if each reaches the other by hidden steps; the numbers of
 -- components are permuted, and each row of the quotient is there under the new numbers; a hidden row leads to a smaller number, or is a
 -- self-loop, and with the flag on no hidden cycle is left, self-loops among them.
-use Rattle.core.specs.Prelude.{◌≡◌, ℕ, ◌<◌, ◌≤◌, Bool, true, not, ◌⊎◌, ◌↔◌, List, get_or}
+use Rattle.std.specs.Prelude.{◌≡◌, ℕ, ◌<◌, ◌≤◌, Bool, true, not, ◌⊎◌, ◌↔◌, List, get_or}
 use mathlib.Core.Path.{refl, sym, ap, subst, ◌∙◌}
 use mathlib.Core.Logic.{inl, inr, ⊎_elim}
 use native.Mathlib.Omega.{arith}

@@ -1,7 +1,7 @@
 -- What `tau_cycle_elimination_and_reorder` has done where it says done, in document 01's words. t is the table that is lent, `eliminate`
 -- the flag for both switches; `out` and `work` are what the result columns and the work slices held, `left` and `work₁` what they hold at
 -- return.
-use Rattle.core.specs.Prelude.{◌≡◌, ℕ, ◌<◌, Bool, true, ◌⊎◌, ◌↔◌, List, [], ◌∷◌, map, length}
+use Rattle.std.specs.Prelude.{◌≡◌, ℕ, ◌<◌, Bool, true, ◌⊎◌, ◌↔◌, List, [], ◌∷◌, map, length}
 use mathlib.Core.Path.{refl, ap}
 use Rattle.columns.specs.Answers.{done}
 use Rattle.columns.specs.Columns.{zeroed}

@@ -1,5 +1,5 @@
 -- `tau_cycle_elimination_and_reorder` as it is called: what it refuses, says and leaves.
-use Rattle.core.specs.Prelude.{ℕ, Bool, List, [], ◌∷◌, map, length}
+use Rattle.std.specs.Prelude.{ℕ, Bool, List, [], ◌∷◌, map, length}
 use Rattle.columns.specs.declared.answers.Refusal.{Refusal}
 use Rattle.columns.specs.Answers.{Said, done, refused, leaving}
 use Rattle.columns.specs.Columns.{zeroed}

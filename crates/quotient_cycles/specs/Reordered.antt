@@ -1,6 +1,6 @@
 -- Hidden cycles taken out: states that reach each other by hidden steps become one, and the new states are numbered in the reversed
 -- hidden order, so that hidden rows to another state lead to smaller numbers.
-use Rattle.core.specs.Prelude.{ℕ, Bool, true, List}
+use Rattle.std.specs.Prelude.{ℕ, Bool, true, List}
 use Rattle.bisimulation.specs.Quotient.{quotient}
 use Rattle.columns.specs.Rows.{rows_of}
 use Rattle.columns.specs.Sets.{Row}

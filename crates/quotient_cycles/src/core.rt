@@ -1,5 +1,5 @@
 // What is done once a table is checked. No entry points: each says what it requires.
-ghost use Rattle.core.specs.Prelude.{◌≡◌, ℕ, ◌+◌, ◌<◌, ◌≤◌, length, slice_index};
+ghost use Rattle.std.specs.Prelude.{◌≡◌, ℕ, ◌+◌, ◌<◌, ◌≤◌, length, slice_index};
 ghost use Rattle.columns.specs.Columns.{written};
 ghost use Rattle.columns.specs.Lent.{Cleared};
 ghost use Rattle.quotient_components.specs.Components.{components, component};

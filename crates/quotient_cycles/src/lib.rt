@@ -1,5 +1,5 @@
 // `tau_cycle_elimination_and_reorder` (signatures.rs): hidden cycles taken out, and the states renumbered in the reversed hidden order.
-ghost use Rattle.core.specs.Prelude.{◌≡◌, [], ◌∷◌};
+ghost use Rattle.std.specs.Prelude.{◌≡◌, [], ◌∷◌};
 ghost use Rattle.quotient_cycles.specs.Call.{said_reordered, tau_cycle_elimination_and_reorder};
 ghost use Rattle.table.specs.Lts.{lts};
 

@@ -1,10 +1,12 @@
 -- Any two results that the contract of `remove_redundant_transitions` allows are equal.
-use Rattle.columns.specs.Determined.{OneResult}
-use Rattle.columns.proofs.Determined.{skip, works, determined}
+use Rattle.std.specs.Prelude.{ℕ, List}
+use Rattle.columns.specs.Determined.{Determined}
+use Rattle.columns.proofs.Determined.{determined}
+use Rattle.table.specs.Lts.{Lts}
+use Rattle.table.specs.Tables.{Three, said_table}
 use Rattle.table.proofs.Tables.{same_table}
-use Rattle.quotient_redundant.proofs.remove_redundant_transitions as call
+use Rattle.quotient_redundant.specs.Call.{remove_redundant_transitions}
 
--- the columns of the rows, and the work slices
-pub remove_redundant_transitions_lem : OneResult call.ended call.Reads.Learnt
-remove_redundant_transitions_lem κs a r q x y =
-    determined same_table (λ c. skip 4 (c.0.0, (c.0.1.0, (c.0.1.1, works 7 c.1)))) r q
+pub remove_redundant_transitions_lem :
+    (t : Lts) (out : Three) (work : List (List ℕ)) → Determined said_table (remove_redundant_transitions t out work)
+remove_redundant_transitions_lem t out work = determined same_table

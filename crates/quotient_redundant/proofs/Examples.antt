@@ -1,5 +1,5 @@
 -- Small tables, by computation.
-use Rattle.core.specs.Prelude.{◌≡◌, ℕ, List, [], ◌∷◌}
+use Rattle.std.specs.Prelude.{◌≡◌, ℕ, List, [], ◌∷◌}
 use mathlib.Core.Path.{refl}
 use Rattle.columns.specs.Sets.{Row}
 use Rattle.table.specs.Lts.{Lts}

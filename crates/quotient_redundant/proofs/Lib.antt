@@ -4,3 +4,4 @@ pub mod Remaining
 pub mod Theorems
 pub mod Examples
 pub mod Determined
+pub mod OneResult

@@ -1,5 +1,5 @@
 -- A witness, by the marks.
-use Rattle.core.specs.Prelude.{◌≡◌, ℕ, ◌<◌, Bool, true, false, not, ◌&&◌, eqb, List, length, get_or}
+use Rattle.std.specs.Prelude.{◌≡◌, ℕ, ◌<◌, Bool, true, false, not, ◌&&◌, eqb, List, length, get_or}
 use mathlib.Core.Path.{refl, ap, ap₂, ◌∙◌}
 use Rattle.columns.proofs.Counting.{bit-set}
 use Rattle.columns.specs.Counting.{bit}

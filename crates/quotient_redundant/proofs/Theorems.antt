@@ -1,6 +1,6 @@
 -- What `remove_redundant_transitions` has done where it says done, in document 01's words. t is the table that is lent; `out` and `work`
 -- are what the result columns and the work slices held, `left` and `work₁` what they hold at return.
-use Rattle.core.specs.Prelude.{◌≡◌, ℕ, ◌↔◌, List, [], ◌∷◌, map, length}
+use Rattle.std.specs.Prelude.{◌≡◌, ℕ, ◌↔◌, List, [], ◌∷◌, map, length}
 use mathlib.Core.Path.{refl, ap}
 use native.Mathlib.Omega.{arith}
 use Rattle.columns.specs.Answers.{done}

@@ -1,5 +1,5 @@
 -- Which rows can go: hidden steps, with another row of the same label between them, lead from the same source to the same target.
-use Rattle.core.specs.Prelude.{◌≡◌, ℕ, Bool, true, not, ◌&&◌, List, map, ◌==◌, ◌≢◌, slice_index}
+use Rattle.std.specs.Prelude.{◌≡◌, ℕ, Bool, true, not, ◌&&◌, List, map, ◌==◌, ◌≢◌, slice_index}
 use Rattle.columns.specs.Counting.{some, members}
 use Rattle.columns.specs.Sets.{Row}
 use Rattle.columns.specs.Rows.{row_in}

@@ -1,5 +1,5 @@
 // What is done once a table is checked. No entry points: each says what it requires.
-ghost use Rattle.core.specs.Prelude.{◌≡◌, ◌+◌, ◌-◌, ◌*◌, ◌<◌, ◌≤◌, true, length, take, slice_index};
+ghost use Rattle.std.specs.Prelude.{◌≡◌, ◌+◌, ◌-◌, ◌*◌, ◌<◌, ◌≤◌, true, length, take, slice_index};
 ghost use Rattle.columns.specs.Counting.{many, members};
 ghost use Rattle.columns.specs.Lent.{Cleared};
 ghost use Rattle.quotient_redundant.specs.Redundant.{rival, witness, redundant, remains, remaining_rows};

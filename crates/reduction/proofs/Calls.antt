@@ -1,6 +1,6 @@
 -- A call of `strong_reduction`: what its parameters are on entry and at return, in their order in src/lib.rt, and of these the table and
 -- the slices that the contract there names `system`, `given` and `left`.
-use Rattle.core.specs.Prelude.{ℕ, zero, suc, List, [], ◌∷◌}
+use Rattle.std.specs.Prelude.{ℕ, zero, suc, List, [], ◌∷◌}
 use contract.Lifetimes.{Lfts}
 use denote.Ref.{Bor}
 use denote.Triple.Clauses.{AtExit}

@@ -1,5 +1,5 @@
 -- What the rounds leave is what the strong reduction is defined by.
-use Rattle.core.specs.Prelude.{◌≡◌, ℕ, ◌<◌, List, length, get_or}
+use Rattle.std.specs.Prelude.{◌≡◌, ℕ, ◌<◌, List, length, get_or}
 use mathlib.Core.Path.{sym, ap, ◌∙◌}
 use native.Mathlib.Omega.{arith}
 use Rattle.columns.specs.Columns.{over}

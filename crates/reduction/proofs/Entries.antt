@@ -1,5 +1,5 @@
 -- What a call goes by that has passed the checks; and the definition, of a right table and the room, is never refused.
-use Rattle.core.specs.Prelude.{◌≡◌, ℕ, ◌+◌, ◌&&◌, leb, List, ◌++◌, length, drop}
+use Rattle.std.specs.Prelude.{◌≡◌, ℕ, ◌+◌, ◌&&◌, leb, List, ◌++◌, length, drop}
 use mathlib.Core.Path.{refl, sym}
 use borrow.Author.Tests.{leb-true, le-leb}
 use Rattle.columns.specs.Answers.{done, none}

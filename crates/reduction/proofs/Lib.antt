@@ -3,3 +3,4 @@ pub mod Entries
 pub mod Calls
 pub mod Theorems
 pub mod Determined
+pub mod OneResult

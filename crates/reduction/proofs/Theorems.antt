@@ -3,7 +3,7 @@
 -- the rest holds of a call that is done. A step is a row (specs/Lts of `table`), a bisimulation is Park's and Milner's
 -- (specs/Bisimulation of `bisimulation`, a short file), and the room is `Ready` of specs/Reducing. Every label is an ordinary one, the
 -- hidden one too, and states that are not reachable stay.
-use Rattle.core.specs.Prelude.{◌≡◌, ℕ, ◌-◌, ◌<◌, ◌≤◌, ◌↔◌, List, length, get_or}
+use Rattle.std.specs.Prelude.{◌≡◌, ℕ, ◌-◌, ◌<◌, ◌≤◌, ◌↔◌, List, length, get_or}
 use mathlib.Core.Path.{refl, sym, ap, subst, ◌∙◌}
 use native.Mathlib.Omega.{arith}
 use contract.Lifetimes.{Lfts}

@@ -1,5 +1,5 @@
 -- What the answer of a reduction says: n, labels, m and initial state of the reduced table, and the rounds that split something.
-use Rattle.core.specs.Prelude.{[], ◌∷◌}
+use Rattle.std.specs.Prelude.{[], ◌∷◌}
 use Rattle.columns.specs.Answers.{Said, done, refused}
 use Rattle.reduction.specs.declared.answers.ReductionAnswer.{ReductionAnswer}
 use Rattle.reduction.specs.declared.answers.ReductionOutcome.{ReductionOutcome}

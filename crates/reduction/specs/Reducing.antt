@@ -1,5 +1,5 @@
 -- What `strong_reduction` refuses, answers and leaves.
-use Rattle.core.specs.Prelude.{ℕ, ◌+◌, ◌≤◌, ◌&&◌, List, [], ◌∷◌, map, length, nat_le, slice_index}
+use Rattle.std.specs.Prelude.{ℕ, ◌+◌, ◌≤◌, ◌&&◌, List, [], ◌∷◌, map, length, nat_le, slice_index}
 use Rattle.bisimulation.specs.Quotient.{quotient}
 use Rattle.columns.specs.Answers.{Said, leaving}
 use Rattle.columns.specs.Columns.{over, zeroed}

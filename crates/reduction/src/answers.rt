@@ -1,5 +1,5 @@
 // The answer of a reduction.
-ghost use Rattle.core.specs.Prelude.{◌≡◌, [], ◌∷◌};
+ghost use Rattle.std.specs.Prelude.{◌≡◌, [], ◌∷◌};
 ghost use Rattle.columns.specs.Answers.{done, refused};
 ghost use Rattle.reduction.specs.Answers.{said_reduction};
 

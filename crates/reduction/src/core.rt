@@ -1,5 +1,5 @@
 // The strong reduction, on columns that are checked already. No entry points: each says what it requires.
-ghost use Rattle.core.specs.Prelude.{◌≡◌, ◌+◌, [], ◌∷◌, length};
+ghost use Rattle.std.specs.Prelude.{◌≡◌, ◌+◌, [], ◌∷◌, length};
 ghost use Rattle.columns.specs.Lent.{Cleared};
 ghost use Rattle.columns.specs.Columns.{EachLong};
 ghost use Rattle.partition.specs.Partition.{Long, parts};

@@ -1,5 +1,5 @@
 -- The loop over the blocks with which a round begins.
-use Rattle.core.specs.Prelude.{◌≡◌, ℕ, ◌+◌, ◌<◌, ◌≤◌}
+use Rattle.std.specs.Prelude.{◌≡◌, ℕ, ◌+◌, ◌<◌, ◌≤◌}
 use native.Mathlib.Omega.{arith}
 use Rattle.partition.specs.Partition.{Partition, Sound}
 use Rattle.refinement_rounds.specs.Splitting.{Split, Rounded}

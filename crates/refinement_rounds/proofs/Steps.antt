@@ -1,5 +1,5 @@
 -- A round by the stored signatures is a round by the signatures that they are; and the loop of the rounds.
-use Rattle.core.specs.Prelude.{◌≡◌, ℕ, ◌+◌, ◌<◌, List}
+use Rattle.std.specs.Prelude.{◌≡◌, ℕ, ◌+◌, ◌<◌, List}
 use mathlib.Core.Path.{sym, ◌∙◌}
 use native.Mathlib.Omega.{arith}
 use Rattle.partition.specs.Partition.{Partition, parts, Sound}

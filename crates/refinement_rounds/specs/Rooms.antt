@@ -1,7 +1,7 @@
 -- The work slices of a round beside the partition. Of `labels` and `blocks` the first n + 1 cells are zero, for a division to work with,
 -- and the signatures stand behind them; the pairs that are pushed for a state stand behind the first n + 1 cells of two columns of the
 -- partition.
-use Rattle.core.specs.Prelude.{◌≡◌, ℕ, ◌+◌, ◌<◌, ◌≤◌, List, length, take, drop}
+use Rattle.std.specs.Prelude.{◌≡◌, ℕ, ◌+◌, ◌<◌, ◌≤◌, List, length, take, drop}
 use Rattle.columns.specs.Columns.{zeros, cleared}
 use Rattle.refinement_signing.specs.Stored.{Store, store}
 

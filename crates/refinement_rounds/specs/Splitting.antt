@@ -1,5 +1,5 @@
 -- A partition divided by the signatures that are stored: one block, all blocks of a round, and the rounds until nothing splits.
-use Rattle.core.specs.Prelude.{ℕ, ◌+◌, ◌<◌, ◌≤◌, List, slice_index}
+use Rattle.std.specs.Prelude.{ℕ, ◌+◌, ◌<◌, ◌≤◌, List, slice_index}
 use Rattle.partition.specs.Partition.{Partition, Sound, with_split}
 use Rattle.refinement.specs.Rounds.{Signature, Refined}
 use Rattle.refinement.specs.Runs.{RefinedBelow, Settled}

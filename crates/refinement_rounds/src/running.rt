@@ -1,5 +1,5 @@
 // A round, and the rounds until nothing splits. No entry points: each says what it requires.
-ghost use Rattle.core.specs.Prelude.{◌<◌};
+ghost use Rattle.std.specs.Prelude.{◌<◌};
 ghost use Rattle.partition.specs.Partition.{Sound, parts};
 ghost use Rattle.refinement_rounds.specs.Rooms.{Room};
 ghost use Rattle.refinement_rounds.specs.Splitting.{Rounded, Ended};

@@ -1,5 +1,5 @@
 // The blocks of a partition divided by the signatures that are stored. No entry points: each says what it requires.
-ghost use Rattle.core.specs.Prelude.{◌≡◌, ◌<◌, ◌≤◌, length, slice_index, slice_set};
+ghost use Rattle.std.specs.Prelude.{◌≡◌, ◌<◌, ◌≤◌, length, slice_index, slice_set};
 ghost use Rattle.columns.specs.Lent.{Clear};
 ghost use Rattle.partition.specs.Partition.{Sound, parts};
 ghost use Rattle.refinement_rounds.specs.Rooms.{ClearFront, store_behind};

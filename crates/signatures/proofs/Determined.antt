@@ -1,22 +1,29 @@
--- Any two results that the contract of a signature, or of a call on tau_hat, allows are equal.
-use mathlib.Core.Path.{refl}
-use Rattle.columns.specs.Determined.{OneResult}
-use Rattle.columns.proofs.Determined.{skip, works, determined_answer, determined}
+-- Any two results that the contract of a signature, or of a call on tau_hat, allows are equal. t is the table and p the partition that
+-- are lent, s the state, out the result columns.
+use Rattle.std.specs.Prelude.{ℕ, List}
+use Rattle.columns.specs.Answers.{said_number, said_flag}
+use Rattle.columns.specs.Determined.{DeterminedAnswer, Determined}
+use Rattle.columns.proofs.Determined.{determined_answer, determined}
 use Rattle.columns.proofs.Saying.{same_number, same_flag}
-use Rattle.signatures.proofs.inductive as inductive
-use Rattle.signatures.proofs.strong as strong
-use Rattle.signatures.proofs.tau_hat as hat
+use Rattle.partition.specs.Partition.{Partition}
+use Rattle.table.specs.Lts.{Lts}
+use Rattle.signatures.specs.Inductive.{branching_bisim_signature_inductive}
+use Rattle.signatures.specs.Pairs.{Columns}
+use Rattle.signatures.specs.Strong.{strong_bisim_signature}
+use Rattle.signatures.specs.TauHat.{tau_hat, is_tau_hat}
 
--- the labels and blocks of the pairs, and the work slices
-pub strong_bisim_signature_lem : OneResult strong.strong_bisim_signature.ended strong.strong_bisim_signature.Reads.Learnt
-strong_bisim_signature_lem κs a r q x y = determined same_number (λ c. skip 12 (c.0.0, (c.0.1, works 4 c.1))) r q
+pub strong_bisim_signature_lem :
+    (t : Lts) (p : Partition) (s : ℕ) (out : Columns) (works : List (List ℕ)) →
+    Determined said_number (strong_bisim_signature t p s out works)
+strong_bisim_signature_lem t p s out works = determined same_number
 
 pub branching_bisim_signature_inductive_lem :
-    OneResult inductive.branching_bisim_signature_inductive.ended inductive.branching_bisim_signature_inductive.Reads.Learnt
-branching_bisim_signature_inductive_lem κs a r q x y = determined same_number (λ c. skip 13 (c.0.0, (c.0.1, works 4 c.1))) r q
+    (t : Lts) (p : Partition) (s : ℕ) (keys : List ℕ) (out : Columns) (works : List (List ℕ)) →
+    Determined said_number (branching_bisim_signature_inductive t p s keys out works)
+branching_bisim_signature_inductive_lem t p s keys out works = determined same_number
 
-pub tau_hat_lem : OneResult hat.tau_hat.ended hat.tau_hat.Reads.Learnt
-tau_hat_lem κs a r q x y e f = (determined_answer same_number r q e f, refl)
+pub tau_hat_lem : (labels : ℕ) → DeterminedAnswer said_number (tau_hat labels)
+tau_hat_lem labels = determined_answer same_number
 
-pub is_tau_hat_lem : OneResult hat.is_tau_hat.ended hat.is_tau_hat.Reads.Learnt
-is_tau_hat_lem κs a r q x y e f = (determined_answer same_flag r q e f, refl)
+pub is_tau_hat_lem : (labels label : ℕ) → DeterminedAnswer said_flag (is_tau_hat labels label)
+is_tau_hat_lem labels label = determined_answer same_flag

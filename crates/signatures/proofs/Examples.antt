@@ -1,5 +1,5 @@
 -- Small calls: what is there, what is absent, and how much room is enough.
-use Rattle.core.specs.Prelude.{◌≡◌, ℕ, List, [], ◌∷◌, replicate}
+use Rattle.std.specs.Prelude.{◌≡◌, ℕ, List, [], ◌∷◌, replicate}
 use mathlib.Core.Path.{refl}
 use Rattle.columns.specs.Answers.{Said, done, refused}
 use Rattle.columns.specs.Due.{all_long}

@@ -1,5 +1,5 @@
 -- The inductive signature of a state: what each of its steps gives, and nothing else.
-use Rattle.core.specs.Prelude.{◌≡◌, ℕ, Bool, true, false, cond, ◌&&◌, eqb, ◌⊎◌, ◌↔◌, List, get_or}
+use Rattle.std.specs.Prelude.{◌≡◌, ℕ, Bool, true, false, cond, ◌&&◌, eqb, ◌⊎◌, ◌↔◌, List, get_or}
 use borrow.Author.Tests.{eqb-true, eq-eqb}
 use mathlib.Core.Path.{refl, subst}
 use mathlib.Core.Logic.{inl, inr}

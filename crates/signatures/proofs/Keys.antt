@@ -1,5 +1,5 @@
 -- A row as a pair, by the test that the code makes and the cells that it reads.
-use Rattle.core.specs.Prelude.{◌≡◌, ℕ, Bool, true, false, cond, List, get_or}
+use Rattle.std.specs.Prelude.{◌≡◌, ℕ, Bool, true, false, cond, List, get_or}
 use mathlib.Core.Path.{ap₂, sym, ◌∙◌}
 use Rattle.columns.specs.Sets.{Pair}
 

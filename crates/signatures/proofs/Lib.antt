@@ -12,3 +12,4 @@ pub mod Signed
 pub mod Theorems
 pub mod Examples
 pub mod Determined
+pub mod OneResult

@@ -1,5 +1,5 @@
 -- The pairs that are picked by label and then block are the signature of the pairs.
-use Rattle.core.specs.Prelude.{◌≡◌, ℕ, ◌≤◌, List, map, length}
+use Rattle.std.specs.Prelude.{◌≡◌, ℕ, ◌≤◌, List, map, length}
 use mathlib.Core.Path.{ap, ◌∙◌}
 use Rattle.columns.specs.Columns.{over, cell}
 use Rattle.columns.specs.Rows.{pick_rows, pairs_of, pair_set, first_of, last_of}

@@ -1,5 +1,5 @@
 -- A loop that pushes a pair for each number that passes.
-use Rattle.core.specs.Prelude.{◌≡◌, ℕ, ◌+◌, ◌<◌, ◌≤◌, Bool, true, false, List, [], ◌∷◌, ◌++◌, map, length, get_or, set}
+use Rattle.std.specs.Prelude.{◌≡◌, ℕ, ◌+◌, ◌<◌, ◌≤◌, Bool, true, false, List, [], ◌∷◌, ◌++◌, map, length, get_or, set}
 use native.Mathlib.Omega.{arith}
 use mathlib.Core.Path.{refl, ap, ap₂, sym, ◌∙◌}
 use mathlib.Core.List.{map-append, append-nil, append_assoc}

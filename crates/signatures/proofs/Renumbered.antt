@@ -1,5 +1,5 @@
 -- The numbers of the blocks don't matter to whether two states have one signature, only which states share a block.
-use Rattle.core.specs.Prelude.{◌≡◌, ℕ, ◌<◌, Bool, ◌⊎◌, List, get_or}
+use Rattle.std.specs.Prelude.{◌≡◌, ℕ, ◌<◌, Bool, ◌⊎◌, List, get_or}
 use native.Mathlib.Omega.{arith}
 use mathlib.Core.Path.{ap, sym, subst, ◌∙◌}
 use mathlib.Core.Logic.{inl, inr}

@@ -1,5 +1,5 @@
 -- What is pushed for the rows of a state is what its steps give.
-use Rattle.core.specs.Prelude.{◌≡◌, ℕ, eqb, map, get_or}
+use Rattle.std.specs.Prelude.{◌≡◌, ℕ, eqb, map, get_or}
 use borrow.Author.Tests.{eqb-true, eq-eqb}
 use mathlib.Core.Path.{ap, sym, subst, ◌∙◌}
 use mathlib.Core.List.Memᴰ

@@ -1,5 +1,5 @@
 -- A signature is a set: its members are those pushed, ascending, and lists with the same members have one signature.
-use Rattle.core.specs.Prelude.{◌≡◌, ◌≤◌, true, List, length}
+use Rattle.std.specs.Prelude.{◌≡◌, ◌≤◌, true, List, length}
 use mathlib.Core.Path.{refl, subst, sym}
 use Rattle.columns.specs.Sets.{Mem, Pair, pair_lt, Ascending}
 use Rattle.columns.proofs.Orders.{pair_order}

@@ -1,5 +1,5 @@
 -- The strong signature of a state: (a, b) is in it exactly if some step (s, a, u) leads to block b.
-use Rattle.core.specs.Prelude.{◌≡◌, ℕ, ◌↔◌, List, get_or}
+use Rattle.std.specs.Prelude.{◌≡◌, ℕ, ◌↔◌, List, get_or}
 use mathlib.Core.Path.{refl, sym, subst}
 use Rattle.columns.specs.Sets.{Mem, Pair, pair_lt, Ascending}
 use Rattle.signatures.specs.Strong.{row_pair, strong_pushed, strong_signature}

@@ -1,5 +1,5 @@
 -- What the signature calls mean where they say done, in document 01's words.
-use Rattle.core.specs.Prelude.{◌≡◌, ℕ, ◌<◌, ◌≤◌, Bool, not, ◌&&◌, eqb, leb, ◌⊎◌, List, [], ◌∷◌, length}
+use Rattle.std.specs.Prelude.{◌≡◌, ℕ, ◌<◌, ◌≤◌, Bool, not, ◌&&◌, eqb, leb, ◌⊎◌, List, [], ◌∷◌, length}
 use mathlib.Core.Path.{refl}
 use Rattle.columns.specs.Answers.{done}
 use Rattle.columns.specs.Counting.{bit}

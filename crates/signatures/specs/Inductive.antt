@@ -1,6 +1,6 @@
 -- The inductive branching signature: a hidden step to a marked state of the block gives (tau_hat, key of target), any other step
 -- (label, block of target).
-use Rattle.core.specs.Prelude.{ℕ, Bool, cond, not, ◌&&◌, List, map, length, nat_le, slice_index, slice_index_or}
+use Rattle.std.specs.Prelude.{ℕ, Bool, cond, not, ◌&&◌, List, map, length, nat_le, slice_index, slice_index_or}
 use Rattle.columns.specs.Answers.{Said}
 use Rattle.columns.specs.Sets.{Pair}
 use Rattle.partition.specs.Partition.{Partition}

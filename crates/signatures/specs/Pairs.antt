@@ -1,5 +1,5 @@
 -- Signatures: pairs (label, block), ascending, no pair twice.
-use Rattle.core.specs.Prelude.{ℕ, Bool, ◌&&◌, List, length, nat_le}
+use Rattle.std.specs.Prelude.{ℕ, Bool, ◌&&◌, List, length, nat_le}
 use Rattle.columns.specs.Columns.{over}
 use Rattle.columns.specs.Rows.{first_of, last_of}
 use Rattle.columns.specs.Sets.{Pair, pair_lt, collect, set_of}

@@ -1,5 +1,5 @@
 -- The strong signature: (a, block of t) for each step.
-use Rattle.core.specs.Prelude.{ℕ, List, map, length, nat_eq, slice_index}
+use Rattle.std.specs.Prelude.{ℕ, List, map, length, nat_eq, slice_index}
 use Rattle.columns.specs.Answers.{Said}
 use Rattle.columns.specs.Counting.{members}
 use Rattle.columns.specs.Sets.{Pair}

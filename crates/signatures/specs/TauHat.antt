@@ -1,5 +1,5 @@
 -- tau_hat, a label beside those of the table: the number of labels.
-use Rattle.core.specs.Prelude.{ℕ, [], ◌∷◌, ◌==◌}
+use Rattle.std.specs.Prelude.{ℕ, [], ◌∷◌, ◌==◌}
 use Rattle.columns.specs.declared.answers.Refusal.{Refusal}
 use Rattle.columns.specs.Answers.{Said, answering}
 use Rattle.columns.specs.Counting.{bit}

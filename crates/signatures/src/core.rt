@@ -1,6 +1,6 @@
 // What the strong and the inductive signature push, on columns that are checked already. No entry points: each says what it requires. The
 // pairs pushed go over the first cells of two columns, the cells behind stay as they are, and the number of pairs is returned.
-ghost use Rattle.core.specs.Prelude.{◌≡◌, ℕ, ◌<◌, ◌≤◌, length, if◌then◌else◌, slice_index, slice_index_or};
+ghost use Rattle.std.specs.Prelude.{◌≡◌, ℕ, ◌<◌, ◌≤◌, length, if◌then◌else◌, slice_index, slice_index_or};
 ghost use Rattle.columns.specs.Rows.{pairs_of};
 ghost use Rattle.signatures.specs.Inductive.{marked_by, inductive_pushed};
 ghost use Rattle.signatures.specs.Strong.{strong_pushed};

@@ -1,5 +1,5 @@
 // What was pushed, as a signature: sorted, and without duplicates. No entry points: each says what it requires.
-ghost use Rattle.core.specs.Prelude.{◌≡◌, ◌+◌, ◌*◌, ◌/◌, ◌≤◌, [], ◌∷◌, map, length};
+ghost use Rattle.std.specs.Prelude.{◌≡◌, ◌+◌, ◌*◌, ◌/◌, ◌≤◌, [], ◌∷◌, map, length};
 ghost use Rattle.columns.specs.Answers.{said_number};
 ghost use Rattle.columns.specs.Columns.{over, wiped, cell};
 ghost use Rattle.columns.specs.Rows.{pairs_of};

@@ -1,5 +1,5 @@
 // The inductive branching signature.
-ghost use Rattle.core.specs.Prelude.{◌≡◌, [], ◌∷◌};
+ghost use Rattle.std.specs.Prelude.{◌≡◌, [], ◌∷◌};
 ghost use Rattle.columns.specs.Answers.{said_number};
 ghost use Rattle.signatures.specs.Inductive.{branching_bisim_signature_inductive};
 ghost use Rattle.partition.specs.Partition.{parts};

@@ -1,5 +1,5 @@
 // The strong signature.
-ghost use Rattle.core.specs.Prelude.{◌≡◌, [], ◌∷◌};
+ghost use Rattle.std.specs.Prelude.{◌≡◌, [], ◌∷◌};
 ghost use Rattle.columns.specs.Answers.{said_number};
 ghost use Rattle.signatures.specs.Strong.{strong_bisim_signature};
 ghost use Rattle.partition.specs.Partition.{parts};

@@ -1,5 +1,5 @@
 // tau_hat, a label beside those of the table: the number of labels.
-ghost use Rattle.core.specs.Prelude.{◌≡◌};
+ghost use Rattle.std.specs.Prelude.{◌≡◌};
 ghost use Rattle.columns.specs.Answers.{said_number, said_flag};
 ghost use Rattle.signatures.specs.TauHat.{tau_hat, is_tau_hat};
 

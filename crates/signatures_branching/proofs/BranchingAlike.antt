@@ -1,5 +1,5 @@
 -- The numbers of the blocks don't matter to whether two states have one branching signature, only which states share a block.
-use Rattle.core.specs.Prelude.{◌≡◌, ℕ, ◌<◌, List, get_or}
+use Rattle.std.specs.Prelude.{◌≡◌, ℕ, ◌<◌, List, get_or}
 use mathlib.Core.Path.{sym}
 use Rattle.columns.specs.Sets.{Mem, Pair}
 use Rattle.table.specs.Lts.{Lts, Valid}

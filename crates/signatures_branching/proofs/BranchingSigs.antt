@@ -1,6 +1,6 @@
 -- The branching signature of a state: (a, b) is in it exactly if some state that is reached by hidden steps that stay in the block has a
 -- step (a, u) to block b, and the step is visible or leads to another block.
-use Rattle.core.specs.Prelude.{◌≡◌, ℕ, Bool, true, not, ◌&&◌, eqb, ◌↔◌, List, map, get_or}
+use Rattle.std.specs.Prelude.{◌≡◌, ℕ, Bool, true, not, ◌&&◌, eqb, ◌↔◌, List, map, get_or}
 use borrow.Author.Tests.{eqb-true, eq-eqb}
 use mathlib.Core.Path.{ap, sym, subst, ◌∙◌}
 use mathlib.Core.List.Memᴰ

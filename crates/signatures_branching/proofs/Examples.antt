@@ -1,5 +1,5 @@
 -- Small calls: paths within the block, one through another block, and a state with no way out.
-use Rattle.core.specs.Prelude.{◌≡◌, ℕ, List, [], ◌∷◌, replicate}
+use Rattle.std.specs.Prelude.{◌≡◌, ℕ, List, [], ◌∷◌, replicate}
 use mathlib.Core.Path.{refl}
 use Rattle.columns.specs.Answers.{Said, done, refused}
 use Rattle.columns.specs.Due.{all_long}

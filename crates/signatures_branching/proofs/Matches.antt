@@ -1,5 +1,5 @@
 -- Sets of pairs (label, block) under two numberings of the blocks: one says of each state's block what the other says.
-use Rattle.core.specs.Prelude.{◌≡◌, ℕ, ◌<◌, List, get_or}
+use Rattle.std.specs.Prelude.{◌≡◌, ℕ, ◌<◌, List, get_or}
 use mathlib.Core.Path.{subst, sym}
 use Rattle.columns.specs.Sets.{Mem, Pair, pair_lt, Ascending}
 use Rattle.columns.proofs.Orders.{pair_order}

@@ -1,5 +1,5 @@
 -- What `branching_bisim_signature` means where it says done, in document 01's words.
-use Rattle.core.specs.Prelude.{◌≡◌, ℕ, List, [], ◌∷◌, length}
+use Rattle.std.specs.Prelude.{◌≡◌, ℕ, List, [], ◌∷◌, length}
 use mathlib.Core.Path.{refl}
 use Rattle.columns.specs.Answers.{done}
 use Rattle.partition.specs.Partition.{Partition}

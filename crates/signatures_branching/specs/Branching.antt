@@ -1,6 +1,6 @@
 -- The branching signature: over states reached by hidden steps that stay in the state's block, all visible steps, and hidden steps into
 -- other blocks.
-use Rattle.core.specs.Prelude.{ℕ, Bool, not, ◌&&◌, List, map, length, ◌==◌, slice_index}
+use Rattle.std.specs.Prelude.{ℕ, Bool, not, ◌&&◌, List, map, length, ◌==◌, slice_index}
 use Rattle.columns.specs.Answers.{Said}
 use Rattle.columns.specs.Counting.{members}
 use Rattle.columns.specs.Sets.{Pair}

@@ -1,5 +1,5 @@
 -- Search states of the branching signature: what the proofs go by, nothing that the contract of an operation says.
-use Rattle.core.specs.Prelude.{◌≡◌, ℕ, ◌≤◌, List, slice_index}
+use Rattle.std.specs.Prelude.{◌≡◌, ℕ, ◌≤◌, List, slice_index}
 use Rattle.columns.specs.Columns.{laid}
 use Rattle.columns.specs.Rows.{pairs_of}
 use Rattle.columns.specs.Sets.{Pair}

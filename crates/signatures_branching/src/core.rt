@@ -1,5 +1,5 @@
 // What the branching signature pushes, on columns that are checked already. No entry points: each says what it requires.
-ghost use Rattle.core.specs.Prelude.{◌≡◌, ℕ, ◌+◌, ◌<◌, ◌≤◌, ◌⊎◌, ◌++◌, length, slice_index};
+ghost use Rattle.std.specs.Prelude.{◌≡◌, ℕ, ◌+◌, ◌<◌, ◌≤◌, ◌⊎◌, ◌++◌, length, slice_index};
 ghost use Rattle.signatures_branching.specs.Branching.{outer_pairs, branching_pushed, branching_signature};
 ghost use Rattle.signatures_branching.specs.Visiting.{Visits};
 ghost use Rattle.columns.specs.Rows.{pairs_of};

@@ -1,6 +1,6 @@
 // The branching signature (signatures.rs): over states reached by hidden steps that stay in the state's block, all visible steps, and
 // hidden steps into other blocks.
-ghost use Rattle.core.specs.Prelude.{◌≡◌, [], ◌∷◌};
+ghost use Rattle.std.specs.Prelude.{◌≡◌, [], ◌∷◌};
 ghost use Rattle.signatures_branching.specs.Branching.{branching_bisim_signature};
 ghost use Rattle.columns.specs.Answers.{said_number};
 ghost use Rattle.partition.specs.Partition.{parts};

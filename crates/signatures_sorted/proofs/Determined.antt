@@ -1,9 +1,15 @@
 -- Any two results that the contract of the sorted branching signature allows are equal.
-use Rattle.columns.specs.Determined.{OneResult}
-use Rattle.columns.proofs.Determined.{skip, works, determined}
+use Rattle.std.specs.Prelude.{ℕ, List}
+use Rattle.columns.specs.Answers.{said_number}
+use Rattle.columns.specs.Determined.{Determined}
+use Rattle.columns.proofs.Determined.{determined}
 use Rattle.columns.proofs.Saying.{same_number}
-use Rattle.signatures_sorted.proofs.branching_bisim_signature_sorted as call
+use Rattle.partition.specs.Partition.{Partition}
+use Rattle.signatures.specs.Pairs.{Columns}
+use Rattle.table.specs.Lts.{Lts}
+use Rattle.signatures_sorted.specs.Sorted.{Given, branching_bisim_signature_sorted}
 
--- the labels and blocks of the pairs, and the work slices
-pub branching_bisim_signature_sorted_lem : OneResult call.ended call.Reads.Learnt
-branching_bisim_signature_sorted_lem κs a r q x y = determined same_number (λ c. skip 15 (c.0.0, (c.0.1, works 7 c.1))) r q
+pub branching_bisim_signature_sorted_lem :
+    (t : Lts) (p : Partition) (s : ℕ) (g : Given) (out : Columns) (works : List (List ℕ)) →
+    Determined said_number (branching_bisim_signature_sorted t p s g out works)
+branching_bisim_signature_sorted_lem t p s g out works = determined same_number

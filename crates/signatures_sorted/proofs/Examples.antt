@@ -1,5 +1,5 @@
 -- Small calls: what a hidden step within the block takes, how much room is enough, and what a state with no way out has.
-use Rattle.core.specs.Prelude.{◌≡◌, ℕ, List, [], ◌∷◌, replicate}
+use Rattle.std.specs.Prelude.{◌≡◌, ℕ, List, [], ◌∷◌, replicate}
 use mathlib.Core.Path.{refl}
 use Rattle.signatures_branching.specs.Branching.{branching_signature}
 use Rattle.signatures_branching.proofs.Examples.{halves}

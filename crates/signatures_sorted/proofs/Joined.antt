@@ -1,5 +1,5 @@
 -- The merged lists, and the own pairs united with them, in the columns of the result.
-use Rattle.core.specs.Prelude.{◌≡◌, ℕ, ◌+◌, ◌≤◌, List, length}
+use Rattle.std.specs.Prelude.{◌≡◌, ℕ, ◌+◌, ◌≤◌, List, length}
 use native.Mathlib.Omega.{arith}
 use mathlib.Core.Path.{ap, ap₂, sym, subst, ◌∙◌}
 use lib.ListN.{length-map}

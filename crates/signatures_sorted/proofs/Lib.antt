@@ -11,3 +11,4 @@ pub mod Examples
 pub mod Refused
 pub mod Joined
 pub mod Determined
+pub mod OneResult

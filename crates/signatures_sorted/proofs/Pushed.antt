@@ -1,5 +1,5 @@
 -- The own pairs of a state as they are pushed and made a set.
-use Rattle.core.specs.Prelude.{◌≡◌, ℕ, ◌+◌, ◌≤◌, Bool, ◌&&◌, eqb, List, ◌++◌, length, get_or}
+use Rattle.std.specs.Prelude.{◌≡◌, ℕ, ◌+◌, ◌≤◌, Bool, ◌&&◌, eqb, List, ◌++◌, length, get_or}
 use native.Mathlib.Omega.{arith}
 use mathlib.Core.Path.{ap, ap₂, sym, subst, ◌∙◌}
 use Rattle.columns.specs.Columns.{listed}

@@ -1,5 +1,5 @@
 -- What a call goes by that takes given lists and is not refused by its checks.
-use Rattle.core.specs.Prelude.{◌≡◌, ℕ, Bool, List, ◌∷◌}
+use Rattle.std.specs.Prelude.{◌≡◌, ℕ, Bool, List, ◌∷◌}
 use borrow.Author.Tests.{ltb-true}
 use mathlib.Core.Path.{refl}
 use Rattle.columns.specs.declared.answers.Refusal.{Refusal}

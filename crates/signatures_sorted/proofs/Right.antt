@@ -1,6 +1,6 @@
 -- Over given lists that are the branching signatures of the states to which s has a hidden step within its block, the sorted signature of
 -- s is its branching signature.
-use Rattle.core.specs.Prelude.{◌≡◌, ℕ, ◌⊎◌, List, get_or}
+use Rattle.std.specs.Prelude.{◌≡◌, ℕ, ◌⊎◌, List, get_or}
 use mathlib.Core.Path.{sym, subst, ◌∙◌}
 use mathlib.Core.Logic.{inl, inr}
 use Rattle.columns.specs.Sets.{Mem, Pair}

@@ -1,6 +1,6 @@
 -- The numbers of the blocks don't matter to whether two states have one sorted signature, only which states share a block, and what the
 -- given lists say of each.
-use Rattle.core.specs.Prelude.{◌≡◌, ℕ, ◌<◌, ◌⊎◌, List, get_or}
+use Rattle.std.specs.Prelude.{◌≡◌, ℕ, ◌<◌, ◌⊎◌, List, get_or}
 use mathlib.Core.Path.{ap}
 use mathlib.Core.Logic.{inl, inr}
 use Rattle.columns.specs.Sets.{Mem, Pair}

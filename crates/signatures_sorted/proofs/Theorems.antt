@@ -1,5 +1,5 @@
 -- What `branching_bisim_signature_sorted` means where it says done, in document 01's words.
-use Rattle.core.specs.Prelude.{◌≡◌, ℕ, ◌+◌, ◌&&◌, leb, ◌⊎◌, List, [], ◌∷◌, length}
+use Rattle.std.specs.Prelude.{◌≡◌, ℕ, ◌+◌, ◌&&◌, leb, ◌⊎◌, List, [], ◌∷◌, length}
 use mathlib.Core.Path.{refl}
 use Rattle.columns.specs.Answers.{done}
 use Rattle.columns.specs.Sets.{Pair}

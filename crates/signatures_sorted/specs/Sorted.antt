@@ -1,5 +1,5 @@
 -- The sorted branching signature: the state's own steps; for a hidden step within the block, the target's given list is taken.
-use Rattle.core.specs.Prelude.{ℕ, ◌+◌, Bool, cond, ◌&&◌, List, [], ◌∷◌, ◌++◌, length, nat_le, slice_index}
+use Rattle.std.specs.Prelude.{ℕ, ◌+◌, Bool, cond, ◌&&◌, List, [], ◌∷◌, ◌++◌, length, nat_le, slice_index}
 use mathlib.Core.List.{flat_map}
 use Rattle.columns.specs.declared.answers.Refusal.{Refusal}
 use Rattle.columns.specs.Answers.{Said}

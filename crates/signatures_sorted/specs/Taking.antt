@@ -1,5 +1,5 @@
 -- The lists that a state takes, and what is asked of them and of the work slices where the checks are made already.
-use Rattle.core.specs.Prelude.{ℕ, ◌+◌, ◌≤◌, Bool, ◌&&◌, List, map, ◌==◌, slice_index}
+use Rattle.std.specs.Prelude.{ℕ, ◌+◌, ◌≤◌, Bool, ◌&&◌, List, map, ◌==◌, slice_index}
 use Rattle.columns.specs.Counting.{members}
 use Rattle.columns.specs.Sets.{Mem, pair_lt, Ascending}
 use Rattle.table.specs.Hidden.{hidden_in}

@@ -1,5 +1,5 @@
 // The tests of a call that takes given lists.
-ghost use Rattle.core.specs.Prelude.{◌≡◌, ◌+◌, ◌≤◌, true, length};
+ghost use Rattle.std.specs.Prelude.{◌≡◌, ◌+◌, ◌≤◌, true, length};
 ghost use Rattle.signatures_sorted.specs.Sorted.{flat, sorted_refusal};
 ghost use Rattle.partition.specs.Partition.{parts};
 ghost use Rattle.table.specs.Lts.{lts};

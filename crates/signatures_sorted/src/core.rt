@@ -1,5 +1,5 @@
 // The sorted branching signature, on columns that are checked already. No entry points: each says what it requires.
-ghost use Rattle.core.specs.Prelude.{◌≡◌, ◌+◌, ◌*◌, ◌<◌, ◌≤◌, [], ◌∷◌, length, slice_index};
+ghost use Rattle.std.specs.Prelude.{◌≡◌, ◌+◌, ◌*◌, ◌<◌, ◌≤◌, [], ◌∷◌, length, slice_index};
 ghost use Rattle.signatures_branching.specs.Branching.{outer_pairs};
 ghost use Rattle.columns.specs.Answers.{said_number};
 ghost use Rattle.columns.specs.Rows.{pairs_of};

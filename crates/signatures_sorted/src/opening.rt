@@ -1,5 +1,5 @@
 // The given lists that a state takes, as heads of a merge. No entry points.
-ghost use Rattle.core.specs.Prelude.{◌≡◌, ℕ, ◌+◌, ◌<◌, ◌≤◌, [], ◌∷◌, length, ◌≢◌};
+ghost use Rattle.std.specs.Prelude.{◌≡◌, ℕ, ◌+◌, ◌<◌, ◌≤◌, [], ◌∷◌, length, ◌≢◌};
 ghost use Rattle.pairs_merge.specs.Merged.{wide};
 ghost use Rattle.signatures_sorted.specs.Joining.{Opened};
 ghost use Rattle.signatures_sorted.specs.Taking.{inner_targets};

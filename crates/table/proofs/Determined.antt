@@ -1,23 +1,24 @@
--- Any two results that the contract of a call on a table allows are equal.
-use mathlib.Core.Path.{refl}
-use Rattle.columns.specs.Determined.{OneResult}
-use Rattle.columns.proofs.Determined.{skip, determined_answer, determined}
+-- Any two results that the contract of a call on a table allows are equal. t is the table that is lent.
+use Rattle.std.specs.Prelude.{ℕ, Bool, List}
+use Rattle.columns.specs.Answers.{said_number}
+use Rattle.columns.specs.Determined.{DeterminedAnswer, Determined}
+use Rattle.columns.proofs.Determined.{determined_answer, determined}
 use Rattle.columns.proofs.Saying.{same_number}
+use Rattle.table.specs.Incoming.{incoming_rows}
+use Rattle.table.specs.Lts.{Lts}
+use Rattle.table.specs.Reach as reach
+use Rattle.table.specs.Transitions.{said_stretch, outgoing_transitions, next_incoming_row}
 use Rattle.table.proofs.Sayings.{same-stretch}
-use Rattle.table.proofs.incoming as list
-use Rattle.table.proofs.reach as reach
-use Rattle.table.proofs.transitions as transitions
 
--- the list, and the spare
-pub incoming : OneResult list.incoming.ended list.incoming.Reads.Learnt
-incoming κs a r q x y = determined same_number (λ c. skip 4 (c.0, (c.1, tt))) r q
+pub incoming : (t : Lts) (result spare : List ℕ) → Determined said_number (incoming_rows t result spare)
+incoming t result spare = determined same_number
 
--- the states reached, and the queue
-pub reachable : OneResult reach.reachable.ended reach.reachable.Reads.Learnt
-reachable κs a r q x y = determined same_number (λ c. skip 6 (c.0, (c.1, tt))) r q
+pub reachable :
+    (t : Lts) (hidden : Bool) (s : ℕ) (reached queue : List ℕ) → Determined said_number (reach.reachable t hidden s reached queue)
+reachable t hidden s reached queue = determined same_number
 
-pub outgoing_transitions_lem : OneResult transitions.outgoing_transitions.ended transitions.outgoing_transitions.Reads.Learnt
-outgoing_transitions_lem κs a r q x y e f = (determined_answer same-stretch r q e f, refl)
+pub outgoing_transitions_lem : (t : Lts) (s : ℕ) → DeterminedAnswer said_stretch (outgoing_transitions t s)
+outgoing_transitions_lem t s = determined_answer same-stretch
 
-pub next_incoming_lem : OneResult transitions.next_incoming.ended transitions.next_incoming.Reads.Learnt
-next_incoming_lem κs a r q x y e f = (determined_answer same_number r q e f, refl)
+pub next_incoming_lem : (t : Lts) (u from : ℕ) → DeterminedAnswer said_number (next_incoming_row t u from)
+next_incoming_lem t u from = determined_answer same_number

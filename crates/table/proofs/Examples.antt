@@ -1,5 +1,5 @@
 -- The rows of a state where there are few or none.
-use Rattle.core.specs.Prelude.{◌≡◌, ℕ, List, [], ◌∷◌}
+use Rattle.std.specs.Prelude.{◌≡◌, ℕ, List, [], ◌∷◌}
 use mathlib.Core.Path.{refl}
 use Rattle.columns.specs.Answers.{Said, done, refused}
 use Rattle.table.specs.Incoming.{incoming_order}

@@ -17,3 +17,4 @@ pub mod Meetings
 pub mod Theorems
 pub mod Examples
 pub mod Determined
+pub mod OneResult

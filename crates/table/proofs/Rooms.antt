@@ -1,5 +1,5 @@
 -- What a call goes by whose table is checked, with result columns and work slices given by their lengths.
-use Rattle.core.specs.Prelude.{◌≡◌, ℕ, ◌+◌, ◌<◌, true, List}
+use Rattle.std.specs.Prelude.{◌≡◌, ℕ, ◌+◌, ◌<◌, true, List}
 use mathlib.Core.Path.{refl}
 use Rattle.columns.specs.declared.answers.Refusal.{Refusal}
 use Rattle.columns.specs.Due.{due, all_long, Roomy}

@@ -1,5 +1,5 @@
 -- The rows of a table: a step is a row, and a row is a step; the rows by number.
-use Rattle.core.specs.Prelude.{◌≡◌, ℕ, ◌<◌, List, length, get_or}
+use Rattle.std.specs.Prelude.{◌≡◌, ℕ, ◌<◌, List, length, get_or}
 use mathlib.Core.Path.{ap}
 use native.Mathlib.Omega.{arith}
 use Rattle.columns.specs.Columns.{key_of}

@@ -1,6 +1,6 @@
 -- The laws of `incoming_rows_of`, and the only place that knows how its stretch is counted: of h rows listed by target, the one at k leads
 -- to u exactly if first_into u <= k < first_into (u + 1).
-use Rattle.core.specs.Prelude.{◌≡◌, ℕ, ◌+◌, ◌<◌, ◌≤◌, List}
+use Rattle.std.specs.Prelude.{◌≡◌, ℕ, ◌+◌, ◌<◌, ◌≤◌, List}
 use mathlib.Core.Path.{subst, sym}
 use Rattle.table.specs.Stretch.{StretchOf, listed_target, ByTarget, first_into}
 use Rattle.table.proofs.Counted.{below-is, below_most, below_up, place_before, place_from, stretch}

@@ -1,6 +1,6 @@
 -- The laws of `rows_of`, and the only place that knows how its stretch is counted: row i of the first m has source s exactly if
 -- first_row s <= i < first_row (s + 1).
-use Rattle.core.specs.Prelude.{◌≡◌, ℕ, ◌+◌, ◌<◌, ◌≤◌, Bool, true, false, eqb, List, get_or}
+use Rattle.std.specs.Prelude.{◌≡◌, ℕ, ◌+◌, ◌<◌, ◌≤◌, Bool, true, false, eqb, List, get_or}
 use native.Mathlib.Omega.{arith}
 use borrow.Author.Tests.{eqb-true, eq-eqb}
 use mathlib.Core.Path.{subst, sym}

@@ -1,5 +1,5 @@
 -- What an answer of `outgoing_transitions` says determines it; and a call that says it is done was not refused.
-use Rattle.core.specs.Prelude.{◌≡◌, ℕ, List}
+use Rattle.std.specs.Prelude.{◌≡◌, ℕ, List}
 use mathlib.Core.Path.{ap, sym}
 use Rattle.columns.specs.declared.answers.Refusal.{Refusal}
 use Rattle.columns.specs.Answers.{done, answering, leaving}

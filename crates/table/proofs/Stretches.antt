@@ -1,6 +1,6 @@
 -- What the order of the rows says of single columns: the sources never fall, nor do the labels of a state's rows, and the rows into a state
 -- come by source, then label. And the next of these.
-use Rattle.core.specs.Prelude.{◌≡◌, ℕ, ◌+◌, ◌-◌, ◌<◌, ◌≤◌, Bool, true, eqb, ltb, List, get_or}
+use Rattle.std.specs.Prelude.{◌≡◌, ℕ, ◌+◌, ◌-◌, ◌<◌, ◌≤◌, Bool, true, eqb, ltb, List, get_or}
 use native.Mathlib.Omega.{arith}
 use native.Mathlib.Nat.{eq-or-lt_of_le, le_antisymm}
 use borrow.Author.Tests.{ltb-true, eqb-true, eq-eqb}

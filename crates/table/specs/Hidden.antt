@@ -1,5 +1,5 @@
 -- Kinds of hidden rows: those with label 0.
-use Rattle.core.specs.Prelude.{ℕ, Bool, ◌&&◌, List, ◌==◌, slice_index}
+use Rattle.std.specs.Prelude.{ℕ, Bool, ◌&&◌, List, ◌==◌, slice_index}
 use Rattle.columns.specs.Blocks.{block_of}
 use Rattle.columns.specs.Sets.{Row}
 

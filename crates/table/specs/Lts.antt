@@ -1,5 +1,5 @@
 -- A transition table as a header and three columns, its rows, and what holds of one that is checked.
-use Rattle.core.specs.Prelude.{◌≡◌, ℕ, ◌<◌, ◌≤◌, true, List, length, slice_index_or}
+use Rattle.std.specs.Prelude.{◌≡◌, ℕ, ◌<◌, ◌≤◌, true, List, length, slice_index_or}
 use Rattle.columns.specs.Limits.{max_labels, max_rows, max_states}
 use Rattle.columns.specs.Rows.{row_in, rows_of}
 use Rattle.columns.specs.Sets.{Row, StepIn, row_lt}

@@ -1,5 +1,5 @@
 -- The states that a state reaches by hidden steps, and those that reach it, as marks: 1 for each of them, 0 for each other.
-use Rattle.core.specs.Prelude.{ℕ, true, List}
+use Rattle.std.specs.Prelude.{ℕ, true, List}
 use Rattle.columns.specs.Counting.{bit}
 use Rattle.columns.specs.Columns.{listed}
 use Rattle.table.specs.Lts.{Lts}

@@ -1,5 +1,5 @@
 -- What document 01 says of reachability and of the incoming list, in terms of steps and rows.
-use Rattle.core.specs.Prelude.{◌≡◌, ℕ, ◌+◌, ◌<◌, ◌≤◌, Bool, true, ◌⊎◌, ◌↔◌, List, length, nat_eq, slice_index}
+use Rattle.std.specs.Prelude.{◌≡◌, ℕ, ◌+◌, ◌<◌, ◌≤◌, Bool, true, ◌⊎◌, ◌↔◌, List, length, nat_eq, slice_index}
 use Rattle.columns.specs.Counting.{many}
 use Rattle.columns.specs.Sets.{pair_lt}
 use Rattle.table.specs.Lts.{Lts}

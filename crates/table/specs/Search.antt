@@ -1,5 +1,5 @@
 -- Loop invariants of the search for the states that a state reaches: what the proofs go by, nothing that a contract of an operation says.
-use Rattle.core.specs.Prelude.{◌≡◌, ℕ, ◌+◌, ◌<◌, ◌≤◌, Bool, true, cond, List, length, ◌==◌, nat_eq, slice_index, slice_index_or, slice_set}
+use Rattle.std.specs.Prelude.{◌≡◌, ℕ, ◌+◌, ◌<◌, ◌≤◌, Bool, true, cond, List, length, ◌==◌, nat_eq, slice_index, slice_index_or, slice_set}
 use Rattle.columns.specs.Counting.{many}
 use Rattle.table.specs.Reach.{Walk}
 

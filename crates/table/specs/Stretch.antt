@@ -1,6 +1,6 @@
 -- The rows of a state: those that leave it are a stretch, those that lead to it are one in a list of rows by target, or come one after the
 -- other.
-use Rattle.core.specs.Prelude.{◌≡◌, ℕ, ◌+◌, ◌-◌, ◌<◌, ◌≤◌, ◌↔◌, List, length, nat_eq, nat_lt, slice_index}
+use Rattle.std.specs.Prelude.{◌≡◌, ℕ, ◌+◌, ◌-◌, ◌<◌, ◌≤◌, ◌↔◌, List, length, nat_eq, nat_lt, slice_index}
 use Rattle.columns.specs.Counting.{many, first}
 
 -- `at i` is the number at place i, of m places: those of number s are from `first` to before `end`

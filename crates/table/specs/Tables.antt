@@ -1,5 +1,5 @@
 -- A list of rows as a table, and over three lent columns; and what an answer says that holds the header of a table.
-use Rattle.core.specs.Prelude.{ℕ, List, [], ◌∷◌, length}
+use Rattle.std.specs.Prelude.{ℕ, List, [], ◌∷◌, length}
 use Rattle.columns.specs.Answers.{Said, done, refused}
 use Rattle.columns.specs.Columns.{over}
 use Rattle.columns.specs.Rows.{first_of, second_of, third_of}

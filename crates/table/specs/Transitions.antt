@@ -1,5 +1,5 @@
 -- The calls that name the rows of a state: those that leave it, as a run, and those that lead to it, one after the other.
-use Rattle.core.specs.Prelude.{ℕ, ◌+◌, true, [], ◌∷◌, ◌++◌}
+use Rattle.std.specs.Prelude.{ℕ, ◌+◌, true, [], ◌∷◌, ◌++◌}
 use Rattle.columns.specs.declared.answers.Refusal.{Refusal}
 use Rattle.columns.specs.Answers.{Said, done, refused, answering}
 use Rattle.columns.specs.Due.{due, index_test}

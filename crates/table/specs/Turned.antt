@@ -1,5 +1,5 @@
 -- A table with its rows turned round: a walk in it is a walk back.
-use Rattle.core.specs.Prelude.{◌≡◌, ℕ, ◌≤◌, ◌↔◌, length, drop}
+use Rattle.std.specs.Prelude.{◌≡◌, ℕ, ◌≤◌, ◌↔◌, length, drop}
 use Rattle.table.specs.Lts.{Lts, Step, Valid}
 use Rattle.table.specs.Stretch.{StartsOf}
 

@@ -1,5 +1,5 @@
 // The answer of a call that leaves a table.
-ghost use Rattle.core.specs.Prelude.{◌≡◌, [], ◌∷◌};
+ghost use Rattle.std.specs.Prelude.{◌≡◌, [], ◌∷◌};
 ghost use Rattle.columns.specs.Answers.{done, refused};
 ghost use Rattle.table.specs.Tables.{said_table};
 

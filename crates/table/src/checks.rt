@@ -1,5 +1,5 @@
 // The tests that every call makes of the table it is lent.
-ghost use Rattle.core.specs.Prelude.{◌≡◌, ◌+◌, ◌<◌, ◌≤◌, ◌&&◌, length};
+ghost use Rattle.std.specs.Prelude.{◌≡◌, ◌+◌, ◌<◌, ◌≤◌, ◌&&◌, length};
 ghost use Rattle.columns.specs.Due.{due, all_long};
 ghost use Rattle.table.specs.Checks.{fieldsb, aboveb, header_tests, row_tests, table_tests, table_argument_refusal};
 ghost use Rattle.table.specs.Lts.{lts};

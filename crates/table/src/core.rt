@@ -1,5 +1,5 @@
 // What other crates call once a table is checked. No entry points: each says what it requires.
-ghost use Rattle.core.specs.Prelude.{◌≡◌, ◌+◌, ◌*◌, ◌/◌, ◌<◌, ◌≤◌, length, slice_index};
+ghost use Rattle.std.specs.Prelude.{◌≡◌, ◌+◌, ◌*◌, ◌/◌, ◌<◌, ◌≤◌, length, slice_index};
 ghost use Rattle.columns.specs.Columns.{listed, over, sort_by, wiped, NeverFalls};
 ghost use Rattle.columns.specs.Counting.{many, bit};
 ghost use Rattle.columns.specs.Rows.{first_of, row_set};

@@ -1,5 +1,5 @@
 // The incoming list: all row numbers by target, then source, then label.
-ghost use Rattle.core.specs.Prelude.{◌≡◌};
+ghost use Rattle.std.specs.Prelude.{◌≡◌};
 ghost use Rattle.columns.specs.Answers.{said_number};
 ghost use Rattle.table.specs.Incoming.{incoming_refusal, incoming_rows};
 ghost use Rattle.table.specs.Lts.{lts};

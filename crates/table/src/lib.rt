@@ -8,7 +8,7 @@ pub mod reach;
 pub mod transitions;
 
 // The numbers that travel with the columns: n states, labels, m rows and the initial state. Label 0 is hidden.
-#[derive(Drop)]
+#[derive(Clone, Copy)]
 pub struct Table {
     pub n: u16,
     pub labels: u16,

@@ -1,5 +1,5 @@
 // Which states a state reaches, along all rows or along hidden rows only.
-ghost use Rattle.core.specs.Prelude.{◌≡◌};
+ghost use Rattle.std.specs.Prelude.{◌≡◌};
 ghost use Rattle.columns.specs.Answers.{said_number};
 ghost use Rattle.table.specs.Reach.{reach_refusal, reachable};
 ghost use Rattle.table.specs.Lts.{lts};

@@ -1,5 +1,5 @@
 // The rows of a state: those that leave it, as a run of row numbers, and those that lead to it, one after the other.
-ghost use Rattle.core.specs.Prelude.{◌≡◌};
+ghost use Rattle.std.specs.Prelude.{◌≡◌};
 ghost use Rattle.columns.specs.Answers.{said_number};
 ghost use Rattle.table.specs.Transitions.{said_stretch, next_refusal, outgoing_transitions, next_incoming_row};
 ghost use Rattle.table.specs.Lts.{lts};

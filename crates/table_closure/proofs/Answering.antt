@@ -1,5 +1,5 @@
 -- What a call of `mark_backward_closure` goes by that is not refused, and its two ways out.
-use Rattle.core.specs.Prelude.{◌≡◌, ℕ, ◌+◌, ◌<◌, ◌≤◌, List, [], ◌∷◌, length}
+use Rattle.std.specs.Prelude.{◌≡◌, ℕ, ◌+◌, ◌<◌, ◌≤◌, List, [], ◌∷◌, length}
 use Rattle.columns.specs.Answers.{Said, done, refused}
 use Rattle.columns.specs.Columns.{zeros}
 use Rattle.columns.specs.declared.answers.Refusal.{Refusal}

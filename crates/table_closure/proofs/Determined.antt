@@ -1,12 +1,13 @@
 -- Any two results that the contract of `mark_backward_closure` allows are equal.
-use Rattle.columns.specs.Determined.{OneResult}
-use Rattle.columns.proofs.Determined.{skip, determined}
+use Rattle.std.specs.Prelude.{ℕ, List}
+use Rattle.columns.specs.Answers.{said}
+use Rattle.columns.specs.Determined.{Determined}
+use Rattle.columns.proofs.Determined.{determined}
 use Rattle.columns.proofs.Saying.{same_answer}
-use Rattle.table_closure.proofs.mark_backward_closure as call
+use Rattle.partition.specs.Partition.{Partition}
+use Rattle.table.specs.Lts.{Lts}
+use Rattle.table_closure.specs.Closure.{mark_backward_closure}
 
--- elements, offsets and splits, the order and the spare
-pub mark_backward_closure_lem : OneResult call.ended call.Reads.Learnt
-mark_backward_closure_lem κs a r q x y =
-    determined same_answer
-    (λ c.
-    skip 5 (c.0.elements, (c.0.element_offset, skip 2 (c.0.marked_split_lem, skip 2 (c.1.0, (c.1.1, tt)))))) r q
+pub mark_backward_closure_lem :
+    (t : Lts) (p : Partition) (b : ℕ) (order spare : List ℕ) → Determined said (mark_backward_closure t p b order spare)
+mark_backward_closure_lem t p b order spare = determined same_answer

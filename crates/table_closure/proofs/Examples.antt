@@ -1,6 +1,6 @@
 -- Three states in one block in the order 1, 0, 2, closed: nothing marked; all marked; no rows; no hidden row; and a hidden chain from 0
 -- over 1 to 2, of which the last is marked.
-use Rattle.core.specs.Prelude.{◌≡◌, ℕ, List, [], ◌∷◌}
+use Rattle.std.specs.Prelude.{◌≡◌, ℕ, List, [], ◌∷◌}
 use mathlib.Core.Path.{refl}
 use Rattle.table_closure.specs.Closure.{mark_backward_closure}
 use Rattle.columns.specs.Answers.{Said, done}

@@ -1,6 +1,6 @@
 -- What marking states of one block changes: within the block's stretch the unmarked positions are reordered and the split falls; the
 -- marked positions stay, and all other blocks do.
-use Rattle.core.specs.Prelude.{◌≡◌, ℕ, ◌-◌, ◌<◌, ◌≤◌, Bool, true, false, cond, List, length, get_or}
+use Rattle.std.specs.Prelude.{◌≡◌, ℕ, ◌-◌, ◌<◌, ◌≤◌, Bool, true, false, cond, List, length, get_or}
 use native.Mathlib.Omega.{arith}
 use borrow.Author.Tests.{ltb-true}
 use mathlib.Core.Path.{refl, ap, sym, subst, ◌∙◌}

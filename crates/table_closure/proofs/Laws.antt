@@ -1,6 +1,6 @@
 -- The law of the closure: it is sound, nothing changes elsewhere, old marks stay, and the marks of block b are the least set that holds the
 -- old ones and is closed under incoming hidden steps within the block.
-use Rattle.core.specs.Prelude.{◌≡◌, ℕ, ◌<◌, true, ◌↔◌, List, get_or}
+use Rattle.std.specs.Prelude.{◌≡◌, ℕ, ◌<◌, true, ◌↔◌, List, get_or}
 use native.Mathlib.Omega.{arith}
 use borrow.Author.Tests.{eq-eqb}
 use mathlib.Core.Path.{refl, ap, sym, subst, ◌∙◌}

@@ -15,3 +15,4 @@ pub mod Theorems
 pub mod Examples
 pub mod Standing
 pub mod Determined
+pub mod OneResult

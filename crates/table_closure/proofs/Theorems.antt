@@ -1,6 +1,6 @@
 -- What `mark_backward_closure` leaves once it is done, in document 01's words: a state of the block is marked exactly if hidden steps
 -- within the block, perhaps none, lead from it to a mark that was there; everything else is as it was.
-use Rattle.core.specs.Prelude.{◌≡◌, ℕ, ◌<◌, ◌↔◌, List, [], length}
+use Rattle.std.specs.Prelude.{◌≡◌, ℕ, ◌<◌, ◌↔◌, List, [], length}
 use mathlib.Core.Path.{sym, ap, subst}
 use Rattle.columns.specs.Answers.{done}
 use Rattle.columns.specs.Columns.{zeros}

@@ -1,5 +1,5 @@
 -- Loop invariants of the list of a block's inner rows: what the proofs go by, nothing that a contract of an operation says.
-use Rattle.core.specs.Prelude.{◌≡◌, ℕ, ◌-◌, ◌<◌, ◌≤◌, Bool, true, ◌&&◌, ◌⊎◌, List, length, ◌==◌, slice_index}
+use Rattle.std.specs.Prelude.{◌≡◌, ℕ, ◌-◌, ◌<◌, ◌≤◌, Bool, true, ◌&&◌, ◌⊎◌, List, length, ◌==◌, slice_index}
 use Rattle.table_closure.specs.Closure.{silentb}
 use Rattle.columns.specs.Counting.{members}
 use Rattle.partition.specs.Stand.{Stand}

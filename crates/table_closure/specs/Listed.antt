@@ -1,5 +1,5 @@
 -- Loop invariants of the marking by way of listed rows: what the proofs go by, nothing that a contract of an operation says.
-use Rattle.core.specs.Prelude.{ℕ, zero, suc, ◌<◌, cond, List, length, ◌==◌, slice_index}
+use Rattle.std.specs.Prelude.{ℕ, zero, suc, ◌<◌, cond, List, length, ◌==◌, slice_index}
 use Rattle.partition.specs.Mark.{Marks, mark_in}
 use Rattle.partition.specs.Partition.{Sound, parts}
 use Rattle.table.specs.Stretch.{listed_target, ByTarget}

@@ -1,6 +1,6 @@
 -- What document 01 says of the closure of block b's marks: it is the least set that holds the old marks and is closed under incoming hidden
 -- steps within the block; and nothing but the block's own stretch changes.
-use Rattle.core.specs.Prelude.{◌≡◌, ℕ, ◌<◌, ◌≤◌, false, ◌≢◌, slice_index}
+use Rattle.std.specs.Prelude.{◌≡◌, ℕ, ◌<◌, ◌≤◌, false, ◌≢◌, slice_index}
 use Rattle.partition.specs.Partition.{Partition, Sound, home_of}
 use Rattle.partition.specs.Marked.{unmarkedb}
 use Rattle.table.specs.Lts.{Lts, Step}

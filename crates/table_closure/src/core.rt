@@ -1,5 +1,5 @@
 // The work of `mark_backward_closure`, on columns that are checked already. No entry points: each says what it requires.
-ghost use Rattle.core.specs.Prelude.{◌≡◌, ◌<◌, ◌≤◌, length, slice_index};
+ghost use Rattle.std.specs.Prelude.{◌≡◌, ◌<◌, ◌≤◌, length, slice_index};
 ghost use Rattle.table_closure.specs.Closure.{going_on, close};
 ghost use Rattle.table_closure.specs.Listed.{row_list, mark_listed, read_listed, Listed, Fits};
 ghost use Rattle.partition.specs.Mark.{marks};

@@ -1,6 +1,6 @@
 // The rows of a block that are hidden and stay in it, listed by target, and among equals as the rows come. No entry points: each says what
 // it requires.
-ghost use Rattle.core.specs.Prelude.{◌≡◌, ℕ, ◌+◌, ◌-◌, ◌<◌, ◌≤◌, ◌++◌, length, take, if◌then◌else◌, nat_eq, slice_index};
+ghost use Rattle.std.specs.Prelude.{◌≡◌, ℕ, ◌+◌, ◌-◌, ◌<◌, ◌≤◌, ◌++◌, length, take, if◌then◌else◌, nat_eq, slice_index};
 ghost use Rattle.table_closure.specs.Inner.{innerb, inner_rows, Stands, InnerList};
 ghost use Rattle.columns.specs.Columns.{laid};
 ghost use Rattle.table.specs.Lts.{Valid, lts};

@@ -1,6 +1,6 @@
 -- How much stack and how many turns a sort takes: at most m + 1 entries at any moment, and at most 2n + m turns. A turn that visits
 -- a state finds its stretch, in log m steps, and reads it, and each state is visited once: all in all (n + m) log m.
-use Rattle.core.specs.Prelude.{◌≡◌, ℕ, suc, ◌+◌, ◌<◌, ◌≤◌, Bool, true, false, cond, List, [], ◌∷◌, length, get_or}
+use Rattle.std.specs.Prelude.{◌≡◌, ℕ, suc, ◌+◌, ◌<◌, ◌≤◌, Bool, true, false, cond, List, [], ◌∷◌, length, get_or}
 use native.Mathlib.Omega.{arith}
 use Rattle.columns.proofs.Sums.{sum-add, sum_mono, sum_one}
 use Rattle.table.specs.Lts.{Lts, Valid}

@@ -1,9 +1,13 @@
 -- Any two results that the contract of `sort_topological` allows are equal.
-use Rattle.columns.specs.Determined.{OneResult}
-use Rattle.columns.proofs.Determined.{skip, determined}
+use Rattle.std.specs.Prelude.{ℕ, Bool, List}
+use Rattle.columns.specs.Answers.{said}
+use Rattle.columns.specs.Determined.{Determined}
+use Rattle.columns.proofs.Determined.{determined}
 use Rattle.columns.proofs.Saying.{same_answer}
-use Rattle.table_order.proofs.sort_topological as call
+use Rattle.table.specs.Lts.{Lts}
+use Rattle.table_order.specs.Call.{sort_topological}
 
--- the places, the marks and the stack
-pub sort_topological_lem : OneResult call.ended call.Reads.Learnt
-sort_topological_lem κs a r q x y = determined same_answer (λ c. skip 6 (c.0, (c.1.0, (c.1.1, tt)))) r q
+pub sort_topological_lem :
+    (t : Lts) (hidden reversed : Bool) (places marks stack : List ℕ) →
+    Determined said (sort_topological t hidden reversed places marks stack)
+sort_topological_lem t hidden reversed places marks stack = determined same_answer

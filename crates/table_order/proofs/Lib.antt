@@ -16,3 +16,4 @@ pub mod Theorems
 pub mod Absences
 pub mod Bounds
 pub mod Determined
+pub mod OneResult

@@ -1,5 +1,5 @@
 -- Lists of numbers: membership as a test, places, visits in order; and a test of some number below a bound.
-use Rattle.core.specs.Prelude.{◌≡◌, ℕ, suc, ◌+◌, true, false, eqb, ◌⊎◌, List, [], ◌∷◌, length}
+use Rattle.std.specs.Prelude.{◌≡◌, ℕ, suc, ◌+◌, true, false, eqb, ◌⊎◌, List, [], ◌∷◌, length}
 use mathlib.Core.Path.{refl}
 use mathlib.Core.Logic.{inl, inr, ⊎_elim}
 use mathlib.Core.List.Memᴰ

@@ -1,5 +1,5 @@
 -- The whole sort, on columns: where it starts, and what its marks say at the end.
-use Rattle.core.specs.Prelude.{◌≡◌, ℕ, ◌+◌, ◌<◌, ◌≤◌, Bool, true, false, not, List, get_or}
+use Rattle.std.specs.Prelude.{◌≡◌, ℕ, ◌+◌, ◌<◌, ◌≤◌, Bool, true, false, not, List, get_or}
 use mathlib.Core.Path.{refl, sym, ap, ◌∙◌}
 use Rattle.columns.specs.Columns.{over, written, zeros}
 use Rattle.columns.proofs.Bools.{fails}

@@ -1,6 +1,6 @@
 -- What `sort_topological` has done where it says done, in document 01's words, and when it says 11. t is the table that is lent; `places`,
 -- `marks` and `stack` are what the result column and the work slices held, `left`, `marks₁` and `stack₁` what they hold at return.
-use Rattle.core.specs.Prelude.{◌≡◌, ℕ, ◌<◌, Bool, true, false, cond, List, [], length, get_or}
+use Rattle.std.specs.Prelude.{◌≡◌, ℕ, ◌<◌, Bool, true, false, cond, List, [], length, get_or}
 use mathlib.Core.Path.{refl, sym, ap, subst, ◌∙◌}
 use native.Mathlib.Omega.{arith}
 use Rattle.columns.specs.declared.answers.Refusal.{Refusal}

@@ -1,5 +1,5 @@
 -- The whole call: what refuses it, what it says, and what it leaves in the columns.
-use Rattle.core.specs.Prelude.{ℕ, Bool, cond, ◌&&◌, List, [], ◌∷◌, length, nat_le}
+use Rattle.std.specs.Prelude.{ℕ, Bool, cond, ◌&&◌, List, [], ◌∷◌, length, nat_le}
 use Rattle.columns.specs.declared.answers.Refusal.{Refusal}
 use Rattle.columns.specs.Answers.{Said, done, refused, unless}
 use Rattle.columns.specs.Columns.{written, cleared}

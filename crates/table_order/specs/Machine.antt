@@ -1,7 +1,7 @@
 -- Loop invariants of the search with a stack: what the proofs go by, nothing that a contract of an operation says. They say what the stack,
 -- the marks and the count have to do with the visits between two turns.
 -- A mark is 0 for a state not yet visited, 1 for one on the way, and 2 and its place for a finished one.
-use Rattle.core.specs.Prelude.{◌≡◌, ℕ, zero, suc, ◌+◌, ◌<◌, ◌≤◌, Bool, true, cond, ◌⊎◌, List, [], ◌∷◌, length, ◌==◌, slice_index}
+use Rattle.std.specs.Prelude.{◌≡◌, ℕ, zero, suc, ◌+◌, ◌<◌, ◌≤◌, Bool, true, cond, ◌⊎◌, List, [], ◌∷◌, length, ◌==◌, slice_index}
 use Rattle.columns.specs.Counting.{sum}
 use Rattle.columns.specs.Sets.{Mem}
 use Rattle.table.specs.Reach.{Walk}

@@ -1,5 +1,5 @@
 -- The topological order of document 01: depth first from 0 upward, the last listed successor first, by finishing.
-use Rattle.core.specs.Prelude.{ℕ, zero, suc, Bool, cond, not, ◌&&◌, List, [], ◌∷◌, length, ◌==◌, nat_eq}
+use Rattle.std.specs.Prelude.{ℕ, zero, suc, Bool, cond, not, ◌&&◌, List, [], ◌∷◌, length, ◌==◌, nat_eq}
 use Rattle.columns.specs.Counting.{some}
 use Rattle.columns.specs.Rows.{rows_of}
 use Rattle.columns.specs.Sets.{Row, among}

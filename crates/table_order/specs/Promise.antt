@@ -1,5 +1,5 @@
 -- What document 01 says of the order, in terms of steps.
-use Rattle.core.specs.Prelude.{◌≡◌, ℕ, ◌<◌, Bool, true, false, ◌≢◌}
+use Rattle.std.specs.Prelude.{◌≡◌, ℕ, ◌<◌, Bool, true, false, ◌≢◌}
 use Rattle.table.specs.Lts.{Lts, Step}
 use Rattle.table.specs.Reach.{Way, takes}
 

@@ -1,5 +1,5 @@
 -- Loop invariants of the turns of the search with a stack (Machine): what the proofs go by, nothing that a contract of an operation says.
-use Rattle.core.specs.Prelude.{◌≡◌, ℕ, suc, ◌+◌, ◌-◌, ◌<◌, ◌≤◌, Bool, true, false, cond, List, length, ◌≢◌, slice_index}
+use Rattle.std.specs.Prelude.{◌≡◌, ℕ, suc, ◌+◌, ◌-◌, ◌<◌, ◌≤◌, Bool, true, false, cond, List, length, ◌≢◌, slice_index}
 use Rattle.columns.specs.Sets.{Mem}
 use Rattle.table_order.specs.Order.{counts}
 use Rattle.table_order.specs.Machine.{stack_of, push_all, keep, new_in, left, Cycle, Machine, Idle}

@@ -1,5 +1,5 @@
 // What other crates call once a table is checked. No entry points: each says what it requires.
-ghost use Rattle.core.specs.Prelude.{◌≡◌, ℕ, ◌+◌, ◌<◌, ◌≤◌, not, List, length, slice_index};
+ghost use Rattle.std.specs.Prelude.{◌≡◌, ℕ, ◌+◌, ◌<◌, ◌≤◌, not, List, length, slice_index};
 ghost use Rattle.columns.specs.Columns.{written};
 ghost use Rattle.table.specs.Lts.{Valid, lts};
 ghost use Rattle.table_order.specs.Order.{next, has_cycle};

@@ -1,7 +1,7 @@
 -- `put_file` meets its contract.
 use native.Mathlib.Omega.{arith}
 use borrow.Author.Rules.{rules}
-use Rattle.core.specs.Prelude.{ℕ, List, [], ◌∷◌, length}
+use Rattle.std.specs.Prelude.{ℕ, List, [], ◌∷◌, length}
 use mathlib.Core.Path.{refl, ap, ◌∙◌}
 use Rattle.columns.specs.Answers.{done, refusal, none}
 use Rattle.columns.specs.Columns.{over}

@@ -1,6 +1,6 @@
 -- `put_reduced` meets its contract.
 use native.Mathlib.Omega.{arith}
-use Rattle.core.specs.Prelude.{ℕ, List, length, get_or}
+use Rattle.std.specs.Prelude.{ℕ, List, length, get_or}
 use mathlib.Core.Path.{ap, ◌∙◌}
 use Rattle.file_reduction.proofs.Ties.{put_reduced, few_blocks, few_rows}
 use Rattle.reduction.proofs.Entries.{length-blocks}

@@ -1,7 +1,7 @@
 -- `reduce_checked` meets its contract.
 use native.Mathlib.Omega.{arith}
 use borrow.Author.Rules.{rules}
-use Rattle.core.specs.Prelude.{◌≡◌, ◌≤◌, take}
+use Rattle.std.specs.Prelude.{◌≡◌, ◌≤◌, take}
 use mathlib.Core.Path.{ap, sym, subst⁻¹, ◌∙◌}
 use lib.Seq.{length-take-le}
 use Rattle.columns.specs.Limits.{max_rows}

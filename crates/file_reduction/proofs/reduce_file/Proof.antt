@@ -1,6 +1,6 @@
 -- `reduce_file` meets its contract.
 use borrow.Author.Rules.{rules}
-use Rattle.core.specs.Prelude.{◌≡◌, true, [], ◌∷◌, length}
+use Rattle.std.specs.Prelude.{◌≡◌, true, [], ◌∷◌, length}
 use mathlib.Core.Path.{refl, ap, ◌∙◌}
 use Rattle.columns.specs.Answers.{leaving}
 use Rattle.columns.specs.Columns.{over}

@@ -1,6 +1,6 @@
 -- `rows_between` meets its contract.
 use native.Mathlib.Omega.{arith}
-use Rattle.core.specs.Prelude.{◌≡◌, ℕ, false, List, length}
+use Rattle.std.specs.Prelude.{◌≡◌, ℕ, false, List, length}
 use mathlib.Core.Path.{ap, ◌∙◌}
 use Rattle.columns.specs.Blocks.{block_of}
 use Rattle.columns.specs.Sets.{Row}

@@ -1,6 +1,6 @@
 -- `is_subset_of` meets its contract.
 use borrow.Author.Rules.{rules}
-use Rattle.core.specs.Prelude.{Bool, [], ◌∷◌}
+use Rattle.std.specs.Prelude.{Bool, [], ◌∷◌}
 use mathlib.Core.Path.{sym, ap, ◌∙◌}
 use Rattle.columns.specs.declared.answers.Refusal.{Refusal}
 use Rattle.columns.specs.Answers.{done}

@@ -1,7 +1,7 @@
 -- `quotient_lts_naive` meets its contract.
 use borrow.Author.Rules.{rules}
 use native.Mathlib.Omega.{arith}
-use Rattle.core.specs.Prelude.{◌≡◌, ℕ, Bool, List, [], ◌∷◌}
+use Rattle.std.specs.Prelude.{◌≡◌, ℕ, Bool, List, [], ◌∷◌}
 use mathlib.Core.Path.{refl, ap, ap₂, ◌∙◌}
 use Rattle.columns.specs.Answers.{done}
 use Rattle.columns.specs.Due.{due}

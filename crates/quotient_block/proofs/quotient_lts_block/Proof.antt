@@ -1,7 +1,7 @@
 -- `quotient_lts_block` meets its contract.
 use borrow.Author.Rules.{rules}
 use native.Mathlib.Omega.{arith}
-use Rattle.core.specs.Prelude.{◌≡◌, ℕ, Bool, List, [], ◌∷◌}
+use Rattle.std.specs.Prelude.{◌≡◌, ℕ, Bool, List, [], ◌∷◌}
 use mathlib.Core.Path.{refl, ap, ◌∙◌}
 use Rattle.columns.specs.Due.{due}
 use Rattle.partition.specs.Partition.{Partition, parts}

@@ -1,6 +1,6 @@
 -- `remove_redundant_transitions` meets its contract.
 use borrow.Author.Rules.{rules}
-use Rattle.core.specs.Prelude.{◌≡◌, ℕ, Bool, List, [], ◌∷◌, map, length}
+use Rattle.std.specs.Prelude.{◌≡◌, ℕ, Bool, List, [], ◌∷◌, map, length}
 use mathlib.Core.Path.{ap, ◌∙◌}
 use native.Mathlib.Omega.{arith}
 use Rattle.columns.specs.Answers.{done}

@@ -1,6 +1,6 @@
 -- `reduction_refusal` meets its contract.
 use borrow.Author.Rules.{rules}
-use Rattle.core.specs.Prelude.{◌&&◌, leb}
+use Rattle.std.specs.Prelude.{◌&&◌, leb}
 use mathlib.Core.Path.{◌∙◌}
 use Rattle.columns.specs.Due.{due}
 use Rattle.reduction.specs.Reducing.{reduction_refusal}

@@ -1,7 +1,7 @@
 -- `mark_backward_closure` meets its contract.
 use borrow.Author.Rules.{rules}
 use native.Mathlib.Omega.{arith}
-use Rattle.core.specs.Prelude.{◌≡◌, length}
+use Rattle.std.specs.Prelude.{◌≡◌, length}
 use mathlib.Core.Path.{refl, sym, ap, ◌∙◌}
 use Rattle.columns.specs.Columns.{zeros}
 use Rattle.table_partition.specs.Checks.{both_argument_refusal}

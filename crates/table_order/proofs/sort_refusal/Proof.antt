@@ -1,6 +1,6 @@
 -- `sort_refusal` meets its contract.
 use borrow.Author.Rules.{rules}
-use Rattle.core.specs.Prelude.{Bool, ◌&&◌, leb}
+use Rattle.std.specs.Prelude.{Bool, ◌&&◌, leb}
 use mathlib.Core.Path.{ap, ◌∙◌}
 use Rattle.columns.specs.Due.{due}
 use Rattle.table.specs.Checks.{table_tests}

@@ -1,7 +1,7 @@
 -- `sort_topological` meets its contract.
 use borrow.Author.Rules.{rules}
 use mathlib.Core.Path.{sym, ap, ◌∙◌}
-use Rattle.core.specs.Prelude.{Bool, cond, [], length}
+use Rattle.std.specs.Prelude.{Bool, cond, [], length}
 use Rattle.columns.specs.declared.answers.Refusal.{Refusal}
 use Rattle.columns.specs.Answers.{done, refused}
 use Rattle.columns.specs.Limits.{cyclic}

@@ -1,7 +1,7 @@
 -- `checks.length_refusal` meets its contract.
 use native.Mathlib.Omega.{arith}
 use borrow.Author.Rules.{rules}
-use Rattle.core.specs.Prelude.{◌+◌, ◌*◌, eqb, leb, [], ◌∷◌}
+use Rattle.std.specs.Prelude.{◌+◌, ◌*◌, eqb, leb, [], ◌∷◌}
 use mathlib.Core.Path.{refl, ◌∙◌}
 use Rattle.columns.specs.Due.{test}
 use Rattle.columns.specs.Limits.{wrong_contents}

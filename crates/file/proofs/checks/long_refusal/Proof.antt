@@ -1,7 +1,7 @@
 -- `checks.long_refusal` meets its contract.
 use native.Mathlib.Omega.{arith}
 use borrow.Author.Rules.{rules}
-use Rattle.core.specs.Prelude.{true, []}
+use Rattle.std.specs.Prelude.{true, []}
 use mathlib.Core.Path.{refl, ap, ◌∙◌}
 use Rattle.columns.specs.Due.{due}
 use Rattle.columns.proofs.Chains.{passed, ends, goes_on_lem}

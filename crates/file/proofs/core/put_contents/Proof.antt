@@ -1,7 +1,7 @@
 -- `core.put_contents` meets its contract.
 use native.Mathlib.Omega.{arith}
 use borrow.Author.Rules.{rules}
-use Rattle.core.specs.Prelude.{◌*◌, ◌++◌}
+use Rattle.std.specs.Prelude.{◌*◌, ◌++◌}
 use Rattle.file.specs.Bytes.{bytes_of}
 use Rattle.file.specs.Layout.{header_kind, rows_kind, blocks_kind, header_size, row_size, block_size, output_header, output_rows}
 use Rattle.file.specs.Output.{entry, output_blocks, output_contents}

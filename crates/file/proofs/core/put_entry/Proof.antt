@@ -1,7 +1,7 @@
 -- `core.put_entry` meets its contract.
 use native.Mathlib.Omega.{arith}
 use borrow.Author.Rules.{rules}
-use Rattle.core.specs.Prelude.{◌+◌, ◌++◌}
+use Rattle.std.specs.Prelude.{◌+◌, ◌++◌}
 use Rattle.file.specs.Bytes.{bytes_of}
 use Rattle.file.specs.Output.{entry}
 use Rattle.file.proofs.Stores.{sets_then, length-bytes}

@@ -1,6 +1,6 @@
 -- `core.put_rows` meets its contract.
 use native.Mathlib.Omega.{arith}
-use Rattle.core.specs.Prelude.{◌-◌}
+use Rattle.std.specs.Prelude.{◌-◌}
 use mathlib.Core.Path.{refl}
 use Rattle.file.specs.Layout.{row_size, output_rows}
 use Rattle.file.specs.Output.{row_bytes, rows_bytes}

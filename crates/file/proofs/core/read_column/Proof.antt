@@ -1,6 +1,6 @@
 -- `core.read_column` meets its contract.
 use native.Mathlib.Omega.{arith}
-use Rattle.core.specs.Prelude.{◌+◌, ◌-◌, ◌*◌}
+use Rattle.std.specs.Prelude.{◌+◌, ◌-◌, ◌*◌}
 use mathlib.Core.Path.{refl}
 use Rattle.columns.proofs.Lists.{Painted, painted_none, painted_more, painted_done}
 use Rattle.file.specs.Bytes.{little}

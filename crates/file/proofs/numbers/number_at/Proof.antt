@@ -1,6 +1,6 @@
 -- `numbers.number_at` meets its contract.
 use native.Mathlib.Omega.{arith}
-use Rattle.core.specs.Prelude.{◌-◌}
+use Rattle.std.specs.Prelude.{◌-◌}
 use mathlib.Core.Path.{refl}
 use Rattle.file.proofs.Digits.{Read, read_none, read_more, read_done, read_few}
 use Rattle.file.proofs.numbers.number_at.Statement.{statement}

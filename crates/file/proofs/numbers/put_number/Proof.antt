@@ -1,6 +1,6 @@
 -- `numbers.put_number` meets its contract.
 use native.Mathlib.Omega.{arith}
-use Rattle.core.specs.Prelude.{◌+◌, ◌-◌}
+use Rattle.std.specs.Prelude.{◌+◌, ◌-◌}
 use Rattle.file.proofs.Digits.{Put, put_none, put_more, put_done}
 use Rattle.file.proofs.numbers.put_number.Statement.{statement}
 use Rattle.file.proofs.numbers.put_number.Tie as tie

@@ -1,6 +1,6 @@
 -- `numbers.put_words` meets its contract.
 use native.Mathlib.Omega.{arith}
-use Rattle.core.specs.Prelude.{◌-◌, length, get_or}
+use Rattle.std.specs.Prelude.{◌-◌, length, get_or}
 use mathlib.Core.Path.{refl}
 use Rattle.file.specs.Bytes.{bytes_of, words}
 use Rattle.file.proofs.Stores.{Stored, stored_none, stored_more, stored_done, length-bytes}

@@ -1,7 +1,7 @@
 -- `reading.read_file` meets its contract.
 use native.Mathlib.Omega.{arith}
 use borrow.Author.Rules.{rules}
-use Rattle.core.specs.Prelude.{◌≡◌}
+use Rattle.std.specs.Prelude.{◌≡◌}
 use mathlib.Core.Path.{refl, ap, ◌∙◌}
 use Rattle.columns.specs.Answers.{done}
 use Rattle.columns.proofs.Saying.{left_refused, left_done}

@@ -2,7 +2,7 @@
 use native.Mathlib.Omega.{arith}
 use borrow.Author.Rules.{rules}
 use borrow.Author.Tests.{lt-leb}
-use Rattle.core.specs.Prelude.{◌-◌, ◌≤◌, get_or}
+use Rattle.std.specs.Prelude.{◌-◌, ◌≤◌, get_or}
 use mathlib.Core.Path.{◌∙◌}
 use Rattle.columns.proofs.Firsts.{NoneBelow, none_more}
 use Rattle.file.proofs.Outputs.{outside, blocks_right, block_wrong}

@@ -1,7 +1,7 @@
 -- `writing.write_refusal` meets its contract.
 use borrow.Author.Rules.{rules}
 use borrow.Author.Tests.{leb-true}
-use Rattle.core.specs.Prelude.{◌≡◌, ℕ, ◌≤◌, leb, List, [], ◌∷◌, length}
+use Rattle.std.specs.Prelude.{◌≡◌, ℕ, ◌≤◌, leb, List, [], ◌∷◌, length}
 use mathlib.Core.Path.{refl, ap, ◌∙◌}
 use Rattle.columns.specs.Due.{Test, due, states_test, room_test}
 use Rattle.columns.proofs.Chains.{passed, chained, ends, goes_on_lem}

@@ -1,7 +1,7 @@
 -- `checks.list_refusal` meets its contract.
 use borrow.Author.Rules.{rules}
 use native.Mathlib.Omega.{arith}
-use Rattle.core.specs.Prelude.{ℕ, leb, [], ◌∷◌, length}
+use Rattle.std.specs.Prelude.{ℕ, leb, [], ◌∷◌, length}
 use mathlib.Core.Path.{ap, ◌∙◌}
 use Rattle.columns.specs.Due.{test, due}
 use Rattle.columns.specs.Limits.{wrong_list}

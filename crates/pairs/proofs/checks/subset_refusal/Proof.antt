@@ -1,6 +1,6 @@
 -- `checks.subset_refusal` meets its contract.
 use borrow.Author.Rules.{rules}
-use Rattle.core.specs.Prelude.{[], ◌∷◌}
+use Rattle.std.specs.Prelude.{[], ◌∷◌}
 use mathlib.Core.Path.{refl, ◌∙◌}
 use Rattle.columns.proofs.Chains.{chained}
 use Rattle.pairs.specs.Pairs.{list_test}

@@ -1,7 +1,7 @@
 -- `core.pass_below` meets its contract.
 use borrow.Author.Rules.{rules}
 use native.Mathlib.Omega.{arith}
-use Rattle.core.specs.Prelude.{ℕ, ◌-◌, ◌≤◌, Bool, not}
+use Rattle.std.specs.Prelude.{ℕ, ◌-◌, ◌≤◌, Bool, not}
 use mathlib.Core.Path.{sym, ap, ◌∙◌}
 use Rattle.pairs.specs.Subset.{not_below}
 use Rattle.columns.proofs.Firsts.{NoneBelow, none_more, first_hit, first_past}

@@ -2,7 +2,7 @@
 use borrow.Author.Rules.{rules}
 use borrow.Author.Tests.{not-true, not-false}
 use native.Mathlib.Omega.{arith}
-use Rattle.core.specs.Prelude.{◌-◌, length}
+use Rattle.std.specs.Prelude.{◌-◌, length}
 use mathlib.Core.Path.{sym, ◌∙◌}
 use Rattle.pairs.specs.Subset.{not_below}
 use Rattle.pairs.proofs.Refusals.{shorter-left, shorter_right}

@@ -1,6 +1,6 @@
 -- `lists.first_bad_in` meets its contract.
 use native.Mathlib.Omega.{arith}
-use Rattle.core.specs.Prelude.{ℕ, ◌+◌, ◌-◌, ◌≤◌, length}
+use Rattle.std.specs.Prelude.{ℕ, ◌+◌, ◌-◌, ◌≤◌, length}
 use mathlib.Core.Path.{ap, ◌∙◌}
 use Rattle.columns.specs.Counting.{first}
 use Rattle.pairs.specs.Pairs.{bad_pair}

@@ -1,6 +1,6 @@
 -- `lists.first_bad_start` meets its contract.
 use native.Mathlib.Omega.{arith}
-use Rattle.core.specs.Prelude.{◌-◌, ◌≤◌}
+use Rattle.std.specs.Prelude.{◌-◌, ◌≤◌}
 use mathlib.Core.Path.{sym, ◌∙◌}
 use Rattle.pairs.specs.Lists.{bad_start}
 use Rattle.columns.proofs.Firsts.{NoneBelow, none_more, first_hit, first_past}

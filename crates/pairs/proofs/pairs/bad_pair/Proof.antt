@@ -1,7 +1,7 @@
 -- `pairs.bad_pair` meets its contract.
 use borrow.Author.Rules.{rules}
 use mathlib.Core.Path.{sym, ap, ◌∙◌}
-use Rattle.core.specs.Prelude.{not}
+use Rattle.std.specs.Prelude.{not}
 use Rattle.pairs.proofs.Refusals.{pair_before, pair_after}
 use Rattle.pairs.proofs.pairs.bad_pair.Statement.{statement}
 use Rattle.columns.specs.Rows.{pair_at}

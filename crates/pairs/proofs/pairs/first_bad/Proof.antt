@@ -1,6 +1,6 @@
 -- `pairs.first_bad` meets its contract.
 use native.Mathlib.Omega.{arith}
-use Rattle.core.specs.Prelude.{◌-◌, ◌≤◌}
+use Rattle.std.specs.Prelude.{◌-◌, ◌≤◌}
 use mathlib.Core.Path.{sym, ◌∙◌}
 use Rattle.pairs.specs.Pairs.{bad_pair}
 use Rattle.columns.proofs.Firsts.{NoneBelow, none_more, first_hit, first_past}

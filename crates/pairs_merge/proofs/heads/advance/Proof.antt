@@ -1,7 +1,7 @@
 -- `heads.advance` meets its contract.
 use borrow.Author.Rules.{rules}
 use native.Mathlib.Omega.{arith}
-use Rattle.core.specs.Prelude.{ℕ, ◌+◌}
+use Rattle.std.specs.Prelude.{ℕ, ◌+◌}
 use mathlib.Core.Path.{sym, ap, ◌∙◌}
 use Rattle.pairs_merge.specs.Merged.{wide}
 use Rattle.pairs_merge.proofs.Places.{next_low, other_low, next_high, other_high}

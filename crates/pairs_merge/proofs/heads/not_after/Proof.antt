@@ -1,7 +1,7 @@
 -- `heads.not_after` meets its contract.
 use borrow.Author.Rules.{rules}
 use native.Mathlib.Omega.{arith}
-use Rattle.core.specs.Prelude.{ℕ, not}
+use Rattle.std.specs.Prelude.{ℕ, not}
 use mathlib.Core.Path.{sym, ap, ap₂, ◌∙◌}
 use Rattle.columns.specs.Sets.{pair_lt}
 use Rattle.columns.specs.Rows.{pair_at}

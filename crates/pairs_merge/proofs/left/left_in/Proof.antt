@@ -1,6 +1,6 @@
 -- `left.left_in` meets its contract.
 use native.Mathlib.Omega.{arith}
-use Rattle.core.specs.Prelude.{◌≡◌, ◌-◌, ◌*◌, ◌≤◌, []}
+use Rattle.std.specs.Prelude.{◌≡◌, ◌-◌, ◌*◌, ◌≤◌, []}
 use mathlib.Core.Path.{sym, ap, ◌∙◌}
 use Rattle.pairs_merge.specs.Merged.{heads}
 use Rattle.pairs_merge.specs.Rest.{left_in}

@@ -2,7 +2,7 @@
 use borrow.Author.Rules.{rules}
 use mathlib.Core.Path.{◌∙◌}
 use native.Mathlib.Omega.{arith}
-use Rattle.core.specs.Prelude.{true, [], ◌∷◌, get_or}
+use Rattle.std.specs.Prelude.{true, [], ◌∷◌, get_or}
 use Rattle.columns.proofs.Saying.{asked_refused, asked_done}
 use Rattle.partition.specs.Checks.{state_refusal}
 use Rattle.partition.specs.Partition.{Partition, parts}

@@ -2,7 +2,7 @@
 use borrow.Author.Rules.{rules}
 use mathlib.Core.Path.{ap, ◌∙◌}
 use native.Mathlib.Omega.{arith}
-use Rattle.core.specs.Prelude.{Bool, true, not, [], ◌∷◌}
+use Rattle.std.specs.Prelude.{Bool, true, not, [], ◌∷◌}
 use Rattle.columns.proofs.Saying.{asked_refused, asked_done}
 use Rattle.columns.specs.Counting.{bit}
 use Rattle.partition.specs.Checks.{state_refusal}

@@ -1,6 +1,6 @@
 -- `BlockPartition.iter_block` meets its contract.
 use borrow.Author.Rules.{rules}
-use Rattle.core.specs.Prelude.{ℕ, ◌+◌, ◌*◌, true}
+use Rattle.std.specs.Prelude.{ℕ, ◌+◌, ◌*◌, true}
 use mathlib.Core.Path.{ap}
 use native.Mathlib.Omega.{arith}
 use Rattle.partition.specs.Partition.{Partition, parts}

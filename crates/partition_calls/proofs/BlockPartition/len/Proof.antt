@@ -1,7 +1,7 @@
 -- `BlockPartition.len` meets its contract.
 use borrow.Author.Rules.{rules}
 use mathlib.Core.Path.{◌∙◌}
-use Rattle.core.specs.Prelude.{[], ◌∷◌}
+use Rattle.std.specs.Prelude.{[], ◌∷◌}
 use Rattle.columns.proofs.Saying.{asked_refused, asked_done}
 use Rattle.partition.specs.Checks.{partition_refusal}
 use Rattle.partition.specs.Partition.{Partition, parts}

@@ -1,6 +1,6 @@
 -- `BlockPartition.mark_element` meets its contract.
 use borrow.Author.Rules.{rules}
-use Rattle.core.specs.Prelude.{true, []}
+use Rattle.std.specs.Prelude.{true, []}
 use Rattle.columns.proofs.Saying.{left_refused, left_done}
 use Rattle.partition.specs.Checks.{state_refusal}
 use Rattle.partition.specs.Partition.{Partition, parts}

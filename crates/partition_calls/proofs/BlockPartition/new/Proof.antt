@@ -1,7 +1,7 @@
 -- `BlockPartition.new` meets its contract.
 use borrow.Author.Rules.{rules}
 use mathlib.Core.Path.{refl}
-use Rattle.core.specs.Prelude.{[], ◌∷◌}
+use Rattle.std.specs.Prelude.{[], ◌∷◌}
 use Rattle.columns.proofs.Saying.{left_refused, left_done}
 use Rattle.partition.specs.Partition.{Partition, parts}
 use Rattle.partition.specs.Fresh.{fresh, new_refusal, new_partition}

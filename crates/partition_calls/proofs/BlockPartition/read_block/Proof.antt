@@ -1,6 +1,6 @@
 -- `BlockPartition.read_block` meets its contract.
 use borrow.Author.Rules.{rules}
-use Rattle.core.specs.Prelude.{ℕ, true, List, [], ◌∷◌, get_or}
+use Rattle.std.specs.Prelude.{ℕ, true, List, [], ◌∷◌, get_or}
 use mathlib.Core.Path.{ap, ◌∙◌}
 use native.Mathlib.Omega.{arith}
 use Rattle.columns.proofs.Saying.{asked_refused, asked_done}

@@ -1,6 +1,6 @@
 -- `BlockPartition.swap_blocks` meets its contract.
 use borrow.Author.Rules.{rules}
-use Rattle.core.specs.Prelude.{[]}
+use Rattle.std.specs.Prelude.{[]}
 use Rattle.columns.proofs.Saying.{left_refused, left_done}
 use Rattle.partition.specs.Checks.{blocks_refusal}
 use Rattle.partition.specs.Partition.{Partition, parts}

@@ -1,5 +1,5 @@
 -- `all_below` meets its contract.
-use Rattle.core.specs.Prelude.{◌≡◌, ◌-◌, ◌≤◌, true, cond, ltb, get_or}
+use Rattle.std.specs.Prelude.{◌≡◌, ◌-◌, ◌≤◌, true, cond, ltb, get_or}
 use native.Mathlib.Omega.{arith}
 use mathlib.Core.Path.{sym, ◌∙◌}
 use Rattle.columns.proofs.All.{all_none, all_more, all_fails, all_done}

@@ -1,6 +1,6 @@
 -- `below_at` meets its contract.
 use mathlib.Core.Path.{refl}
-use Rattle.core.specs.Prelude.{get_or}
+use Rattle.std.specs.Prelude.{get_or}
 use Rattle.partition_division.proofs.Noting.{below_free, below_yes, below_no}
 use borrow.Author.Tests.{not-true, not-false}
 use borrow.Author.Rules.{rules}

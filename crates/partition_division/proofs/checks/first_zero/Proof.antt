@@ -1,6 +1,6 @@
 -- `first_zero` meets its contract.
 use borrow.Author.Count.{below_more}
-use Rattle.core.specs.Prelude.{◌≡◌, ℕ, ◌-◌, ◌<◌, ◌≤◌, false, eqb, get_or}
+use Rattle.std.specs.Prelude.{◌≡◌, ℕ, ◌-◌, ◌<◌, ◌≤◌, false, eqb, get_or}
 use native.Mathlib.Omega.{arith}
 use mathlib.Core.Path.{sym, ◌∙◌}
 use Rattle.columns.proofs.Firsts.{first-is}

@@ -2,7 +2,7 @@
 use borrow.Author.Rules.{rules}
 use mathlib.Core.Path.{◌∙◌}
 use native.Mathlib.Omega.{arith}
-use Rattle.core.specs.Prelude.{ℕ, List}
+use Rattle.std.specs.Prelude.{ℕ, List}
 use Rattle.partition.specs.Partition.{Partition, parts}
 use Rattle.partition_division.proofs.Unfit.{unfit_nine, unfit_alone, unfit_dense, unfit_ten}
 use Rattle.partition_division.proofs.checks.unfit_refusal.Statement.{statement}

@@ -1,7 +1,7 @@
 -- `core.sift` meets its contract. The loop: what is left, sifted, gives what the whole gives.
 use mathlib.Core.Path.{refl, sym, ap, ◌∙◌}
 use native.Mathlib.Omega.{arith}
-use Rattle.core.specs.Prelude.{◌-◌}
+use Rattle.std.specs.Prelude.{◌-◌}
 use Rattle.partition_split.specs.Split.{chosen, sifted}
 use Rattle.partition_split.proofs.Sifting.{Sifting, sifting-start, sifting_pass, sifting-take, sifting_end, is-chosen, not_chosen}
 use Rattle.partition_split.proofs.core.sift.Statement.{statement}

@@ -1,7 +1,7 @@
 -- `core.row_stays` meets its contract.
 use borrow.Author.Rules.{rules}
 use borrow.Author.Tests.{eq-eqb, ne_eqb}
-use Rattle.core.specs.Prelude.{◌≡◌, ℕ, true, false, eqb}
+use Rattle.std.specs.Prelude.{◌≡◌, ℕ, true, false, eqb}
 use mathlib.Core.Path.{sym, ap, ◌∙◌}
 use Rattle.columns.specs.Blocks.{block_of}
 use Rattle.columns.specs.Sets.{Row}

@@ -1,7 +1,7 @@
 -- `core.select_rows` meets its contract. The loop's invariant: of the rows seen those that stay are pushed.
 use borrow.Author.Rules.{rules}
 use native.Mathlib.Omega.{arith}
-use Rattle.core.specs.Prelude.{◌-◌}
+use Rattle.std.specs.Prelude.{◌-◌}
 use mathlib.Core.Path.{sym, ◌∙◌}
 use Rattle.bisimulation.specs.Quotient.{between}
 use Rattle.columns.specs.Blocks.{block_of}

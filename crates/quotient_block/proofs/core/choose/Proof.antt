@@ -2,7 +2,7 @@
 use borrow.Author.Rules.{rules}
 use borrow.Author.Tests.{not-true, not-false}
 use native.Mathlib.Omega.{arith}
-use Rattle.core.specs.Prelude.{ℕ}
+use Rattle.std.specs.Prelude.{ℕ}
 use mathlib.Core.Path.{◌∙◌}
 use Rattle.quotient_block.specs.Bottom.{bottom_from}
 use Rattle.quotient_block.proofs.Choosing.{choice-first, choice-walked}

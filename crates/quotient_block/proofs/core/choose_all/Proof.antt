@@ -1,7 +1,7 @@
 -- `core.choose_all` meets its contract. The loop's invariant: the blocks below b have a state, which stands in their cells.
 use borrow.Author.Rules.{rules}
 use native.Mathlib.Omega.{arith}
-use Rattle.core.specs.Prelude.{◌≡◌, ℕ, ◌-◌, ◌<◌, length, get_or}
+use Rattle.std.specs.Prelude.{◌≡◌, ℕ, ◌-◌, ◌<◌, length, get_or}
 use mathlib.Core.Path.{sym, ap, subst, ◌∙◌}
 use Rattle.quotient_block.specs.Chosen.{first_state, choice, lacking}
 use Rattle.quotient_block.proofs.Choosing.{

@@ -2,7 +2,7 @@
 use borrow.Author.Rules.{rules}
 use native.Mathlib.Omega.{arith}
 use mathlib.Core.Path.{ap, ◌∙◌}
-use Rattle.core.specs.Prelude.{List, length}
+use Rattle.std.specs.Prelude.{List, length}
 use Rattle.columns.specs.Columns.{zeros}
 use Rattle.columns.specs.Sets.{Row}
 use Rattle.table.specs.Tables.{rows_over}

@@ -1,7 +1,7 @@
 -- `core.find_bottom` meets its contract. The loop's invariant: after k steps the walk is at u, and has met no bottom state before.
 use borrow.Author.Rules.{rules}
 use native.Mathlib.Omega.{arith}
-use Rattle.core.specs.Prelude.{◌+◌, ◌-◌}
+use Rattle.std.specs.Prelude.{◌+◌, ◌-◌}
 use Rattle.quotient_block.proofs.Walks.{Walking, walk_start, walk_row, walk_more, walk_found, walk_lost}
 use Rattle.table.specs.Lts.{Lts, lts}
 use Rattle.quotient_block.proofs.core.find_bottom.Statement.{statement}

@@ -1,7 +1,7 @@
 -- `core.inner_row` meets its contract.
 use borrow.Author.Rules.{rules}
 use borrow.Author.Tests.{eq-eqb, ne_eqb}
-use Rattle.core.specs.Prelude.{ℕ, eqb}
+use Rattle.std.specs.Prelude.{ℕ, eqb}
 use mathlib.Core.Path.{sym, ap, ap₂, ◌∙◌}
 use Rattle.columns.specs.Blocks.{block_of}
 use Rattle.quotient_block.proofs.Walks.{inert_visible, inert_loop, inert_other}

@@ -1,7 +1,7 @@
 -- `core.quotient_block` meets its contract.
 use borrow.Author.Rules.{rules}
 use native.Mathlib.Omega.{arith}
-use Rattle.core.specs.Prelude.{ℕ, ◌≤◌, [], ◌∷◌}
+use Rattle.std.specs.Prelude.{ℕ, ◌≤◌, [], ◌∷◌}
 use mathlib.Core.Path.{ap, ap₂, ◌∙◌}
 use Rattle.columns.specs.declared.answers.Refusal.{Refusal}
 use Rattle.columns.specs.Answers.{done, refused}

@@ -1,7 +1,7 @@
 -- `core.row_chosen` meets its contract.
 use borrow.Author.Rules.{rules}
 use borrow.Author.Tests.{eq-eqb, ne_eqb}
-use Rattle.core.specs.Prelude.{◌≡◌, ℕ, ◌<◌, length, get_or}
+use Rattle.std.specs.Prelude.{◌≡◌, ℕ, ◌<◌, length, get_or}
 use mathlib.Core.Path.{sym, ap, subst, ◌∙◌}
 use Rattle.columns.specs.Blocks.{block_of}
 use Rattle.columns.specs.Sets.{Row}

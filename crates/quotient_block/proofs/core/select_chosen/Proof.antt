@@ -1,7 +1,7 @@
 -- `core.select_chosen` meets its contract. The loop's invariant: of the rows seen those of chosen states are pushed.
 use borrow.Author.Rules.{rules}
 use native.Mathlib.Omega.{arith}
-use Rattle.core.specs.Prelude.{◌-◌, get_or}
+use Rattle.std.specs.Prelude.{◌-◌, get_or}
 use mathlib.Core.Path.{sym, ◌∙◌}
 use Rattle.bisimulation.specs.Quotient.{between}
 use Rattle.columns.specs.Blocks.{block_of}

@@ -1,7 +1,7 @@
 -- `core.way_on` meets its contract. The loop's invariant: no row seen leads on.
 use borrow.Author.Rules.{rules}
 use native.Mathlib.Omega.{arith}
-use Rattle.core.specs.Prelude.{◌-◌}
+use Rattle.std.specs.Prelude.{◌-◌}
 use Rattle.quotient_block.specs.Bottom.{leads_on}
 use Rattle.quotient_block.proofs.Walks.{Looking, look_start, look_more, look_hit, look_none}
 use Rattle.table.specs.Lts.{Lts, lts}

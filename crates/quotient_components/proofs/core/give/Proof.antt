@@ -1,6 +1,6 @@
 -- `core.give` meets its contract.
 use borrow.Author.Rules.{rules}
-use Rattle.core.specs.Prelude.{ℕ, ◌-◌, List, length, get_or}
+use Rattle.std.specs.Prelude.{ℕ, ◌-◌, List, length, get_or}
 use mathlib.Core.Path.{refl, ap, ◌∙◌}
 use native.Mathlib.Omega.{arith}
 use Rattle.columns.specs.Columns.{listed}

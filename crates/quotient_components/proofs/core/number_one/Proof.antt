@@ -2,7 +2,7 @@
 use borrow.Author.Rules.{rules}
 use mathlib.Core.Path.{sym, refl, ap, ◌∙◌}
 use native.Mathlib.Omega.{arith}
-use Rattle.core.specs.Prelude.{length}
+use Rattle.std.specs.Prelude.{length}
 use Rattle.table.specs.Lts.{Lts, lts}
 use Rattle.table.proofs.Starts.{part_starts}
 use Rattle.quotient_components.proofs.Numbering.{length-numbered, fresh_leads, number_more}

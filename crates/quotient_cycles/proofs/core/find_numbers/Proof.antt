@@ -1,5 +1,5 @@
 -- `core.find_numbers` meets its contract.
-use Rattle.core.specs.Prelude.{◌≡◌, ℕ, List, get_or}
+use Rattle.std.specs.Prelude.{◌≡◌, ℕ, List, get_or}
 use mathlib.Core.Path.{ap, ◌∙◌}
 use native.Mathlib.Omega.{arith}
 use Rattle.columns.specs.Columns.{listed, written}

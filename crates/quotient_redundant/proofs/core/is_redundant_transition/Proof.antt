@@ -1,6 +1,6 @@
 -- `core.is_redundant_transition` meets its contract. The loop's invariant: no row before j is a witness.
 use borrow.Author.Rules.{rules}
-use Rattle.core.specs.Prelude.{◌-◌, ◌≤◌}
+use Rattle.std.specs.Prelude.{◌-◌, ◌≤◌}
 use mathlib.Core.Path.{sym, ◌∙◌}
 use native.Mathlib.Omega.{arith}
 use Rattle.columns.proofs.Firsts.{NoneBelow, none_more, some_in, some-none}

@@ -2,7 +2,7 @@
 use borrow.Author.Rules.{rules}
 use borrow.Author.Tests.{not-true, not-false}
 use mathlib.Core.Path.{sym, ap, ap₂, ◌∙◌}
-use Rattle.core.specs.Prelude.{ℕ, not, ◌&&◌, eqb, length, get_or}
+use Rattle.std.specs.Prelude.{ℕ, not, ◌&&◌, eqb, length, get_or}
 use native.Mathlib.Omega.{arith}
 use Rattle.table.specs.Lts.{Lts, lts}
 use Rattle.quotient_redundant.proofs.Testing.{length_from, length_into, witness-rival, witness-marks}

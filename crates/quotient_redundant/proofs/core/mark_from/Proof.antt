@@ -1,6 +1,6 @@
 -- `core.mark_from` meets its contract.
 use borrow.Author.Rules.{rules}
-use Rattle.core.specs.Prelude.{ℕ}
+use Rattle.std.specs.Prelude.{ℕ}
 use mathlib.Core.Path.{ap, ◌∙◌}
 use native.Mathlib.Omega.{arith}
 use Rattle.table.specs.Lts.{Lts, lts}

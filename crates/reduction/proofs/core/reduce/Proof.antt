@@ -1,7 +1,7 @@
 -- `core.reduce` meets its contract.
 use borrow.Author.Rules.{rules}
 use native.Mathlib.Omega.{arith}
-use Rattle.core.specs.Prelude.{◌≡◌, ℕ, false, List, length}
+use Rattle.std.specs.Prelude.{◌≡◌, ℕ, false, List, length}
 use mathlib.Core.Path.{ap, ◌∙◌}
 use Rattle.columns.specs.Blocks.{block_of}
 use Rattle.columns.specs.Columns.{zeros}

@@ -2,7 +2,7 @@
 use borrow.Author.Rules.{rules}
 use native.Mathlib.Omega.{arith}
 use mathlib.Core.Path.{refl, sym, ap, ◌∙◌}
-use Rattle.core.specs.Prelude.{◌+◌, length, take}
+use Rattle.std.specs.Prelude.{◌+◌, length, take}
 use Rattle.columns.proofs.Lists.{take-zeros, still_zeros}
 use Rattle.columns.proofs.Parts.{length_fronted}
 use Rattle.partition.specs.Partition.{Partition, parts}

@@ -2,7 +2,7 @@
 use borrow.Author.Rules.{rules}
 use native.Mathlib.Omega.{arith}
 use mathlib.Core.Path.{refl, ap, subst, ◌∙◌}
-use Rattle.core.specs.Prelude.{◌+◌, length, take}
+use Rattle.std.specs.Prelude.{◌+◌, length, take}
 use Rattle.partition.specs.Partition.{Partition, parts}
 use Rattle.refinement_rounds.proofs.Rooms.{behind_room, lent_clear, lent-cell, lent_length, lent-store, sound_front}
 use Rattle.refinement_rounds.proofs.Steps.{by_signatures}

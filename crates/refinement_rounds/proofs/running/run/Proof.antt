@@ -1,7 +1,7 @@
 -- `running.run` meets its contract. The loop's invariant: `rounds` rounds have split something, and the partition is what they leave.
 use borrow.Author.Rules.{rules}
 use native.Mathlib.Omega.{arith}
-use Rattle.core.specs.Prelude.{◌≡◌, ◌-◌, length}
+use Rattle.std.specs.Prelude.{◌≡◌, ◌-◌, length}
 use mathlib.Core.Path.{refl, ◌∙◌}
 use Rattle.partition.specs.Partition.{Partition, parts}
 use Rattle.refinement.specs.Rounds.{ByBlocks}

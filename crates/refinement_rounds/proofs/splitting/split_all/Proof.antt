@@ -1,6 +1,6 @@
 -- `splitting.split_all` meets its contract. The loop's invariant: the blocks below b are divided, and the work slices are as they were.
 use native.Mathlib.Omega.{arith}
-use Rattle.core.specs.Prelude.{◌≡◌, ℕ, ◌-◌, List, length}
+use Rattle.std.specs.Prelude.{◌≡◌, ℕ, ◌-◌, List, length}
 use mathlib.Core.Path.{refl, sym, ap, subst, ◌∙◌}
 use Rattle.columns.specs.Columns.{zeros}
 use Rattle.partition.specs.Partition.{Partition, parts}

@@ -2,7 +2,7 @@
 use native.Mathlib.Omega.{arith}
 use borrow.Author.Rules.{rules}
 use mathlib.Core.Path.{refl, sym, subst, ◌∙◌}
-use Rattle.core.specs.Prelude.{◌+◌, ◌-◌, ◌≤◌, length}
+use Rattle.std.specs.Prelude.{◌+◌, ◌-◌, ◌≤◌, length}
 use Rattle.partition.specs.Partition.{Partition, parts}
 use Rattle.partition.proofs.Standing.{stands}
 use Rattle.refinement_rounds.specs.Rooms.{store_behind}

@@ -2,7 +2,7 @@
 use borrow.Author.Rules.{rules}
 use borrow.Author.Tests.{lt-ltb, le-ltb}
 use native.Mathlib.Omega.{arith}
-use Rattle.core.specs.Prelude.{◌≡◌, ℕ, get_or}
+use Rattle.std.specs.Prelude.{◌≡◌, ℕ, get_or}
 use mathlib.Core.Path.{ap, ◌∙◌}
 use Rattle.signatures.specs.Inductive.{marked_by}
 use Rattle.signatures.proofs.core.marked.Statement.{statement}

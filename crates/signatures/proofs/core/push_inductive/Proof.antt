@@ -1,7 +1,7 @@
 -- `core.push_inductive` meets its contract. The loop's invariant: the pairs of the rows seen are pushed.
 use borrow.Author.Rules.{rules}
 use native.Mathlib.Omega.{arith}
-use Rattle.core.specs.Prelude.{ℕ, ◌-◌, ◌<◌, cond, ◌&&◌, eqb, [], map, get_or}
+use Rattle.std.specs.Prelude.{ℕ, ◌-◌, ◌<◌, cond, ◌&&◌, eqb, [], map, get_or}
 use mathlib.Core.Path.{ap, ap₂, ◌∙◌}
 use Rattle.columns.proofs.TwoColumns.{pairs-none}
 use Rattle.signatures.specs.Inductive.{marked_by, keyed_at, inductive_pushed}

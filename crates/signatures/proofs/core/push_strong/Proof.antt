@@ -1,7 +1,7 @@
 -- `core.push_strong` meets its contract. The loop's invariant: the pairs of the rows seen are pushed.
 use borrow.Author.Rules.{rules}
 use native.Mathlib.Omega.{arith}
-use Rattle.core.specs.Prelude.{ℕ, ◌-◌, eqb, [], get_or}
+use Rattle.std.specs.Prelude.{ℕ, ◌-◌, eqb, [], get_or}
 use mathlib.Core.Path.{sym, ap}
 use Rattle.columns.proofs.TwoColumns.{pairs-none}
 use Rattle.signatures.specs.Strong.{own_rows, row_pair, strong_pushed}

@@ -1,7 +1,7 @@
 -- `flat.sign` meets its contract.
 use borrow.Author.Rules.{rules}
 use borrow.Author.Tests.{not-true, not-false}
-use Rattle.core.specs.Prelude.{◌≡◌, ℕ, Bool, true, false, List, [], ◌∷◌, length}
+use Rattle.std.specs.Prelude.{◌≡◌, ℕ, Bool, true, false, List, [], ◌∷◌, length}
 use mathlib.Core.Path.{sym, ap, ◌∙◌}
 use Rattle.columns.specs.Answers.{done, refused}
 use Rattle.columns.specs.Columns.{zeros}

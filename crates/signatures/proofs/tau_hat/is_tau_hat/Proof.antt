@@ -1,7 +1,7 @@
 -- `tau_hat.is_tau_hat` meets its contract.
 use borrow.Author.Rules.{rules}
 use mathlib.Core.Path.{◌∙◌}
-use Rattle.core.specs.Prelude.{eqb, [], ◌∷◌}
+use Rattle.std.specs.Prelude.{eqb, [], ◌∷◌}
 use Rattle.columns.specs.Counting.{bit}
 use Rattle.columns.proofs.Saying.{asked_refused, asked_done}
 use Rattle.signatures.specs.TauHat.{labels_refusal, is_tau_hat}

@@ -1,7 +1,7 @@
 -- `tau_hat.tau_hat` meets its contract.
 use borrow.Author.Rules.{rules}
 use mathlib.Core.Path.{◌∙◌}
-use Rattle.core.specs.Prelude.{[], ◌∷◌}
+use Rattle.std.specs.Prelude.{[], ◌∷◌}
 use Rattle.columns.proofs.Saying.{asked_refused, asked_done}
 use Rattle.signatures.specs.TauHat.{labels_refusal, tau_hat}
 use Rattle.signatures.proofs.tau_hat.tau_hat.Statement.{statement}

@@ -1,7 +1,7 @@
 -- `core.push_outer` meets its contract. The loop's invariant: the pairs of the rows seen that leave the block or are visible are pushed.
 use borrow.Author.Rules.{rules}
 use native.Mathlib.Omega.{arith}
-use Rattle.core.specs.Prelude.{◌≡◌, ℕ, ◌+◌, ◌-◌, ◌<◌, Bool, true, not, ◌&&◌, eqb, length, get_or}
+use Rattle.std.specs.Prelude.{◌≡◌, ℕ, ◌+◌, ◌-◌, ◌<◌, Bool, true, not, ◌&&◌, eqb, length, get_or}
 use mathlib.Core.Path.{refl, sym, ap, ◌∙◌}
 use Rattle.columns.specs.Counting.{many}
 use Rattle.columns.specs.Rows.{pairs_of}

@@ -1,6 +1,6 @@
 -- `checks.sorted_refusal` meets its contract.
 use borrow.Author.Rules.{rules}
-use Rattle.core.specs.Prelude.{List, [], ◌∷◌, ◌++◌}
+use Rattle.std.specs.Prelude.{List, [], ◌∷◌, ◌++◌}
 use mathlib.Core.Path.{refl, ◌∙◌}
 use Rattle.partition.specs.Partition.{Partition, parts}
 use Rattle.columns.specs.Due.{Test, index_test}

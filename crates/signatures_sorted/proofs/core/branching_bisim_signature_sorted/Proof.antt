@@ -1,7 +1,7 @@
 -- `core.branching_bisim_signature_sorted` meets its contract: as many cells are lent as the state has rows, and come back zero.
 use borrow.Author.Rules.{rules}
 use native.Mathlib.Omega.{arith}
-use Rattle.core.specs.Prelude.{◌≡◌, ℕ, ◌-◌, ◌≤◌, List, [], ◌∷◌, length, take}
+use Rattle.std.specs.Prelude.{◌≡◌, ℕ, ◌-◌, ◌≤◌, List, [], ◌∷◌, length, take}
 use mathlib.Core.Path.{sym}
 use lib.Seq.{length-take-le}
 use Rattle.columns.proofs.Parts.{length_fronted}

@@ -1,6 +1,6 @@
 -- `core.finish` meets its contract.
 use borrow.Author.Rules.{rules}
-use Rattle.core.specs.Prelude.{ℕ, List, [], ◌∷◌}
+use Rattle.std.specs.Prelude.{ℕ, List, [], ◌∷◌}
 use mathlib.Core.Path.{ap, ◌∙◌}
 use Rattle.columns.specs.Columns.{zeros}
 use Rattle.columns.specs.Sets.{Pair}

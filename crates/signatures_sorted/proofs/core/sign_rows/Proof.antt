@@ -1,6 +1,6 @@
 -- `core.sign_rows` meets its contract: what is taken and merged is what the definition pushes.
 use native.Mathlib.Omega.{arith}
-use Rattle.core.specs.Prelude.{◌≡◌, ℕ, ◌+◌, ◌*◌, ◌≤◌, List, [], ◌∷◌, length, get_or}
+use Rattle.std.specs.Prelude.{◌≡◌, ℕ, ◌+◌, ◌*◌, ◌≤◌, List, [], ◌∷◌, length, get_or}
 use mathlib.Core.Path.{sym, ap, ap₂, ◌∙◌}
 use lib.Seq.{length-take-le}
 use Rattle.columns.specs.Columns.{zeros}

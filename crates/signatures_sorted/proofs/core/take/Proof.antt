@@ -1,7 +1,7 @@
 -- `core.take` meets its contract.
 use borrow.Author.Rules.{rules}
 use native.Mathlib.Omega.{arith}
-use Rattle.core.specs.Prelude.{◌≡◌, ℕ, ◌+◌, ◌≤◌, length, get_or}
+use Rattle.std.specs.Prelude.{◌≡◌, ℕ, ◌+◌, ◌≤◌, length, get_or}
 use mathlib.Core.Path.{ap, ap₂, ◌∙◌}
 use Rattle.columns.specs.Rows.{pairs_of}
 use Rattle.signatures_branching.specs.Branching.{outer_pairs}

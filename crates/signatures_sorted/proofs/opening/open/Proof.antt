@@ -2,7 +2,7 @@
 use borrow.Author.Rules.{rules}
 use native.Mathlib.Omega.{arith}
 use mathlib.Core.Path.{◌∙◌}
-use Rattle.core.specs.Prelude.{◌+◌}
+use Rattle.std.specs.Prelude.{◌+◌}
 use Rattle.signatures_sorted.proofs.opening.open.Statement.{statement}
 use Rattle.signatures_sorted.proofs.opening.open.Tie as tie
 

@@ -2,7 +2,7 @@
 -- heads.
 use borrow.Author.Rules.{rules}
 use native.Mathlib.Omega.{arith}
-use Rattle.core.specs.Prelude.{◌≡◌, ℕ, ◌+◌, ◌-◌, ◌<◌, Bool, true, ◌&&◌, eqb, length, get_or}
+use Rattle.std.specs.Prelude.{◌≡◌, ℕ, ◌+◌, ◌-◌, ◌<◌, Bool, true, ◌&&◌, eqb, length, get_or}
 use mathlib.Core.Path.{sym, ap, ◌∙◌}
 use Rattle.columns.proofs.Bools.{and_both, and_no_left, and_no_right}
 use Rattle.columns.proofs.Counting.{many-le, many_strict}

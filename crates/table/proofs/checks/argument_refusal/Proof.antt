@@ -1,6 +1,6 @@
 -- `checks.argument_refusal` meets its contract.
 use borrow.Author.Rules.{rules}
-use Rattle.core.specs.Prelude.{[], ◌∷◌}
+use Rattle.std.specs.Prelude.{[], ◌∷◌}
 use mathlib.Core.Path.{refl, ◌∙◌}
 use Rattle.columns.specs.Due.{index_test}
 use Rattle.columns.proofs.Chains.{chained}

@@ -1,6 +1,6 @@
 -- `checks.header_refusal` meets its contract.
 use borrow.Author.Rules.{rules}
-use Rattle.core.specs.Prelude.{Bool, ◌&&◌, ltb, leb, [], ◌∷◌}
+use Rattle.std.specs.Prelude.{Bool, ◌&&◌, ltb, leb, [], ◌∷◌}
 use mathlib.Core.Path.{refl, ap, ◌∙◌}
 use Rattle.columns.specs.Due.{test, due, states_test, labels_test}
 use Rattle.columns.specs.Limits.{max_rows, too_short, wrong_initial, wrong_rows}

@@ -1,7 +1,7 @@
 -- `checks.room_for` meets its contract.
 use borrow.Author.Rules.{rules}
 use mathlib.Core.Path.{ap₂}
-use Rattle.core.specs.Prelude.{Bool, ◌&&◌}
+use Rattle.std.specs.Prelude.{Bool, ◌&&◌}
 use Rattle.table.proofs.checks.room_for.Statement.{statement}
 use Rattle.table.proofs.checks.room_for.Tie as tie
 

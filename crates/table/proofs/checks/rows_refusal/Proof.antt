@@ -3,7 +3,7 @@ use borrow.Author.Rules.{rules}
 use borrow.Author.Tests.{not-true, not-false}
 use mathlib.Core.Path.{sym, ◌∙◌}
 use native.Mathlib.Omega.{arith}
-use Rattle.core.specs.Prelude.{◌-◌, ◌≤◌}
+use Rattle.std.specs.Prelude.{◌-◌, ◌≤◌}
 use Rattle.table.specs.Lts.{Lts, lts}
 use Rattle.table.proofs.Refusals.{Right, right_more, rows_right, rows_field, rows_above}
 use Rattle.table.proofs.checks.rows_refusal.Statement.{statement}

@@ -1,7 +1,7 @@
 -- `core.append` meets its contract.
 use borrow.Author.Rules.{rules}
 use borrow.Author.Tests.{eq-eqb, ne_eqb}
-use Rattle.core.specs.Prelude.{◌≡◌, true, false, eqb, get_or}
+use Rattle.std.specs.Prelude.{◌≡◌, true, false, eqb, get_or}
 use mathlib.Core.Path.{sym, ◌∙◌}
 use Rattle.table.specs.Search.{appended}
 use Rattle.table.proofs.core.append.Statement.{statement}

@@ -1,6 +1,6 @@
 -- `core.first_into` meets its contract.
 use native.Mathlib.Omega.{arith}
-use Rattle.core.specs.Prelude.{ℕ, ◌+◌, ◌-◌, ◌/◌, ◌<◌, ◌≤◌, get_or}
+use Rattle.std.specs.Prelude.{ℕ, ◌+◌, ◌-◌, ◌/◌, ◌<◌, ◌≤◌, get_or}
 use mathlib.Core.Path.{ap}
 use Rattle.table.specs.Stretch.{listed_target}
 use Rattle.table.proofs.RowsInto.{first_into_is}

@@ -1,6 +1,6 @@
 -- `core.first_row` meets its contract.
 use native.Mathlib.Omega.{arith}
-use Rattle.core.specs.Prelude.{ℕ, ◌+◌, ◌-◌, ◌/◌, ◌<◌, ◌≤◌, get_or}
+use Rattle.std.specs.Prelude.{ℕ, ◌+◌, ◌-◌, ◌/◌, ◌<◌, ◌≤◌, get_or}
 use Rattle.table.proofs.RowsOf.{first_row_is}
 use Rattle.table.proofs.core.first_row.Statement.{statement}
 use Rattle.table.proofs.core.first_row.Tie as tie

@@ -2,7 +2,7 @@
 use borrow.Author.Rules.{rules}
 use borrow.Author.Tests.{eq-eqb, ne_eqb}
 use mathlib.Core.Path.{sym, ap, ◌∙◌}
-use Rattle.core.specs.Prelude.{ℕ, eqb, get_or}
+use Rattle.std.specs.Prelude.{ℕ, eqb, get_or}
 use Rattle.table.specs.Hidden.{hidden_in}
 use Rattle.table.proofs.core.hidden_in.Statement.{statement}
 use Rattle.table.proofs.core.hidden_in.Tie as tie

@@ -1,7 +1,7 @@
 -- `core.incoming_rows_of` meets its contract.
 use borrow.Author.Rules.{rules}
 use native.Mathlib.Omega.{arith}
-use Rattle.core.specs.Prelude.{◌+◌}
+use Rattle.std.specs.Prelude.{◌+◌}
 use Rattle.table.proofs.RowsInto.{first_into_up}
 use Rattle.table.proofs.core.incoming_rows_of.Statement.{statement}
 use Rattle.table.proofs.core.incoming_rows_of.Tie as tie

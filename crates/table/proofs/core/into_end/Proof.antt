@@ -1,7 +1,7 @@
 -- `core.into_end` meets its contract. The loop's invariant: no row above u is passed.
 use native.Mathlib.Omega.{arith}
 use native.Mathlib.Nat.{le_antisymm}
-use Rattle.core.specs.Prelude.{ℕ, ◌+◌, ◌-◌, ◌≤◌, get_or}
+use Rattle.std.specs.Prelude.{ℕ, ◌+◌, ◌-◌, ◌≤◌, get_or}
 use mathlib.Core.Path.{ap}
 use Rattle.table.specs.Stretch.{first_into}
 use Rattle.table.proofs.RowsInto.{before_into, from_into, first_into_most}

@@ -1,7 +1,7 @@
 -- `core.list_starts` meets its contract. The loop's invariant: i is where the rows of s begin, and the cells before s are written.
 use borrow.Author.Rules.{rules}
 use native.Mathlib.Omega.{arith}
-use Rattle.core.specs.Prelude.{◌≡◌, ℕ, ◌+◌, ◌-◌, length}
+use Rattle.std.specs.Prelude.{◌≡◌, ℕ, ◌+◌, ◌-◌, length}
 use mathlib.Core.Path.{refl, ◌∙◌}
 use Rattle.columns.specs.Columns.{listed}
 use Rattle.columns.proofs.Lists.{Painted, painted_none, painted_more, painted_done, length-listed, over-all}

@@ -1,7 +1,7 @@
 -- `core.rows_at` meets its contract.
 use borrow.Author.Rules.{rules}
 use native.Mathlib.Omega.{arith}
-use Rattle.core.specs.Prelude.{◌+◌}
+use Rattle.std.specs.Prelude.{◌+◌}
 use mathlib.Core.Path.{◌∙◌}
 use Rattle.table.proofs.core.rows_at.Statement.{statement}
 use Rattle.table.proofs.core.rows_at.Tie as tie

@@ -1,7 +1,7 @@
 -- `core.rows_of` meets its contract.
 use borrow.Author.Rules.{rules}
 use native.Mathlib.Omega.{arith}
-use Rattle.core.specs.Prelude.{◌+◌}
+use Rattle.std.specs.Prelude.{◌+◌}
 use Rattle.table.proofs.RowsOf.{first_row_up}
 use Rattle.table.proofs.core.rows_of.Statement.{statement}
 use Rattle.table.proofs.core.rows_of.Tie as tie

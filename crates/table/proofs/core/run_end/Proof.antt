@@ -1,7 +1,7 @@
 -- `core.run_end` meets its contract. The loop's invariant: no row of s + 1 or above is passed.
 use native.Mathlib.Omega.{arith}
 use native.Mathlib.Nat.{le_antisymm}
-use Rattle.core.specs.Prelude.{◌+◌, ◌-◌, ◌≤◌}
+use Rattle.std.specs.Prelude.{◌+◌, ◌-◌, ◌≤◌}
 use Rattle.table.specs.Stretch.{first_row}
 use Rattle.table.proofs.RowsOf.{before_row, from_row, first_row_most}
 use Rattle.table.proofs.core.run_end.Statement.{statement}

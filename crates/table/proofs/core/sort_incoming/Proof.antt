@@ -1,7 +1,7 @@
 -- `core.sort_incoming` meets its contract.
 use borrow.Author.Rules.{rules}
 use mathlib.Core.Path.{ap, ◌∙◌}
-use Rattle.core.specs.Prelude.{ℕ, ◌/◌}
+use Rattle.std.specs.Prelude.{ℕ, ◌/◌}
 use Rattle.columns.specs.Columns.{sort_by, wiped}
 use Rattle.table.proofs.core.sort_incoming.Statement.{statement}
 use Rattle.table.proofs.core.sort_incoming.Tie as tie

@@ -1,7 +1,7 @@
 -- `core.turn_rows` meets its contract.
 use borrow.Author.Rules.{rules}
 use mathlib.Core.Path.{refl}
-use Rattle.core.specs.Prelude.{◌<◌, ◌≤◌, length}
+use Rattle.std.specs.Prelude.{◌<◌, ◌≤◌, length}
 use native.Mathlib.Omega.{arith}
 use Rattle.table.specs.Lts.{Lts, lts}
 use Rattle.table.specs.Turned.{RowsTurned}

@@ -1,7 +1,7 @@
 -- `core.visit` meets its contract. The loop's invariant: the targets of the rows seen that are taken are marked.
 use borrow.Author.Rules.{rules}
 use native.Mathlib.Omega.{arith}
-use Rattle.core.specs.Prelude.{◌≡◌, ℕ, ◌+◌, ◌-◌, ◌<◌, ◌≤◌, Bool, List, length, get_or}
+use Rattle.std.specs.Prelude.{◌≡◌, ℕ, ◌+◌, ◌-◌, ◌<◌, ◌≤◌, Bool, List, length, get_or}
 use mathlib.Core.Path.{sym, ap, subst, ◌∙◌}
 use Rattle.columns.proofs.Bools.{contra}
 use Rattle.table.specs.Lts.{Lts, lts, Valid}

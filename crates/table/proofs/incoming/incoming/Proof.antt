@@ -2,7 +2,7 @@
 use borrow.Author.Rules.{rules}
 use mathlib.Core.Path.{sym, ap, ◌∙◌}
 use native.Mathlib.Omega.{arith}
-use Rattle.core.specs.Prelude.{[], ◌∷◌, length}
+use Rattle.std.specs.Prelude.{[], ◌∷◌, length}
 use lib.Seq.{length-take-le}
 use Rattle.columns.specs.Columns.{over, zeros, wiped}
 use Rattle.columns.proofs.Lists.{wiped-zeros}

@@ -1,6 +1,6 @@
 -- `reach.reach_refusal` meets its contract.
 use borrow.Author.Rules.{rules}
-use Rattle.core.specs.Prelude.{Bool, ◌&&◌, leb}
+use Rattle.std.specs.Prelude.{Bool, ◌&&◌, leb}
 use mathlib.Core.Path.{ap, ◌∙◌}
 use Rattle.table.specs.Checks.{table_argument_refusal}
 use Rattle.table.specs.Lts.{Lts, lts}

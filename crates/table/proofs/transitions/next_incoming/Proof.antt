@@ -1,7 +1,7 @@
 -- `transitions.next_incoming` meets its contract.
 use borrow.Author.Rules.{rules}
 use mathlib.Core.Path.{ap, ◌∙◌}
-use Rattle.core.specs.Prelude.{ℕ, [], ◌∷◌}
+use Rattle.std.specs.Prelude.{ℕ, [], ◌∷◌}
 use Rattle.columns.specs.Answers.{done}
 use Rattle.columns.proofs.Saying.{asked_refused, asked_done}
 use Rattle.table.specs.Lts.{Lts, lts}

@@ -1,7 +1,7 @@
 -- `transitions.outgoing_transitions` meets its contract.
 use borrow.Author.Rules.{rules}
 use mathlib.Core.Path.{ap₂, ◌∙◌}
-use Rattle.core.specs.Prelude.{ℕ, true, [], ◌∷◌}
+use Rattle.std.specs.Prelude.{ℕ, true, [], ◌∷◌}
 use native.Mathlib.Omega.{arith}
 use Rattle.columns.specs.Answers.{done}
 use Rattle.columns.proofs.Saying.{asked_refused, asked_done}

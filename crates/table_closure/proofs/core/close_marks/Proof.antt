@@ -1,7 +1,7 @@
 -- `core.close_marks` meets its contract. The loop: reading on from position `it` gives what is asked for.
 use borrow.Author.Rules.{rules}
 use native.Mathlib.Omega.{arith}
-use Rattle.core.specs.Prelude.{ℕ, ◌<◌, get_or}
+use Rattle.std.specs.Prelude.{ℕ, ◌<◌, get_or}
 use mathlib.Core.Path.{sym, ◌∙◌}
 use Rattle.partition.specs.Mark.{Marks, marks}
 use Rattle.table_closure.specs.Listed.{RowList, row_list}

@@ -2,7 +2,7 @@
 use borrow.Author.Tests.{lt-ltb, le-ltb}
 use native.Mathlib.Omega.{arith}
 use mathlib.Core.Path.{sym}
-use Rattle.core.specs.Prelude.{ltb}
+use Rattle.std.specs.Prelude.{ltb}
 use Rattle.columns.proofs.Bools.{and_both, and_no_left, and_no_right}
 use Rattle.table_closure.specs.Closure.{going_on}
 use Rattle.table_closure.proofs.core.going_on.Statement.{statement}

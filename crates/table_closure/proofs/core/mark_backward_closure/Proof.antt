@@ -1,6 +1,6 @@
 -- `core.mark_backward_closure` meets its contract. Where nothing is marked, or nothing is unmarked, the definition reads no position.
 use borrow.Author.Rules.{rules}
-use Rattle.core.specs.Prelude.{ℕ, false, List}
+use Rattle.std.specs.Prelude.{ℕ, false, List}
 use native.Mathlib.Omega.{arith}
 use mathlib.Core.Path.{refl, sym, ap, ◌∙◌}
 use lib.Seq.{length-take-le}

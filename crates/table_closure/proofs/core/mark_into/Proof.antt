@@ -1,6 +1,6 @@
 -- `core.mark_into` meets its contract.
 use native.Mathlib.Omega.{arith}
-use Rattle.core.specs.Prelude.{◌≡◌, ◌-◌, ◌<◌, ◌≤◌}
+use Rattle.std.specs.Prelude.{◌≡◌, ◌-◌, ◌<◌, ◌≤◌}
 use Rattle.partition.specs.Mark.{Marks, marks}
 use Rattle.table.specs.Stretch.{StretchOf}
 use Rattle.table.proofs.RowsInto.{into_stretch}

@@ -2,7 +2,7 @@
 use borrow.Author.Rules.{rules}
 use borrow.Author.Tests.{eq-eqb, ne_eqb, not-true, not-false}
 use mathlib.Core.Path.{sym, ap, ◌∙◌}
-use Rattle.core.specs.Prelude.{ℕ, get_or}
+use Rattle.std.specs.Prelude.{ℕ, get_or}
 use Rattle.columns.proofs.Bools.{and_both, and_no_left, and_no_right}
 use Rattle.table.specs.Lts.{lts}
 use Rattle.table_closure.specs.Closure.{silentb}

@@ -1,7 +1,7 @@
 -- `inner.list_state` meets its contract. The loop's invariant: the rows seen that are hidden and stay in the block are listed.
 use borrow.Author.Rules.{rules}
 use native.Mathlib.Omega.{arith}
-use Rattle.core.specs.Prelude.{◌≡◌, ℕ, ◌+◌, ◌-◌, ◌<◌, ◌≤◌, Bool, true, false, ◌&&◌, eqb, length, get_or}
+use Rattle.std.specs.Prelude.{◌≡◌, ℕ, ◌+◌, ◌-◌, ◌<◌, ◌≤◌, Bool, true, false, ◌&&◌, eqb, length, get_or}
 use mathlib.Core.Path.{sym, ◌∙◌}
 use Rattle.columns.specs.Counting.{many}
 use Rattle.columns.proofs.Bools.{and_both, and_no_left}

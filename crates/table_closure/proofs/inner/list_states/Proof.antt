@@ -1,6 +1,6 @@
 -- `inner.list_states` meets its contract. The loop's invariant: the rows of the states before position k are listed.
 use native.Mathlib.Omega.{arith}
-use Rattle.core.specs.Prelude.{◌≡◌, ℕ, ◌+◌, ◌-◌, ◌<◌, List, ◌++◌, length, get_or, take}
+use Rattle.std.specs.Prelude.{◌≡◌, ℕ, ◌+◌, ◌-◌, ◌<◌, List, ◌++◌, length, get_or, take}
 use mathlib.Core.Path.{ap, ◌∙◌}
 use Rattle.table.specs.Lts.{Lts, lts, Valid}
 use Rattle.table_closure.specs.Inner.{inner_rows, Stands}

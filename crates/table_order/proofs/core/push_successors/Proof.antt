@@ -1,6 +1,6 @@
 -- `core.push_successors` meets its contract.
 use borrow.Author.Rules.{scaled_Fits}
-use Rattle.core.specs.Prelude.{◌≡◌, ◌-◌, ◌≤◌, length, get_or}
+use Rattle.std.specs.Prelude.{◌≡◌, ◌-◌, ◌≤◌, length, get_or}
 use mathlib.Core.Path.{refl}
 use native.Mathlib.Omega.{arith}
 use lib.ListN.{length-set}

@@ -3,7 +3,7 @@ use borrow.Author.Rules.{rules}
 use mathlib.Core.Path.{ap, ◌∙◌}
 use mathlib.Core.Logic.{⊎_elim}
 use native.Mathlib.Omega.{arith}
-use Rattle.core.specs.Prelude.{length}
+use Rattle.std.specs.Prelude.{length}
 use Rattle.columns.specs.Columns.{zeros}
 use Rattle.table.specs.Lts.{Lts, lts}
 use Rattle.table_order.proofs.Sorts.{start, in_range_lem, is_free, stays, placed}

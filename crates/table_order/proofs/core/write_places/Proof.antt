@@ -2,7 +2,7 @@
 use borrow.Author.Rules.{rules}
 use mathlib.Core.Path.{refl, ap, ◌∙◌}
 use native.Mathlib.Omega.{arith}
-use Rattle.core.specs.Prelude.{◌-◌, get_or}
+use Rattle.std.specs.Prelude.{◌-◌, get_or}
 use Rattle.columns.specs.Columns.{written}
 use Rattle.columns.proofs.Lists.{Painted, painted_none, painted_more, painted_done}
 use Rattle.table_order.specs.Turn.{mark_place}
