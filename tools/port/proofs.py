@@ -102,6 +102,14 @@ class Proof:
         last_step = None
         while rest:
             f = rest.pop(0)
+            if out and (out[-1] in ('args', 'initial') or (len(out) == 1 and last_step in self.kinds.values())):
+                if f not in ('invariant', 'inv', 'initial', 'auto', 'kept'):
+                    f = re.sub(r'_lem$', '', f.replace('-', '_'))
+            if not out and f not in self.steps and f not in self.steps.values():
+                for step in (re.sub(r'_lem$', '', f), re.sub(r'_lem$', '', f).replace('-', '_'), re.sub(r'_lem(?=\d*$)', '', f).replace('-', '_'), (f[0].lower() + f[1:]).replace('-', '_')):
+                    if step in self.steps or step in self.steps.values():
+                        f = step
+                        break
             if f in ('pre', 'requires'):
                 pre = self.entry['pre']
                 names = pre['fields'] if pre else []
@@ -193,7 +201,17 @@ class Proof:
         taken = set(re.findall(rf'(?m)^(?:pub |abbrev )*({WORD}) :', text)) - set(rename)
         rename = {a: (n if n not in taken else a) for a, n in rename.items()}
         # helpers that take a place
+        self.kinds_of_place = {}
+        for name, place in re.findall(rf'(?m)^(?:pub |abbrev )*({WORD}) : Type \d\n\1 =\s*tie\.((?:After|In|At)-{WORD}|Start|Then\d*|Else\d*)(?=[\s)])', text):
+            self.kinds_of_place[name] = self.place(place)
         helpers = {}
+        self.inner = {}
+        for mm in re.finditer(rf'(?m)^module _ \(({WORD}) : ([^()]*)\)[^\n]*where\n((?:[ \t].*\n|\n)*)', text):
+            first = self.parameters(mm.group(2))[-1]
+            for hm in re.finditer(rf'(?m)^  (?:pub |abbrev |unfoldable )*({WORD}) :((?:.|\n(?=   ))*)', mm.group(3)):
+                own = self.parameters(hm.group(2))
+                helpers[hm.group(1)] = [first] + own
+                self.inner[hm.group(1)] = own
         for hm in re.finditer(rf'(?m)^(?:pub |abbrev |unfoldable )*({WORD}) :((?:.|\n(?=[ \t]))*)', text):
             name, kind = hm.group(1), hm.group(2)
             if name in defined:
@@ -209,6 +227,10 @@ class Proof:
         for old, new in self.kinds.items():
             text = re.sub(rf'(?<![\w-])(invariant|decreases)-{re.escape(old)}(?![\w-])', rf'\1-{new}', text)
         text = re.sub(rf'(?<![^\s(])({WORD})', lambda m: rename.get(m.group(1), m.group(1)), text)
+        if '(ap not ' in text and not re.search(r'(?m)^use [\w.]+\.\{[^}]*\bap\b', text):
+            text = re.sub(r'(?m)^use mathlib\.Core\.Path\.\{', 'use mathlib.Core.Path.{ap, ', text, count=1) if 'mathlib.Core.Path.{' in text else re.sub(r'(?m)^use ', 'use mathlib.Core.Path.{ap}\nuse ', text, count=1)
+        if '(ap not ' in text and not re.search(r'(?m)^use [\w.]+\.\{[^}]*(?<![\w-])not(?![\w-])', text):
+            text = re.sub(r'(?m)^use mathlib\.Core\.Bool\.\{', 'use mathlib.Core.Bool.{not, ', text, count=1) if 'mathlib.Core.Bool.{' in text else re.sub(r'(?m)^use ', 'use mathlib.Core.Bool.{not}\nuse ', text, count=1)
         name = self.path.parent.name.lstrip('+')
         text = re.sub(rf'(?m)^pub ({WORD})[-_]spec : \{{M', lambda m: f'pub {m.group(1).replace("-", "_")}_spec : {{M', text)
         text = re.sub(rf'(?m)^({WORD})-spec =', lambda m: f'{m.group(1).replace("-", "_")}_spec =', text)
@@ -228,9 +250,10 @@ class Proof:
         parts.append(part)
         for p in parts:
             for g in re.findall(r'\(([^():]+) : ([^()]*(?:\([^()]*\)[^()]*)*)\)', p) or [('_', p.strip())]:
-                m = re.match(rf'\s*tie\.((?:After|In|At|Then|Else|Start){WORD}|Start|Then\d*|Else\d*)', g[1])
+                m = re.match(rf'\s*tie\.((?:After|In|At)-{WORD}|Start|Then\d*|Else\d*)(?:\s|$)', g[1] + ' ')
+                alias = self.kinds_of_place.get((g[1].split() or [''])[0])
                 for _ in g[0].split():
-                    ps.append(self.place(m.group(1)) if m and not g[1].strip().startswith('tie.Need') else None)
+                    ps.append(self.place(m.group(1)) if m else alias)
             if not re.search(r'\(([^():]+) :', p) and not p.strip().startswith('{'):
                 pass
         return ps
@@ -253,6 +276,33 @@ class Proof:
         chunk = re.sub(rf'tie\.((?:After|In|At)-{WORD}|Start|Then\d+|Else\d+)(?![\w-])', lambda m: 'tie.' + self.place(m.group(1)), chunk)
         # variables at places
         where = {}
+        local = helpers
+        if chunk.startswith('module _'):
+            m = re.match(rf'module _ \(({WORD}) : ([^()]*)\)', chunk)
+            if m:
+                where[m.group(1)] = self.parameters(m.group(2))[-1]
+                names_here = set(re.findall(rf'(?m)^  (?:pub |abbrev |unfoldable )*({WORD}) :', chunk))
+                helpers = {h: (self.inner[h] if h in names_here else ps) for h, ps in helpers.items()}
+                for h in names_here:
+                    if self.inner[h] and len(self.inner[h]) == 1 and self.inner[h][0]:
+                        where[h] = self.inner[h][0]
+                        d = None
+
+                        def constant(b):
+                            d = self.distance(where.get(b.group(2)), where[h])
+                            if d is None:
+                                self.tell(f'{h}: no way from {where.get(b.group(2))} to {where[h]}')
+                                return b.group(0)
+                            return b.group(1) + b.group(2) + '.KEPT' * d
+
+                        chunk = re.sub(rf'(?m)^(  {re.escape(h)} =\s*)({WORD})((?:\.before)+)(?=\s*$)', constant, chunk)
+                # inner functions with arguments of their own
+                for h in names_here:
+                    m = re.search(rf'(?m)^  {re.escape(h)}((?: {WORD})+) =', chunk)
+                    if m:
+                        for v, p in zip(m.group(1).split(), self.inner[h]):
+                            if p:
+                                where[v] = p
         if name in types:
             m = re.match(rf'{re.escape(name)} ({WORD})', chunk)
             if m and self.goal_place.get(types[name]):
@@ -314,7 +364,9 @@ class Proof:
             return h + re.sub(rf'{WORD}(?:\.{WORD})*|\([^()]*\)', arg, rest)
 
         for h in helpers:
-            chunk = re.sub(rf'(?<![\w.-])({re.escape(h)})((?:\s+(?:{WORD}(?:\.{WORD})*|\([^()]*\)))+)', fix_call, chunk)
+            if not any(helpers[h]):
+                continue
+            chunk = re.sub(rf'(?<![\w.-])({re.escape(h)})((?:(?:[ \t]+|\n[ \t]+)(?:{WORD}(?:\.{WORD})*|\([^()]*\)))+)', fix_call, chunk)
 
         # lets of a place
         def fix_let(m):
@@ -352,6 +404,9 @@ class Proof:
             return root + '.before' * len(kept) + ''.join('.' + f for f in fields)
 
         chunk = re.sub(rf"(?<![\w.'])({WORD}|\))((?:\.{WORD})+)", fix_path, chunk)
+        chunk = re.sub(rf"\(?not-(?:true|false) {WORD}(?:\.{WORD})* ({WORD}\.(?:if-not-{WORD}|loop-{WORD}test)\.(?:true|false))(?:(?<=\.true)|(?<=\.false))", lambda m: ('(' if m.group(0).startswith('(') else '') + 'PLAIN' + m.group(1), chunk)
+        chunk = re.sub(rf"(?<![\w.'])({WORD}\.if-not-{WORD}\.(?:true|false))", lambda m: m.group(1)[5:] if m.group(1).startswith('PLAIN') else f'(ap not {m.group(1)})', chunk)
+        chunk = re.sub(rf"ap not \((sym {WORD}(?:\.{WORD})*)\) ∙ ({WORD}\.if-not-{WORD}\.(?:true|false))", r"ap not (\1 ∙ \2)", chunk)
         return chunk
 
 

@@ -11,41 +11,41 @@ use Rattle.pairs.proofs.Subsets.{checked_of}
 use Rattle.pairs.proofs.is_subset_of.Statement.{statement}
 use Rattle.pairs.proofs.is_subset_of.Tie as tie
 
-subset-refusal-requires : tie.Need-subset-refusal-requires
-subset-refusal-requires c κs = search rules
+subset_refusal-t-requires : tie.Need-subset_refusal-t-requires
+subset_refusal-t-requires c κs = search rules
 
-refusing-flag-requires : tie.Need-refusing-flag-requires
-refusing-flag-requires c κs = search rules
+refusing_flag-requires : tie.Need-refusing_flag-requires
+refusing_flag-requires c κs = search rules
 
-returns : tie.Need-returns
+returns-then-refused-ne0 : tie.Need-returns-then-refused-ne0
 unfolding is_subset_of
-returns c = let a = c.before.before.before.before.before.before.before.args in
-    c.refusing-flag.ensures ∙ asked_refused (subset_refusal a.self-labels.now a.self-blocks.now a.other-labels.now
-    a.other-blocks.now) _ c.before.before.subset-refusal.ensures _ c.before.if1.true
+returns-then-refused-ne0 c = let a = c.args in
+    c.refusing_flag.ensures ∙ asked_refused (subset_refusal a.self_labels.now a.self_blocks.now a.other_labels.now
+    a.other_blocks.now) _ c.subset_refusal-t.ensures _ c.if-refused-ne0.true
 
-subset-requires : tie.Need-subset-requires
-subset-requires c κs = let a = c.before.before.before.before.before.before.args in
-    let both = checked_of a.self-labels.now a.self-blocks.now a.other-labels.now a.other-blocks.now
-    (sym (ap (λ (r : Refusal). r.number) c.before.subset-refusal.ensures) ∙ c.if1.false) in
+subset-found-requires : tie.Need-subset-found-requires
+subset-found-requires c κs = let a = c.args in
+    let both = checked_of a.self_labels.now a.self_blocks.now a.other_labels.now a.other_blocks.now
+    (sym (ap (λ (r : Refusal). r.number) c.subset_refusal-t.ensures) ∙ c.if-refused-ne0.false) in
     search rules
 
 flag-requires : tie.Need-flag-requires
 flag-requires c κs = search rules
 
-returns-2 : tie.Need-returns-2
+returns : tie.Need-returns
 unfolding is_subset_of
-returns-2 c = let a = c.before.before.before.before.before.before.before.before.args in
-    c.flag.ensures ∙ (ap (λ (b : Bool). done (bit b ∷ [])) c.before.subset.ensures ∙
-    asked_done (subset_refusal a.self-labels.now a.self-blocks.now a.other-labels.now a.other-blocks.now) _
-    c.before.before.before.subset-refusal.ensures _ c.before.before.if1.false)
+returns c = let a = c.args in
+    c.flag.ensures ∙ (ap (λ (b : Bool). done (bit b ∷ [])) c.subset-found.ensures ∙
+    asked_done (subset_refusal a.self_labels.now a.self_blocks.now a.other_labels.now a.other_blocks.now) _
+    c.subset_refusal-t.ensures _ c.if-refused-ne0.false)
 
-pub is-subset-of-spec : {M : Type 1} → statement M
-is-subset-of-spec =
+pub is_subset_of_spec : {M : Type 1} → statement M
+is_subset_of_spec =
     tie.close
     (tie.spec
-    subset-refusal-requires
-    refusing-flag-requires
-    returns
-    subset-requires
+    subset_refusal-t-requires
+    refusing_flag-requires
+    returns-then-refused-ne0
+    subset-found-requires
     flag-requires
-    returns-2)
+    returns)

@@ -10,24 +10,24 @@ use Rattle.pairs.proofs.Refusals.{shorter-left, shorter_right}
 use Rattle.pairs.proofs.checks.list_refusal.Statement.{statement}
 use Rattle.pairs.proofs.checks.list_refusal.Tie as tie
 
-shorter-requires : tie.Need-shorter-requires
-shorter-requires c κs = search rules
+shorter-end-requires : tie.Need-shorter-end-requires
+shorter-end-requires c κs = search rules
 
-first-bad-requires : tie.Need-first-bad-requires
-first-bad-requires c κs = let l = shorter-left (length c.before.before.before.args.labels.now)
-    (length c.before.before.before.args.blocks.now) in
-    let r = shorter_right (length c.before.before.before.args.labels.now) (length c.before.before.before.args.blocks.now) in
+first_bad-bad-requires : tie.Need-first_bad-bad-requires
+first_bad-bad-requires c κs = let l = shorter-left (length c.args.labels.now)
+    (length c.args.blocks.now) in
+    let r = shorter_right (length c.args.labels.now) (length c.args.blocks.now) in
     (omega arith, omega (arith, l), omega (arith, r))
 
-refuse-unless-requires : tie.Need-refuse-unless-requires
-refuse-unless-requires c κs = search rules
+refuse_unless-requires : tie.Need-refuse_unless-requires
+refuse_unless-requires c κs = search rules
 
 returns : tie.Need-returns
-returns c = let a = c.before.before.before.before.before in
-    c.refuse-unless.ensures
-    ∙ ap (λ (i : ℕ). due (test (leb c.before.before.shorter.result i) wrong_list i ∷ [])) c.before.first-bad.ensures
-    ∙ ap (λ (n : ℕ). due (least_test n (bad_pair a.args.labels.now a.args.blocks.now 0) ∷ [])) c.before.before.shorter.ensures
+returns c = let a = c in
+    c.refuse_unless.ensures
+    ∙ ap (λ (i : ℕ). due (test (leb c.shorter-end.result i) wrong_list i ∷ [])) c.first_bad-bad.ensures
+    ∙ ap (λ (n : ℕ). due (least_test n (bad_pair a.args.labels.now a.args.blocks.now 0) ∷ [])) c.shorter-end.ensures
 
-pub list-refusal-spec : {M : Type 1} → statement M
-list-refusal-spec =
-    tie.close (tie.spec shorter-requires first-bad-requires refuse-unless-requires returns)
+pub list_refusal_spec : {M : Type 1} → statement M
+list_refusal_spec =
+    tie.close (tie.spec shorter-end-requires first_bad-bad-requires refuse_unless-requires returns)

@@ -10,93 +10,93 @@ use Rattle.pairs.proofs.Walking.{stays, stays-before, stays_here}
 use Rattle.pairs.proofs.core.pass_below.Statement.{statement}
 use Rattle.pairs.proofs.core.pass_below.Tie as tie
 
-abbrev invariant-loop : tie.invariant-loop
-invariant-loop labels blocks n i label block k₀ k = ((i ≤ k) × (k ≤ n)) × NoneBelow (stays (pair_at labels blocks) i (label, block)) k
+abbrev invariant-loop-k : tie.invariant-loop-k
+invariant-loop-k labels blocks n i label block k₀ k = ((i ≤ k) × (k ≤ n)) × NoneBelow (stays (pair_at labels blocks) i (label, block)) k
 
-abbrev decreases-loop : tie.decreases-loop
-decreases-loop labels blocks n i label block k₀ k = n - k
+abbrev decreases-loop-k : tie.decreases-loop-k
+decreases-loop-k labels blocks n i label block k₀ k = n - k
 
 -- the test of the pairs that are lent
-abbrev S : tie.Start invariant-loop decreases-loop → ℕ → Bool
+abbrev S : tie.Start invariant-loop-k decreases-loop-k → ℕ → Bool
 S a = stays (pair_at a.args.labels.now a.args.blocks.now) a.args.i (a.args.label, a.args.block)
 
-loop-holds : tie.Need-loop-init invariant-loop decreases-loop
-loop-holds c = (
+loop-k-init : tie.Need-loop-k-init invariant-loop-k decreases-loop-k
+loop-k-init c = (
   (omega arith, omega arith),
   λ k h. stays-before
-      (pair_at c.before.before.args.labels.now c.before.before.args.blocks.now) c.before.before.args.i
-      (c.before.before.args.label, c.before.before.args.block) k h,
+      (pair_at c.args.labels.now c.args.blocks.now) c.args.i
+      (c.args.label, c.args.block) k h,
 )
 
-mul-below : tie.Need-overflow-mul-below invariant-loop decreases-loop
-mul-below c = search rules
+offset_bounds-labels-k : tie.Need-offset_bounds-labels-k invariant-loop-k decreases-loop-k
+offset_bounds-labels-k c = search rules
 
-shared-slice-read-below : tie.Need-shared-slice-read-below invariant-loop decreases-loop
-shared-slice-read-below c = omega arith
+bounds-labels-k : tie.Need-bounds-labels-k invariant-loop-k decreases-loop-k
+bounds-labels-k c = omega arith
 
-mul-below-2 : tie.Need-overflow-mul-below-2 invariant-loop decreases-loop
-mul-below-2 c = search rules
+offset_bounds-blocks-k : tie.Need-offset_bounds-blocks-k invariant-loop-k decreases-loop-k
+offset_bounds-blocks-k c = search rules
 
-shared-slice-read-below-2 : tie.Need-shared-slice-read-below-2 invariant-loop decreases-loop
-shared-slice-read-below-2 c = omega arith
+bounds-blocks-k : tie.Need-bounds-blocks-k invariant-loop-k decreases-loop-k
+bounds-blocks-k c = omega arith
 
-below-requires : tie.Need-below-requires invariant-loop decreases-loop
+below-requires : tie.Need-below-requires invariant-loop-k decreases-loop-k
 below-requires c κs = search rules
 
-returns : tie.Need-returns invariant-loop decreases-loop
+returns-then-not-below : tie.Need-returns-then-not-below invariant-loop-k decreases-loop-k
 unfolding not_below pair_at
-returns c = first_hit c.before.before.before.before.before.before.before.before.args.n
+returns-then-not-below c = first_hit c.args.n
     (S c.before.before.before.before.before.before.before.before) _ (omega arith)
-    c.before.before.before.before.before.loop.invariant.1
-    (sym (stays_here (pair_at c.before.before.before.before.before.before.before.before.args.labels.now
-    c.before.before.before.before.before.before.before.before.args.blocks.now)
-    c.before.before.before.before.before.before.before.before.args.i (
-      c.before.before.before.before.before.before.before.before.args.label,
-      c.before.before.before.before.before.before.before.before.args.block,
+    c.loop-k.invariant.1
+    (sym (stays_here (pair_at c.args.labels.now
+    c.args.blocks.now)
+    c.args.i (
+      c.args.label,
+      c.args.block,
     ) _
-    c.before.before.before.before.before.loop.invariant.0.0) ∙ (ap not (sym c.before.below.ensures) ∙ c.if1.true))
+    c.loop-k.invariant.0.0) ∙ (ap not (sym c.below.ensures) ∙ (ap not c.if-not-below.true)))
 
-add-k : tie.Need-overflow-add-k invariant-loop decreases-loop
-add-k c = omega arith
+overflow_add-k : tie.Need-overflow_add-k invariant-loop-k decreases-loop-k
+overflow_add-k c = omega arith
 
-loop-less : tie.Need-loop-smaller invariant-loop decreases-loop
-loop-less c = omega arith
+loop-k-smaller : tie.Need-loop-k-smaller invariant-loop-k decreases-loop-k
+loop-k-smaller c = omega arith
 
-loop-again : tie.Need-loop-preserved invariant-loop decreases-loop
+loop-k-preserved : tie.Need-loop-k-preserved invariant-loop-k decreases-loop-k
 unfolding pair_at
-loop-again c = (
+loop-k-preserved c = (
   (omega arith, omega arith),
-  none_more (S c.before.before.before.before.before.before.before.before) c.before.before.before.before.before.loop.k
-      c.before.before.before.before.before.loop.invariant.1
-      (sym (stays_here (pair_at c.before.before.before.before.before.before.before.before.args.labels.now
-      c.before.before.before.before.before.before.before.before.args.blocks.now)
-      c.before.before.before.before.before.before.before.before.args.i (
-        c.before.before.before.before.before.before.before.before.args.label,
-        c.before.before.before.before.before.before.before.before.args.block,
+  none_more (S c.before.before.before.before.before.before.before.before) c.loop-k.k
+      c.loop-k.invariant.1
+      (sym (stays_here (pair_at c.args.labels.now
+      c.args.blocks.now)
+      c.args.i (
+        c.args.label,
+        c.args.block,
       )
-      c.before.before.before.before.before.loop.k c.before.before.before.before.before.loop.invariant.0.0) ∙
-      (ap not (sym c.before.below.ensures) ∙ c.if1.false)),
+      c.loop-k.k c.loop-k.invariant.0.0) ∙
+      (ap not (sym c.below.ensures) ∙ (ap not c.if-not-below.false))),
 )
 
-returns-2 : tie.Need-returns-2 invariant-loop decreases-loop
+returns : tie.Need-returns invariant-loop-k decreases-loop-k
 unfolding not_below
-returns-2 c = first_past c.before.before.before.before.args.n (S c.before.before.before.before) _ (omega arith)
-    c.before.loop.invariant.1 (omega arith)
+returns c = first_past c.args.n (S c.before.before.before.before) _ (omega arith)
+    c.loop-k.invariant.1 (omega arith)
 
-pub pass-below-spec : {M : Type 1} → statement M
-pass-below-spec =
+pub pass_below_spec : {M : Type 1} → statement M
+pass_below_spec =
     tie.close
     (tie.spec
-    invariant-loop
-    decreases-loop
-    loop-holds
-    mul-below
-    shared-slice-read-below
-    mul-below-2
-    shared-slice-read-below-2
+    invariant-loop-k
+    decreases-loop-k
+    loop-k-init
+    offset_bounds-labels-k
+    bounds-labels-k
+    offset_bounds-blocks-k
+    bounds-blocks-k
     below-requires
-    returns
-    add-k
-    loop-less
-    loop-again
-    returns-2)
+    returns-then-not-below
+    overflow_add-k
+    loop-k-smaller
+    loop-k-preserved
+    returns)

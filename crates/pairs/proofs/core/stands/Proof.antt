@@ -7,36 +7,36 @@ use Rattle.columns.specs.Rows.{pair_at}
 use Rattle.pairs.proofs.core.stands.Statement.{statement}
 use Rattle.pairs.proofs.core.stands.Tie as tie
 
-returns : tie.Need-returns
-returns c = sym (and_no_left _ _ (le-ltb _ _ c.if1.true))
+returns-then-n-k : tie.Need-returns-then-n-k
+returns-then-n-k c = sym (and_no_left _ _ (le-ltb _ _ c.if-n-k.true))
 
-mul-equal : tie.Need-overflow-mul-equal
-mul-equal c = search rules
+offset_bounds-labels-k : tie.Need-offset_bounds-labels-k
+offset_bounds-labels-k c = search rules
 
-shared-slice-read-equal : tie.Need-shared-slice-read-equal
-shared-slice-read-equal c = search rules
+bounds-labels-k : tie.Need-bounds-labels-k
+bounds-labels-k c = search rules
 
-mul-equal-2 : tie.Need-overflow-mul-equal-2
-mul-equal-2 c = search rules
+offset_bounds-blocks-k : tie.Need-offset_bounds-blocks-k
+offset_bounds-blocks-k c = search rules
 
-shared-slice-read-equal-2 : tie.Need-shared-slice-read-equal-2
-shared-slice-read-equal-2 c = search rules
+bounds-blocks-k : tie.Need-bounds-blocks-k
+bounds-blocks-k c = search rules
 
 equal-requires : tie.Need-equal-requires
 equal-requires c κs = search rules
 
-returns-2 : tie.Need-returns-2
+returns : tie.Need-returns
 unfolding pair_at
-returns-2 c = c.equal.ensures ∙ sym (simp (lt-ltb _ _ c.before.before.before.if1.false))
+returns c = c.equal.ensures ∙ sym (simp (lt-ltb _ _ c.if-n-k.false))
 
-pub stands-spec : {M : Type 1} → statement M
-stands-spec =
+pub stands_spec : {M : Type 1} → statement M
+stands_spec =
     tie.close
     (tie.spec
-    returns
-    mul-equal
-    shared-slice-read-equal
-    mul-equal-2
-    shared-slice-read-equal-2
+    returns-then-n-k
+    offset_bounds-labels-k
+    bounds-labels-k
+    offset_bounds-blocks-k
+    bounds-blocks-k
     equal-requires
-    returns-2)
+    returns)

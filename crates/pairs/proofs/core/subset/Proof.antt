@@ -1,9 +1,10 @@
 -- `core.subset` meets its contract.
+use mathlib.Core.Bool.{not}
 use borrow.Author.Rules.{rules}
 use borrow.Author.Tests.{not-true, not-false}
 use native.Mathlib.Omega.{arith}
 use Rattle.std.specs.Prelude.{◌-◌, length}
-use mathlib.Core.Path.{sym, ◌∙◌}
+use mathlib.Core.Path.{ap, sym, ◌∙◌}
 use Rattle.pairs.specs.Subset.{not_below}
 use Rattle.pairs.proofs.Refusals.{shorter-left, shorter_right}
 use Rattle.pairs.proofs.Subsets.{rises, at_ends}
@@ -12,173 +13,173 @@ use Rattle.pairs.proofs.core.subset.Statement.{statement}
 use Rattle.columns.specs.Rows.{pair_at}
 use Rattle.pairs.proofs.core.subset.Tie as tie
 
-abbrev invariant-loop : tie.invariant-loop
-invariant-loop self-labels self-blocks other-labels other-blocks label block n m i₀ j₀ i j =
+abbrev invariant-loop-j : tie.invariant-loop-j
+invariant-loop-j self-labels self-blocks other-labels other-blocks label block n m i₀ j₀ i j =
     SubsetWalk n m (pair_at self-labels self-blocks) (pair_at other-labels other-blocks) (label, block) i j
 
-abbrev decreases-loop : tie.decreases-loop
-decreases-loop self-labels self-blocks other-labels other-blocks label block n m i₀ j₀ i j = m - j
+abbrev decreases-loop-j : tie.decreases-loop-j
+decreases-loop-j self-labels self-blocks other-labels other-blocks label block n m i₀ j₀ i j = m - j
 
-shorter-requires : tie.Need-shorter-requires invariant-loop decreases-loop
-shorter-requires c κs = search rules
+shorter-n-requires : tie.Need-shorter-n-requires invariant-loop-j decreases-loop-j
+shorter-n-requires c κs = search rules
 
-shorter-requires-2 : tie.Need-shorter-requires-2 invariant-loop decreases-loop
-shorter-requires-2 c κs = search rules
+shorter-m-requires : tie.Need-shorter-m-requires invariant-loop-j decreases-loop-j
+shorter-m-requires c κs = search rules
 
-loop-holds : tie.Need-loop-init invariant-loop decreases-loop
-loop-holds c = walk_start _ _ _ _ _
+loop-j-init : tie.Need-loop-j-init invariant-loop-j decreases-loop-j
+loop-j-init c = walk_start _ _ _ _ _
 
-mul-l : tie.Need-overflow-mul-l invariant-loop decreases-loop
-mul-l c = omega (
+offset_bounds-other_labels-j : tie.Need-offset_bounds-other_labels-j invariant-loop-j decreases-loop-j
+offset_bounds-other_labels-j c = omega (
   arith,
-  c.before.before.shorter2.ensures,
-  shorter-left (length c.before.before.before.before.before.before.before.before.args.other-labels.now)
-      (length c.before.before.before.before.before.before.before.before.args.other-blocks.now),
+  c.shorter-m.ensures,
+  shorter-left (length c.args.other_labels.now)
+      (length c.args.other_blocks.now),
 )
 
-shared-slice-read-l : tie.Need-shared-slice-read-l invariant-loop decreases-loop
-shared-slice-read-l c = omega (
+bounds-other_labels-j : tie.Need-bounds-other_labels-j invariant-loop-j decreases-loop-j
+bounds-other_labels-j c = omega (
   arith,
-  c.before.before.before.shorter2.ensures,
-  shorter-left (length c.before.before.before.before.before.before.before.before.before.args.other-labels.now)
-      (length c.before.before.before.before.before.before.before.before.before.args.other-blocks.now),
+  c.shorter-m.ensures,
+  shorter-left (length c.args.other_labels.now)
+      (length c.args.other_blocks.now),
 )
 
-mul-b : tie.Need-overflow-mul-b invariant-loop decreases-loop
-mul-b c = omega (
+offset_bounds-other_blocks-j : tie.Need-offset_bounds-other_blocks-j invariant-loop-j decreases-loop-j
+offset_bounds-other_blocks-j c = omega (
   arith,
-  c.before.before.before.shorter2.ensures,
-  shorter_right (length c.before.before.before.before.before.before.before.before.before.args.other-labels.now)
-      (length c.before.before.before.before.before.before.before.before.before.args.other-blocks.now),
+  c.shorter-m.ensures,
+  shorter_right (length c.args.other_labels.now)
+      (length c.args.other_blocks.now),
 )
 
-shared-slice-read-b : tie.Need-shared-slice-read-b invariant-loop decreases-loop
-shared-slice-read-b c = omega (
+bounds-other_blocks-j : tie.Need-bounds-other_blocks-j invariant-loop-j decreases-loop-j
+bounds-other_blocks-j c = omega (
   arith,
-  c.before.before.before.before.shorter2.ensures,
-  shorter_right (length c.before.before.before.before.before.before.before.before.before.before.args.other-labels.now)
-      (length c.before.before.before.before.before.before.before.before.before.before.args.other-blocks.now),
+  c.shorter-m.ensures,
+  shorter_right (length c.args.other_labels.now)
+      (length c.args.other_blocks.now),
 )
 
-equal-requires : tie.Need-equal-requires invariant-loop decreases-loop
+equal-requires : tie.Need-equal-requires invariant-loop-j decreases-loop-j
 equal-requires c κs = search rules
 
-add-j : tie.Need-overflow-add-j invariant-loop decreases-loop
-add-j c = omega arith
+overflow_add-j : tie.Need-overflow_add-j invariant-loop-j decreases-loop-j
+overflow_add-j c = omega arith
 
-loop-less : tie.Need-loop-smaller invariant-loop decreases-loop
-loop-less c = omega arith
+loop-j-smaller-then-equal : tie.Need-loop-j-smaller-then-equal invariant-loop-j decreases-loop-j
+loop-j-smaller-then-equal c = omega arith
 
-loop-again : tie.Need-loop-preserved invariant-loop decreases-loop
+loop-j-preserved-then-equal : tie.Need-loop-j-preserved-then-equal invariant-loop-j decreases-loop-j
 unfolding pair_at
-loop-again c = walk_skip _ _ _ _ _ _ _ c.before.before.before.before.before.loop.invariant
-    c.before.before.before.before.loop-test.true (sym c.before.equal.ensures ∙ c.if1.true)
+loop-j-preserved-then-equal c = walk_skip _ _ _ _ _ _ _ c.loop-j.invariant
+    c.loop-j-test.true (sym c.equal.ensures ∙ c.if-equal.true)
 
-pass-below-requires : tie.Need-pass-below-requires invariant-loop decreases-loop
-pass-below-requires c κs = (
-  c.before.before.before.before.before.loop.invariant.low,
+pass_below-k-requires : tie.Need-pass_below-k-requires invariant-loop-j decreases-loop-j
+pass_below-k-requires c κs = (
+  c.loop-j.invariant.low,
   omega (
     arith,
-    c.before.before.before.before.before.before.before.shorter.ensures,
+    c.shorter-n.ensures,
     shorter-left
-        (length c.before.before.before.before.before.before.before.before.before.before.before.before.args.self-labels.now)
-        (length c.before.before.before.before.before.before.before.before.before.before.before.before.args.self-blocks.now),
+        (length c.args.self_labels.now)
+        (length c.args.self_blocks.now),
   ),
   omega (
     arith,
-    c.before.before.before.before.before.before.before.shorter.ensures,
+    c.shorter-n.ensures,
     shorter_right
-        (length c.before.before.before.before.before.before.before.before.before.before.before.before.args.self-labels.now)
-        (length c.before.before.before.before.before.before.before.before.before.before.before.before.args.self-blocks.now),
+        (length c.args.self_labels.now)
+        (length c.args.self_blocks.now),
   ),
 )
 
-stands-requires : tie.Need-stands-requires invariant-loop decreases-loop
+stands-requires : tie.Need-stands-requires invariant-loop-j decreases-loop-j
 stands-requires c κs = (
   omega (
     arith,
-    c.before.before.before.before.before.before.before.before.shorter.ensures,
+    c.shorter-n.ensures,
     shorter-left
-        (length c.before.before.before.before.before.before.before.before.before.before.before.before.before.args.self-labels.now) (length
-        c.before.before.before.before.before.before.before.before.before.before.before.before.before.args.self-blocks.now),
+        (length c.args.self_labels.now) (length
+        c.args.self_blocks.now),
   ),
   omega (
     arith,
-    c.before.before.before.before.before.before.before.before.shorter.ensures,
+    c.shorter-n.ensures,
     shorter_right
-        (length c.before.before.before.before.before.before.before.before.before.before.before.before.before.args.self-labels.now) (length
-        c.before.before.before.before.before.before.before.before.before.before.before.before.before.args.self-blocks.now),
+        (length c.args.self_labels.now) (length
+        c.args.self_blocks.now),
   ),
 )
 
-returns : tie.Need-returns invariant-loop decreases-loop
+returns-then-not-stands : tie.Need-returns-then-not-stands invariant-loop-j decreases-loop-j
 unfolding pair_at not_below
-returns c = let a =
-    c.before.before.before.before.before.before.before.before.before.before.before.before.before.before.before.args in
-    walk_missing _ _ _ _ _ _ _ c.before.before.before.before.before.before.before.before.loop.invariant
-    c.before.before.before.before.before.before.before.loop-test.true _ c.before.before.pass_below.ensures
-    (rises a.self-labels.now a.self-blocks.now _
-    c.before.before.before.before.before.before.before.before.before.before.shorter.ensures
-    c.before.before.before.before.before.before.before.before.before.before.before.before.before.before.before.requires.0)
-    (sym c.before.before.before.before.equal.ensures ∙ c.before.before.before.if1.false)
-    (sym c.before.stands.ensures ∙ not-true _ c.if2.true)
-    ∙ at_ends a.self-labels.now a.self-blocks.now a.other-labels.now a.other-blocks.now (a.label, a.block) _ _
-    c.before.before.before.before.before.before.before.before.before.before.shorter.ensures
-    c.before.before.before.before.before.before.before.before.before.shorter2.ensures
+returns-then-not-stands c = let a =
+    c.args in
+    walk_missing _ _ _ _ _ _ _ c.loop-j.invariant
+    c.loop-j-test.true _ c.pass_below-k.ensures
+    (rises a.self_labels.now a.self_blocks.now _
+    c.shorter-n.ensures
+    c.requires.0)
+    (sym c.equal.ensures ∙ c.if-equal.false)
+    (sym c.stands.ensures ∙ c.if-not-stands.true)
+    ∙ at_ends a.self_labels.now a.self_blocks.now a.other_labels.now a.other_blocks.now (a.label, a.block) _ _
+    c.shorter-n.ensures
+    c.shorter-m.ensures
 
-add-i : tie.Need-overflow-add-i invariant-loop decreases-loop
-add-i c = omega (
+overflow_add-i : tie.Need-overflow_add-i invariant-loop-j decreases-loop-j
+overflow_add-i c = omega (
   arith,
-  stands_below c.before.before.pass_below.result
-      c.before.before.before.before.before.before.before.before.before.before.shorter.result _ _ c.before.stands.ensures
-      c.if2.false,
+  stands_below c.pass_below-k.result
+      c.shorter-n.result _ _ c.stands.ensures
+      (ap not c.if-not-stands.false),
 )
 
-add-j-2 : tie.Need-overflow-add-j-2 invariant-loop decreases-loop
-add-j-2 c = omega arith
+overflow_add-j-else-equal : tie.Need-overflow_add-j-else-equal invariant-loop-j decreases-loop-j
+overflow_add-j-else-equal c = omega arith
 
-loop-less-2 : tie.Need-loop-smaller-2 invariant-loop decreases-loop
-loop-less-2 c = omega arith
+loop-j-smaller : tie.Need-loop-j-smaller invariant-loop-j decreases-loop-j
+loop-j-smaller c = omega arith
 
-loop-again-2 : tie.Need-loop-preserved-2 invariant-loop decreases-loop
+loop-j-preserved : tie.Need-loop-j-preserved invariant-loop-j decreases-loop-j
 unfolding pair_at not_below
-loop-again-2 c = let a =
-    c.before.before.before.before.before.before.before.before.before.before.before.before.before.before.before.args in
-    walk_found _ _ _ _ _ _ _ c.before.before.before.before.before.before.before.before.loop.invariant
-    c.before.before.before.before.before.before.before.loop-test.true _ c.before.before.pass_below.ensures
-    (rises a.other-labels.now a.other-blocks.now _
-    c.before.before.before.before.before.before.before.before.before.shorter2.ensures
-    c.before.before.before.before.before.before.before.before.before.before.before.before.before.before.before.requires.1)
-    (sym c.before.stands.ensures ∙ not-false _ c.if2.false)
+loop-j-preserved c = let a =
+    c.args in
+    walk_found _ _ _ _ _ _ _ c.loop-j.invariant
+    c.loop-j-test.true _ c.pass_below-k.ensures
+    (rises a.other_labels.now a.other_blocks.now _
+    c.shorter-m.ensures
+    c.requires.1)
+    (sym c.stands.ensures ∙ c.if-not-stands.false)
 
-returns-2 : tie.Need-returns-2 invariant-loop decreases-loop
-returns-2 c = let a = c.before.before.before.before.before.before.before.before.args in
-    walk_end _ _ _ _ _ _ _ c.before.loop.invariant c.loop-test.false ∙
-    at_ends a.self-labels.now a.self-blocks.now a.other-labels.now a.other-blocks.now (a.label, a.block) _ _
-    c.before.before.before.shorter.ensures c.before.before.shorter2.ensures
+returns : tie.Need-returns invariant-loop-j decreases-loop-j
+returns c = let a = c.args in
+    walk_end _ _ _ _ _ _ _ c.loop-j.invariant c.loop-j-test.false ∙
+    at_ends a.self_labels.now a.self_blocks.now a.other_labels.now a.other_blocks.now (a.label, a.block) _ _
+    c.shorter-n.ensures c.shorter-m.ensures
 
-pub subset-spec : {M : Type 1} → statement M
-subset-spec =
+pub subset_spec : {M : Type 1} → statement M
+subset_spec =
     tie.close
     (tie.spec
-    invariant-loop
-    decreases-loop
-    shorter-requires
-    shorter-requires-2
-    loop-holds
-    mul-l
-    shared-slice-read-l
-    mul-b
-    shared-slice-read-b
+    invariant-loop-j
+    decreases-loop-j
+    shorter-n-requires
+    shorter-m-requires
+    loop-j-init
+    offset_bounds-other_labels-j
+    bounds-other_labels-j
+    offset_bounds-other_blocks-j
+    bounds-other_blocks-j
     equal-requires
-    add-j
-    loop-less
-    loop-again
-    pass-below-requires
+    overflow_add-j
+    loop-j-smaller-then-equal
+    loop-j-preserved-then-equal
+    pass_below-k-requires
     stands-requires
-    returns
-    add-i
-    add-j-2
-    loop-less-2
-    loop-again-2
-    returns-2)
+    returns-then-not-stands
+    overflow_add-i
+    overflow_add-j-else-equal
+    loop-j-smaller
+    loop-j-preserved
+    returns)

@@ -5,35 +5,35 @@ use Rattle.pairs.proofs.Listing.{start_past, start_first, start_falls, start_rig
 use Rattle.pairs.proofs.lists.bad_start.Statement.{statement}
 use Rattle.pairs.proofs.lists.bad_start.Tie as tie
 
+start-x-requires : tie.Need-start-x-requires
+start-x-requires c κs = search rules
+
+returns-then-end-x : tie.Need-returns-then-end-x
+returns-then-end-x c = start_past c.args.starts.now c.args.end
+    c.args.u (omega (arith, c.start-x.ensures))
+
+returns-then-u-eq0 : tie.Need-returns-then-u-eq0
+returns-then-u-eq0 c = start_first c.args.starts.now c.args.end
+    c.args.u (omega (arith, c.start-x.ensures)) c.if-u-eq0.true
+
+overflow_sub-u : tie.Need-overflow_sub-u
+overflow_sub-u c = search rules
+
 start-requires : tie.Need-start-requires
 start-requires c κs = search rules
 
-returns : tie.Need-returns
-returns c = start_past c.before.before.before.args.starts.now c.before.before.before.args.end
-    c.before.before.before.args.u (omega (arith, c.before.start.ensures))
+returns-then-x-start : tie.Need-returns-then-x-start
+returns-then-x-start c = start_falls c.args.starts.now
+    c.args.end c.args.u
+    c.if-u-eq0.false (omega (arith, c.start-x.ensures, c.start.ensures))
 
-returns-2 : tie.Need-returns-2
-returns-2 c = start_first c.before.before.before.before.args.starts.now c.before.before.before.before.args.end
-    c.before.before.before.before.args.u (omega (arith, c.before.before.start.ensures)) c.if2.true
+returns-else-x-start : tie.Need-returns-else-x-start
+returns-else-x-start c = start_right c.args.starts.now
+    c.args.end c.args.u
+    (omega (arith, c.start-x.ensures))
+    (omega (arith, c.start-x.ensures, c.start.ensures))
 
-sub-start : tie.Need-overflow-sub-start
-sub-start c = search rules
-
-start-requires-2 : tie.Need-start-requires-2
-start-requires-2 c κs = search rules
-
-returns-3 : tie.Need-returns-3
-returns-3 c = start_falls c.before.before.before.before.before.before.args.starts.now
-    c.before.before.before.before.before.before.args.end c.before.before.before.before.before.before.args.u
-    c.before.before.if2.false (omega (arith, c.before.before.before.before.start.ensures, c.before.start2.ensures))
-
-returns-4 : tie.Need-returns-4
-returns-4 c = start_right c.before.before.before.before.before.before.args.starts.now
-    c.before.before.before.before.before.before.args.end c.before.before.before.before.before.before.args.u
-    (omega (arith, c.before.before.before.before.start.ensures))
-    (omega (arith, c.before.before.before.before.start.ensures, c.before.start2.ensures))
-
-pub bad-start-spec : {M : Type 1} → statement M
-bad-start-spec =
+pub bad_start_spec : {M : Type 1} → statement M
+bad_start_spec =
     tie.close
-    (tie.spec start-requires returns returns-2 sub-start start-requires-2 returns-3 returns-4)
+    (tie.spec start-x-requires returns-then-end-x returns-then-u-eq0 overflow_sub-u start-requires returns-then-x-start returns-else-x-start)

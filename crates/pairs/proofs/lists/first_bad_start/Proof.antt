@@ -7,48 +7,48 @@ use Rattle.columns.proofs.Firsts.{NoneBelow, none_more, first_hit, first_past}
 use Rattle.pairs.proofs.lists.first_bad_start.Statement.{statement}
 use Rattle.pairs.proofs.lists.first_bad_start.Tie as tie
 
-abbrev invariant-loop : tie.invariant-loop
-invariant-loop n starts end u₀ u = (u ≤ n) × NoneBelow (bad_start starts end) u
+abbrev invariant-loop-u : tie.invariant-loop-u
+invariant-loop-u n starts end u₀ u = (u ≤ n) × NoneBelow (bad_start starts end) u
 
-abbrev decreases-loop : tie.decreases-loop
-decreases-loop n starts end u₀ u = n - u
+abbrev decreases-loop-u : tie.decreases-loop-u
+decreases-loop-u n starts end u₀ u = n - u
 
-loop-holds : tie.Need-loop-init invariant-loop decreases-loop
-loop-holds c = (omega arith, λ k h. absurd (omega (arith, h)))
+loop-u-init : tie.Need-loop-u-init invariant-loop-u decreases-loop-u
+loop-u-init c = (omega arith, λ k h. absurd (omega (arith, h)))
 
-bad-start-requires : tie.Need-bad-start-requires invariant-loop decreases-loop
-bad-start-requires c κs = omega arith
+bad_start-requires : tie.Need-bad_start-requires invariant-loop-u decreases-loop-u
+bad_start-requires c κs = omega arith
 
-returns : tie.Need-returns invariant-loop decreases-loop
-returns c = first_hit _ _ _ (omega arith) c.before.before.before.loop.invariant.1 (sym c.before.bad-start.ensures ∙ c.if1.true)
+returns-then-bad_start : tie.Need-returns-then-bad_start invariant-loop-u decreases-loop-u
+returns-then-bad_start c = first_hit _ _ _ (omega arith) c.loop-u.invariant.1 (sym c.bad_start.ensures ∙ c.if-bad_start.true)
 
-add-u : tie.Need-overflow-add-u invariant-loop decreases-loop
-add-u c = omega arith
+overflow_add-u : tie.Need-overflow_add-u invariant-loop-u decreases-loop-u
+overflow_add-u c = omega arith
 
-loop-less : tie.Need-loop-smaller invariant-loop decreases-loop
-loop-less c = omega arith
+loop-u-smaller : tie.Need-loop-u-smaller invariant-loop-u decreases-loop-u
+loop-u-smaller c = omega arith
 
-loop-again : tie.Need-loop-preserved invariant-loop decreases-loop
-loop-again c = (
+loop-u-preserved : tie.Need-loop-u-preserved invariant-loop-u decreases-loop-u
+loop-u-preserved c = (
   omega arith,
-  none_more (bad_start c.before.before.before.before.before.args.starts.now
-      c.before.before.before.before.before.args.end) c.before.before.before.loop.u c.before.before.before.loop.invariant.1
-      (sym c.before.bad-start.ensures ∙ c.if1.false),
+  none_more (bad_start c.args.starts.now
+      c.args.end) c.loop-u.u c.loop-u.invariant.1
+      (sym c.bad_start.ensures ∙ c.if-bad_start.false),
 )
 
-returns-2 : tie.Need-returns-2 invariant-loop decreases-loop
-returns-2 c = first_past _ _ _ (omega arith) c.before.loop.invariant.1 (omega arith)
+returns : tie.Need-returns invariant-loop-u decreases-loop-u
+returns c = first_past _ _ _ (omega arith) c.loop-u.invariant.1 (omega arith)
 
-pub first-bad-start-spec : {M : Type 1} → statement M
-first-bad-start-spec =
+pub first_bad_start_spec : {M : Type 1} → statement M
+first_bad_start_spec =
     tie.close
     (tie.spec
-    invariant-loop
-    decreases-loop
-    loop-holds
-    bad-start-requires
-    returns
-    add-u
-    loop-less
-    loop-again
-    returns-2)
+    invariant-loop-u
+    decreases-loop-u
+    loop-u-init
+    bad_start-requires
+    returns-then-bad_start
+    overflow_add-u
+    loop-u-smaller
+    loop-u-preserved
+    returns)

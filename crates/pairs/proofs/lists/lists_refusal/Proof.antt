@@ -5,48 +5,48 @@ use Rattle.pairs.proofs.Listing.{bad_start_found, starts_found, bad_pair_found}
 use Rattle.pairs.proofs.lists.lists_refusal.Statement.{statement}
 use Rattle.pairs.proofs.lists.lists_refusal.Tie as tie
 
-shorter-requires : tie.Need-shorter-requires
-shorter-requires c κs = search rules
+shorter-end-requires : tie.Need-shorter-end-requires
+shorter-end-requires c κs = search rules
 
-add-first-bad-start : tie.Need-overflow-add-first-bad-start
-add-first-bad-start c = search rules
+overflow_add-n : tie.Need-overflow_add-n
+overflow_add-n c = search rules
 
-first-bad-start-requires : tie.Need-first-bad-start-requires
-first-bad-start-requires c κs = search rules
+first_bad_start-bad-requires : tie.Need-first_bad_start-bad-requires
+first_bad_start-bad-requires c κs = search rules
 
 refuse-requires : tie.Need-refuse-requires
 refuse-requires c κs = search rules
 
-returns : tie.Need-returns
-returns c = let a = c.before.before.before.before.before.before.before.args in
+returns-then-bad-n : tie.Need-returns-then-bad-n
+returns-then-bad-n c = let a = c.args in
     c.refuse.ensures ∙ bad_start_found a.starts.now a.n a.labels.now a.blocks.now _ _
-    c.before.before.before.shorter.ensures c.before.before.first-bad-start.ensures c.before.if1.true
+    c.shorter-end.ensures c.first_bad_start-bad.ensures c.if-bad-n.true
 
-first-bad-in-requires : tie.Need-first-bad-in-requires
-first-bad-in-requires c κs = let a = c.before.before.before.before.before.before.args in (
-  (c.before.before.before.before.before.before.requires.0, c.before.before.shorter.ensures),
-  starts_found a.starts.now a.n a.labels.now a.blocks.now _ _ c.before.before.shorter.ensures
-      c.before.first-bad-start.ensures c.if1.false,
+first_bad_in-bad-requires : tie.Need-first_bad_in-bad-requires
+first_bad_in-bad-requires c κs = let a = c.args in (
+  (c.requires.0, c.shorter-end.ensures),
+  starts_found a.starts.now a.n a.labels.now a.blocks.now _ _ c.shorter-end.ensures
+      c.first_bad_start-bad.ensures c.if-bad-n.false,
 )
 
-refuse-unless-requires : tie.Need-refuse-unless-requires
-refuse-unless-requires c κs = search rules
+refuse_unless-requires : tie.Need-refuse_unless-requires
+refuse_unless-requires c κs = search rules
 
-returns-2 : tie.Need-returns-2
-returns-2 c = let a = c.before.before.before.before.before.before.before.before.args in
-    c.refuse-unless.ensures ∙ bad_pair_found a.starts.now a.n a.labels.now a.blocks.now _ _
-    c.before.before.before.before.shorter.ensures c.before.before.before.first-bad-start.ensures _
-    c.before.before.if1.false c.before.first-bad-in.ensures
+returns : tie.Need-returns
+returns c = let a = c.args in
+    c.refuse_unless.ensures ∙ bad_pair_found a.starts.now a.n a.labels.now a.blocks.now _ _
+    c.shorter-end.ensures c.first_bad_start-bad.ensures _
+    c.if-bad-n.false c.first_bad_in-bad.ensures
 
-pub lists-refusal-spec : {M : Type 1} → statement M
-lists-refusal-spec =
+pub lists_refusal_spec : {M : Type 1} → statement M
+lists_refusal_spec =
     tie.close
     (tie.spec
-    shorter-requires
-    add-first-bad-start
-    first-bad-start-requires
+    shorter-end-requires
+    overflow_add-n
+    first_bad_start-bad-requires
     refuse-requires
-    returns
-    first-bad-in-requires
-    refuse-unless-requires
-    returns-2)
+    returns-then-bad-n
+    first_bad_in-bad-requires
+    refuse_unless-requires
+    returns)

@@ -4,17 +4,17 @@ use native.Mathlib.Omega.{arith}
 use Rattle.pairs.proofs.lists.start.Statement.{statement}
 use Rattle.pairs.proofs.lists.start.Tie as tie
 
-mul-result : tie.Need-overflow-mul-result
-mul-result c = search rules
+offset_bounds-starts-u : tie.Need-offset_bounds-starts-u
+offset_bounds-starts-u c = search rules
 
-shared-slice-read-result : tie.Need-shared-slice-read-result
-shared-slice-read-result c = search rules
+bounds-starts-u : tie.Need-bounds-starts-u
+bounds-starts-u c = search rules
 
-cast-result : tie.Need-overflow-cast-result
-cast-result c = omega (arith, c.shared-slice-known.given c.before.args.u)
+overflow_cast-result : tie.Need-overflow_cast-result
+overflow_cast-result c = omega (arith, c.shared_slice_known-1.given c.args.u)
 
 returns : tie.Need-returns
 returns c = search rules
 
 pub start_spec : {M : Type 1} → statement M
-start_spec = tie.close (tie.spec mul-result shared-slice-read-result cast-result returns)
+start_spec = tie.close (tie.spec offset_bounds-starts-u bounds-starts-u overflow_cast-result returns)

@@ -7,60 +7,60 @@ use Rattle.pairs.proofs.pairs.bad_pair.Statement.{statement}
 use Rattle.columns.specs.Rows.{pair_at}
 use Rattle.pairs.proofs.pairs.bad_pair.Tie as tie
 
-returns : tie.Need-returns
-returns c = sym (pair_before _ _ _ _ c.if1.true)
+returns-then-j-from : tie.Need-returns-then-j-from
+returns-then-j-from c = sym (pair_before _ _ _ _ c.if-j-from.true)
 
-sub-below : tie.Need-overflow-sub-below
-sub-below c = search rules
+overflow_sub-j : tie.Need-overflow_sub-j
+overflow_sub-j c = search rules
 
-mul-below : tie.Need-overflow-mul-below
-mul-below c = search rules
+offset_bounds-labels-j : tie.Need-offset_bounds-labels-j
+offset_bounds-labels-j c = search rules
 
-shared-slice-read-below : tie.Need-shared-slice-read-below
-shared-slice-read-below c = search rules
+bounds-labels-j : tie.Need-bounds-labels-j
+bounds-labels-j c = search rules
 
-sub-below-2 : tie.Need-overflow-sub-below-2
-sub-below-2 c = search rules
+overflow_sub-j-2 : tie.Need-overflow_sub-j-2
+overflow_sub-j-2 c = search rules
 
-mul-below-2 : tie.Need-overflow-mul-below-2
-mul-below-2 c = search rules
+offset_bounds-blocks-j : tie.Need-offset_bounds-blocks-j
+offset_bounds-blocks-j c = search rules
 
-shared-slice-read-below-2 : tie.Need-shared-slice-read-below-2
-shared-slice-read-below-2 c = search rules
+bounds-blocks-j : tie.Need-bounds-blocks-j
+bounds-blocks-j c = search rules
 
-mul-below-3 : tie.Need-overflow-mul-below-3
-mul-below-3 c = search rules
+offset_bounds-labels-j-2 : tie.Need-offset_bounds-labels-j-2
+offset_bounds-labels-j-2 c = search rules
 
-shared-slice-read-below-3 : tie.Need-shared-slice-read-below-3
-shared-slice-read-below-3 c = search rules
+bounds-labels-j-2 : tie.Need-bounds-labels-j-2
+bounds-labels-j-2 c = search rules
 
-mul-below-4 : tie.Need-overflow-mul-below-4
-mul-below-4 c = search rules
+offset_bounds-blocks-j-2 : tie.Need-offset_bounds-blocks-j-2
+offset_bounds-blocks-j-2 c = search rules
 
-shared-slice-read-below-4 : tie.Need-shared-slice-read-below-4
-shared-slice-read-below-4 c = search rules
+bounds-blocks-j-2 : tie.Need-bounds-blocks-j-2
+bounds-blocks-j-2 c = search rules
 
 below-requires : tie.Need-below-requires
 below-requires c κs = search rules
 
-returns-2 : tie.Need-returns-2
+returns : tie.Need-returns
 unfolding pair_at
-returns-2 c = ap not c.below.ensures ∙ pair_after _ _ _ _ c.before.before.before.before.before.if1.false
+returns c = ap not c.below.ensures ∙ pair_after _ _ _ _ c.if-j-from.false
 
-pub bad-pair-spec : {M : Type 1} → statement M
-bad-pair-spec =
+pub bad_pair_spec : {M : Type 1} → statement M
+bad_pair_spec =
     tie.close
     (tie.spec
-    returns
-    sub-below
-    mul-below
-    shared-slice-read-below
-    sub-below-2
-    mul-below-2
-    shared-slice-read-below-2
-    mul-below-3
-    shared-slice-read-below-3
-    mul-below-4
-    shared-slice-read-below-4
+    returns-then-j-from
+    overflow_sub-j
+    offset_bounds-labels-j
+    bounds-labels-j
+    overflow_sub-j-2
+    offset_bounds-blocks-j
+    bounds-blocks-j
+    offset_bounds-labels-j-2
+    bounds-labels-j-2
+    offset_bounds-blocks-j-2
+    bounds-blocks-j-2
     below-requires
-    returns-2)
+    returns)

@@ -4,21 +4,21 @@ use Rattle.columns.specs.Sets.{lex, pair_lt}
 use Rattle.pairs.proofs.pairs.below.Statement.{statement}
 use Rattle.pairs.proofs.pairs.below.Tie as tie
 
-returns : tie.Need-returns
+returns-then-a-c : tie.Need-returns-then-a-c
 unfolding pair_lt lex
-returns c = simp (lt-ltb _ _ c.if1.true)
+returns-then-a-c c = simp (lt-ltb _ _ c.if-a-c.true)
 
-returns-2 : tie.Need-returns-2
+returns-then-c-a : tie.Need-returns-then-c-a
 unfolding pair_lt lex
-returns-2 c = simp (le-ltb _ _ c.before.if1.false, lt-ltb _ _ c.if2.true)
+returns-then-c-a c = simp (le-ltb _ _ c.if-a-c.false, lt-ltb _ _ c.if-c-a.true)
 
-returns-3 : tie.Need-returns-3
+returns-then-b-d : tie.Need-returns-then-b-d
 unfolding pair_lt lex
-returns-3 c = simp (le-ltb _ _ c.before.before.if1.false, le-ltb _ _ c.before.if2.false, lt-ltb _ _ c.if3.true)
+returns-then-b-d c = simp (le-ltb _ _ c.if-a-c.false, le-ltb _ _ c.if-c-a.false, lt-ltb _ _ c.if-b-d.true)
 
-returns-4 : tie.Need-returns-4
+returns-else-b-d : tie.Need-returns-else-b-d
 unfolding pair_lt lex
-returns-4 c = simp (le-ltb _ _ c.before.before.if1.false, le-ltb _ _ c.before.if2.false, le-ltb _ _ c.if3.false)
+returns-else-b-d c = simp (le-ltb _ _ c.if-a-c.false, le-ltb _ _ c.if-c-a.false, le-ltb _ _ c.if-b-d.false)
 
-pub below-spec : {M : Type 1} → statement M
-below-spec = tie.close (tie.spec returns returns-2 returns-3 returns-4)
+pub below_spec : {M : Type 1} → statement M
+below_spec = tie.close (tie.spec returns-then-a-c returns-then-c-a returns-then-b-d returns-else-b-d)

@@ -4,17 +4,17 @@ use Rattle.columns.specs.Sets.{pair_eq}
 use Rattle.pairs.proofs.pairs.equal.Statement.{statement}
 use Rattle.pairs.proofs.pairs.equal.Tie as tie
 
-returns : tie.Need-returns
+returns-then-a-c : tie.Need-returns-then-a-c
 unfolding pair_eq
-returns c = simp (ne_eqb _ _ c.if1.true)
+returns-then-a-c c = simp (ne_eqb _ _ c.if-a-c.true)
 
-returns-2 : tie.Need-returns-2
+returns-then-b-d : tie.Need-returns-then-b-d
 unfolding pair_eq
-returns-2 c = simp (eq-eqb _ _ c.before.if1.false, eq-eqb _ _ c.if2.true)
+returns-then-b-d c = simp (eq-eqb _ _ c.if-a-c.false, eq-eqb _ _ c.if-b-d.true)
 
-returns-3 : tie.Need-returns-3
+returns-else-b-d : tie.Need-returns-else-b-d
 unfolding pair_eq
-returns-3 c = simp (eq-eqb _ _ c.before.if1.false, ne_eqb _ _ c.if2.false)
+returns-else-b-d c = simp (eq-eqb _ _ c.if-a-c.false, ne_eqb _ _ c.if-b-d.false)
 
-pub equal-spec : {M : Type 1} → statement M
-equal-spec = tie.close (tie.spec returns returns-2 returns-3)
+pub equal_spec : {M : Type 1} → statement M
+equal_spec = tie.close (tie.spec returns-then-a-c returns-then-b-d returns-else-b-d)

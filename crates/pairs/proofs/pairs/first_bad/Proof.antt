@@ -8,47 +8,47 @@ use Rattle.pairs.proofs.Refusals.{pair_before}
 use Rattle.pairs.proofs.pairs.first_bad.Statement.{statement}
 use Rattle.pairs.proofs.pairs.first_bad.Tie as tie
 
-abbrev invariant-loop : tie.invariant-loop
-invariant-loop labels blocks from to j₀ j = ((from ≤ j) × (j ≤ to)) × NoneBelow (bad_pair labels blocks from) j
+abbrev invariant-loop-j : tie.invariant-loop-j
+invariant-loop-j labels blocks from to j₀ j = ((from ≤ j) × (j ≤ to)) × NoneBelow (bad_pair labels blocks from) j
 
-abbrev decreases-loop : tie.decreases-loop
-decreases-loop labels blocks from to j₀ j = to - j
+abbrev decreases-loop-j : tie.decreases-loop-j
+decreases-loop-j labels blocks from to j₀ j = to - j
 
-loop-holds : tie.Need-loop-init invariant-loop decreases-loop
-loop-holds c = ((omega arith, omega arith), λ k h. pair_before _ _ _ k (omega (arith, h)))
+loop-j-init : tie.Need-loop-j-init invariant-loop-j decreases-loop-j
+loop-j-init c = ((omega arith, omega arith), λ k h. pair_before _ _ _ k (omega (arith, h)))
 
-bad-pair-requires : tie.Need-bad-pair-requires invariant-loop decreases-loop
-bad-pair-requires c κs = omega arith
+bad_pair-requires : tie.Need-bad_pair-requires invariant-loop-j decreases-loop-j
+bad_pair-requires c κs = omega arith
 
-returns : tie.Need-returns invariant-loop decreases-loop
-returns c = first_hit _ _ _ (omega arith) c.before.before.before.loop.invariant.1 (sym c.before.bad-pair.ensures ∙ c.if1.true)
+returns-then-bad_pair : tie.Need-returns-then-bad_pair invariant-loop-j decreases-loop-j
+returns-then-bad_pair c = first_hit _ _ _ (omega arith) c.loop-j.invariant.1 (sym c.bad_pair.ensures ∙ c.if-bad_pair.true)
 
-add-j : tie.Need-overflow-add-j invariant-loop decreases-loop
-add-j c = omega arith
+overflow_add-j : tie.Need-overflow_add-j invariant-loop-j decreases-loop-j
+overflow_add-j c = omega arith
 
-loop-less : tie.Need-loop-smaller invariant-loop decreases-loop
-loop-less c = omega arith
+loop-j-smaller : tie.Need-loop-j-smaller invariant-loop-j decreases-loop-j
+loop-j-smaller c = omega arith
 
-loop-again : tie.Need-loop-preserved invariant-loop decreases-loop
-loop-again c = (
+loop-j-preserved : tie.Need-loop-j-preserved invariant-loop-j decreases-loop-j
+loop-j-preserved c = (
   (omega arith, omega arith),
-  none_more _ _ c.before.before.before.loop.invariant.1
-      (sym c.before.bad-pair.ensures ∙ c.if1.false),
+  none_more _ _ c.loop-j.invariant.1
+      (sym c.bad_pair.ensures ∙ c.if-bad_pair.false),
 )
 
-returns-2 : tie.Need-returns-2 invariant-loop decreases-loop
-returns-2 c = first_past _ _ _ (omega arith) c.before.loop.invariant.1 (omega arith)
+returns : tie.Need-returns invariant-loop-j decreases-loop-j
+returns c = first_past _ _ _ (omega arith) c.loop-j.invariant.1 (omega arith)
 
-pub first-bad-spec : {M : Type 1} → statement M
-first-bad-spec =
+pub first_bad_spec : {M : Type 1} → statement M
+first_bad_spec =
     tie.close
     (tie.spec
-    invariant-loop
-    decreases-loop
-    loop-holds
-    bad-pair-requires
-    returns
-    add-j
-    loop-less
-    loop-again
-    returns-2)
+    invariant-loop-j
+    decreases-loop-j
+    loop-j-init
+    bad_pair-requires
+    returns-then-bad_pair
+    overflow_add-j
+    loop-j-smaller
+    loop-j-preserved
+    returns)

@@ -4,13 +4,13 @@ use Rattle.pairs.specs.Pairs.{shorter}
 use Rattle.pairs.proofs.pairs.shorter.Statement.{statement}
 use Rattle.pairs.proofs.pairs.shorter.Tie as tie
 
-returns : tie.Need-returns
+returns-then-a-b : tie.Need-returns-then-a-b
 unfolding shorter
-returns c = simp (lt-ltb _ _ c.if1.true)
+returns-then-a-b c = simp (lt-ltb _ _ c.if-a-b.true)
 
-returns-2 : tie.Need-returns-2
+returns-else-a-b : tie.Need-returns-else-a-b
 unfolding shorter
-returns-2 c = simp (le-ltb _ _ c.if1.false)
+returns-else-a-b c = simp (le-ltb _ _ c.if-a-b.false)
 
 pub shorter_spec : {M : Type 1} → statement M
-shorter_spec = tie.close (tie.spec returns returns-2)
+shorter_spec = tie.close (tie.spec returns-then-a-b returns-else-a-b)

@@ -9,13 +9,13 @@ use Rattle.partition.proofs.block.bounded.Tie as tie
 within-requires : tie.Need-within-requires
 within-requires c κs = search rules
 
+returns-then-not-within : tie.Need-returns-then-not-within
+unfolding new_block
+returns-then-not-within c = simp (sym c.within.ensures ∙ c.if-not-within.true)
+
 returns : tie.Need-returns
 unfolding new_block
-returns c = simp (sym c.before.within.ensures ∙ not-true _ c.if1.true)
-
-returns-2 : tie.Need-returns-2
-unfolding new_block
-returns-2 c = simp (sym c.before.within.ensures ∙ not-false _ c.if1.false)
+returns c = simp (sym c.within.ensures ∙ c.if-not-within.false)
 
 pub bounded_spec : {M : Type 1} → statement M
-bounded_spec = tie.close (tie.spec within-requires returns returns-2)
+bounded_spec = tie.close (tie.spec within-requires returns-then-not-within returns)

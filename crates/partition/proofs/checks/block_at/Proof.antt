@@ -20,6 +20,6 @@ returns : tie.Need-returns
 unfolding block_at
 returns c = cc
 
-pub block-at-spec : {M : Type 1} → statement M
-block-at-spec =
+pub block_at_spec : {M : Type 1} → statement M
+block_at_spec =
     tie.close (tie.spec at-requires at-requires-2 at-requires-3 within-requires returns)

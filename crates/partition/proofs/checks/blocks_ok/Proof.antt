@@ -10,49 +10,49 @@ use mathlib.Core.Bool.{true}
 use Rattle.partition.proofs.checks.blocks_ok.Statement.{statement}
 use Rattle.partition.proofs.checks.blocks_ok.Tie as tie
 
-abbrev invariant-loop : tie.invariant-loop
-invariant-loop n count begin split end b₀ b = (b ≤ count) × (all b (block_at begin split end n) ≡ true)
+abbrev invariant-loop-b : tie.invariant-loop-b
+invariant-loop-b n count begin split end b₀ b = (b ≤ count) × (all b (block_at begin split end n) ≡ true)
 
-abbrev decreases-loop : tie.decreases-loop
-decreases-loop n count begin split end b₀ b = count - b
+abbrev decreases-loop-b : tie.decreases-loop-b
+decreases-loop-b n count begin split end b₀ b = count - b
 
-loop-holds : tie.Need-loop-init invariant-loop decreases-loop
-loop-holds c = (omega arith, all_none _)
+loop-b-init : tie.Need-loop-b-init invariant-loop-b decreases-loop-b
+loop-b-init c = (omega arith, all_none _)
 
-block-at-requires : tie.Need-block-at-requires invariant-loop decreases-loop
-block-at-requires c κs = omega arith
+block_at-requires : tie.Need-block_at-requires invariant-loop-b decreases-loop-b
+block_at-requires c κs = omega arith
 
-returns : tie.Need-returns invariant-loop decreases-loop
+returns-then-not-block_at : tie.Need-returns-then-not-block_at invariant-loop-b decreases-loop-b
 unfolding boundsb
-returns c = sym (all_fails _ _ _ (omega arith) (sym c.before.block_at_lem.ensures ∙ not-true _ c.if1.true))
+returns-then-not-block_at c = sym (all_fails _ _ _ (omega arith) (sym c.block_at.ensures ∙ c.if-not-block_at.true))
 
-add-b : tie.Need-overflow-add-b invariant-loop decreases-loop
-add-b c = omega arith
+overflow_add-b : tie.Need-overflow_add-b invariant-loop-b decreases-loop-b
+overflow_add-b c = omega arith
 
-loop-less : tie.Need-loop-smaller invariant-loop decreases-loop
-loop-less c = omega arith
+loop-b-smaller : tie.Need-loop-b-smaller invariant-loop-b decreases-loop-b
+loop-b-smaller c = omega arith
 
-loop-again : tie.Need-loop-preserved invariant-loop decreases-loop
-loop-again c = (
+loop-b-preserved : tie.Need-loop-b-preserved invariant-loop-b decreases-loop-b
+loop-b-preserved c = (
   omega arith,
-  all_more _ _ c.before.before.before.loop.invariant.1
-      (sym c.before.block_at_lem.ensures ∙ not-false _ c.if1.false),
+  all_more _ _ c.loop-b.invariant.1
+      (sym c.block_at.ensures ∙ c.if-not-block_at.false),
 )
 
-returns-2 : tie.Need-returns-2 invariant-loop decreases-loop
+returns : tie.Need-returns invariant-loop-b decreases-loop-b
 unfolding boundsb
-returns-2 c = all_done _ _ _ c.before.loop.invariant.1 (omega arith)
+returns c = all_done _ _ _ c.loop-b.invariant.1 (omega arith)
 
-pub blocks-ok-spec : {M : Type 1} → statement M
-blocks-ok-spec =
+pub blocks_ok_spec : {M : Type 1} → statement M
+blocks_ok_spec =
     tie.close
     (tie.spec
-    invariant-loop
-    decreases-loop
-    loop-holds
-    block-at-requires
-    returns
-    add-b
-    loop-less
-    loop-again
-    returns-2)
+    invariant-loop-b
+    decreases-loop-b
+    loop-b-init
+    block_at-requires
+    returns-then-not-block_at
+    overflow_add-b
+    loop-b-smaller
+    loop-b-preserved
+    returns)

@@ -17,36 +17,36 @@ use Rattle.partition.proofs.checks.check.Tie as tie
 abbrev P : tie.Start → Partition
 P a =
     parts a.args.elements.now a.args.element_offset.now a.args.element_to_block.now a.args.begin.now
-    a.args.marked_split_lem.now a.args.end.now a.args.n a.args.count
+    a.args.marked_split.now a.args.end.now a.args.n a.args.count
 
-size-refusal-requires : tie.Need-size-refusal-requires
-size-refusal-requires c κs = search rules
+size_refusal-t-requires : tie.Need-size_refusal-t-requires
+size_refusal-t-requires c κs = search rules
+
+returns-then-number-ne0 : tie.Need-returns-then-number-ne0
+unfolding longb
+returns-then-number-ne0 c = let a = c.before.before.before.before.before.before.before.before in
+    ends (size_tests (P a) a.args.room) (test (consistentb (P a)) inconsistent 0 ∷ []) refl _ c.size_refusal-t.ensures
+    c.if-number-ne0.true
+
+consistent-sound-requires : tie.Need-consistent-sound-requires
+unfolding longb
+consistent-sound-requires c κs = let a = c.before.before.before.before.before.before.before.before in
+    let q = sized_of (P a) a.args.room
+    (passed (size_tests (P a) a.args.room) refl _ c.size_refusal-t.ensures c.if-number-ne0.false) in
+    omega (arith, q.long, q.small)
+
+refuse_unless-requires : tie.Need-refuse_unless-requires
+refuse_unless-requires c κs = search rules
 
 returns : tie.Need-returns
 unfolding longb
-returns c = let a = c.before.before.before.before.before.before.before.before in
-    ends (size_tests (P a) a.args.room) (test (consistentb (P a)) inconsistent 0 ∷ []) refl _ c.before.size-refusal.ensures
-    c.if1.true
-
-consistent-requires : tie.Need-consistent-requires
-unfolding longb
-consistent-requires c κs = let a = c.before.before.before.before.before.before.before.before in
-    let q = sized_of (P a) a.args.room
-    (passed (size_tests (P a) a.args.room) refl _ c.before.size-refusal.ensures c.if1.false) in
-    omega (arith, q.long, q.small)
-
-refuse-unless-requires : tie.Need-refuse-unless-requires
-refuse-unless-requires c κs = search rules
-
-returns-2 : tie.Need-returns-2
-unfolding longb
-returns-2 c = let a = c.before.before.before.before.before.before.before.before.before.before in
-    c.refuse-unless.ensures
-    ∙ ap (λ (b : Bool). due (test b inconsistent 0 ∷ [])) c.before.consistent.ensures
+returns c = let a = c.before.before.before.before.before.before.before.before.before.before in
+    c.refuse_unless.ensures
+    ∙ ap (λ (b : Bool). due (test b inconsistent 0 ∷ [])) c.consistent-sound.ensures
     ∙ goes_on_lem (size_tests (P a) a.args.room) (test (consistentb (P a)) inconsistent 0 ∷ []) refl _
-    c.before.before.before.size-refusal.ensures c.before.before.if1.false
+    c.size_refusal-t.ensures c.if-number-ne0.false
 
-pub check-spec : {M : Type 1} → statement M
-check-spec =
+pub check_spec : {M : Type 1} → statement M
+check_spec =
     tie.close
-    (tie.spec size-refusal-requires returns consistent-requires refuse-unless-requires returns-2)
+    (tie.spec size_refusal-t-requires returns-then-number-ne0 consistent-sound-requires refuse_unless-requires returns)

@@ -6,92 +6,92 @@ use Rattle.partition.specs.Partition.{consistentb}
 use Rattle.partition.proofs.checks.consistent.Statement.{statement}
 use Rattle.partition.proofs.checks.consistent.Tie as tie
 
-returns : tie.Need-returns
+returns-then-count-lt1 : tie.Need-returns-then-count-lt1
 unfolding consistentb
-returns c = simp (lt-leb _ _ c.if1.true)
+returns-then-count-lt1 c = simp (lt-leb _ _ c.if-count-lt1.true)
 
-returns-2 : tie.Need-returns-2
+returns-then-n-count : tie.Need-returns-then-n-count
 unfolding consistentb
-returns-2 c = simp (
-  le-leb _ _ c.before.if1.false,
-  lt-leb _ _ c.if2.true,
+returns-then-n-count c = simp (
+  le-leb _ _ c.if-count-lt1.false,
+  lt-leb _ _ c.if-n-count.true,
 )
 
-inverse-ok-requires : tie.Need-inverse-ok-requires
-inverse-ok-requires c κs = search rules
+inverse_ok-requires : tie.Need-inverse_ok-requires
+inverse_ok-requires c κs = search rules
 
-returns-3 : tie.Need-returns-3
+returns-then-not-inverse_ok : tie.Need-returns-then-not-inverse_ok
 unfolding consistentb
-returns-3 c = simp (
-  le-leb _ _ c.before.before.before.if1.false,
-  le-leb _ _ c.before.before.if2.false,
-  sym c.before.inverse-ok.ensures ∙ not-true _ c.if3.true,
+returns-then-not-inverse_ok c = simp (
+  le-leb _ _ c.if-count-lt1.false,
+  le-leb _ _ c.if-n-count.false,
+  sym c.inverse_ok.ensures ∙ c.if-not-inverse_ok.true,
 )
 
-blocks-ok-requires : tie.Need-blocks-ok-requires
-blocks-ok-requires c κs = search rules
+blocks_ok-requires : tie.Need-blocks_ok-requires
+blocks_ok-requires c κs = search rules
 
-returns-4 : tie.Need-returns-4
+returns-then-not-blocks_ok : tie.Need-returns-then-not-blocks_ok
 unfolding consistentb
-returns-4 c = simp (
-  le-leb _ _ c.before.before.before.before.before.if1.false,
-  le-leb _ _ c.before.before.before.before.if2.false,
-  sym c.before.before.before.inverse-ok.ensures ∙ not-false _ c.before.before.if3.false,
-  sym c.before.blocks-ok.ensures ∙ not-true _ c.if4.true,
+returns-then-not-blocks_ok c = simp (
+  le-leb _ _ c.if-count-lt1.false,
+  le-leb _ _ c.if-n-count.false,
+  sym c.inverse_ok.ensures ∙ c.if-not-inverse_ok.false,
+  sym c.blocks_ok.ensures ∙ c.if-not-blocks_ok.true,
 )
 
-lies-ok-requires : tie.Need-lies-ok-requires
-lies-ok-requires c κs = search rules
+lies_ok-requires : tie.Need-lies_ok-requires
+lies_ok-requires c κs = search rules
 
-returns-5 : tie.Need-returns-5
+returns-then-not-lies_ok : tie.Need-returns-then-not-lies_ok
 unfolding consistentb
-returns-5 c = simp (
-  le-leb _ _ c.before.before.before.before.before.before.before.if1.false,
-  le-leb _ _ c.before.before.before.before.before.before.if2.false,
-  sym c.before.before.before.before.before.inverse-ok.ensures ∙ not-false _ c.before.before.before.before.if3.false,
-  sym c.before.before.before.blocks-ok.ensures ∙ not-false _ c.before.before.if4.false,
-  sym c.before.Lies-ok.ensures ∙ not-true _ c.if5.true,
+returns-then-not-lies_ok c = simp (
+  le-leb _ _ c.if-count-lt1.false,
+  le-leb _ _ c.if-n-count.false,
+  sym c.inverse_ok.ensures ∙ c.if-not-inverse_ok.false,
+  sym c.blocks_ok.ensures ∙ c.if-not-blocks_ok.false,
+  sym c.lies_ok.ensures ∙ c.if-not-lies_ok.true,
 )
 
-length-sum-requires : tie.Need-length-sum-requires
-length-sum-requires c κs = search rules
+length_sum-sum-requires : tie.Need-length_sum-sum-requires
+length_sum-sum-requires c κs = search rules
 
-returns-6 : tie.Need-returns-6
+returns-then-sum-n : tie.Need-returns-then-sum-n
 unfolding consistentb
-returns-6 c = simp (
-  le-leb _ _ c.before.before.before.before.before.before.before.before.before.if1.false,
-  le-leb _ _ c.before.before.before.before.before.before.before.before.if2.false,
-  sym c.before.before.before.before.before.before.before.inverse-ok.ensures ∙
-      not-false _ c.before.before.before.before.before.before.if3.false,
-  sym c.before.before.before.before.before.blocks-ok.ensures ∙ not-false _ c.before.before.before.before.if4.false,
-  sym c.before.before.before.Lies-ok.ensures ∙ not-false _ c.before.before.if5.false,
-  eq-eqb _ _ (sym c.before.length-sum.ensures ∙ c.if6.true),
+returns-then-sum-n c = simp (
+  le-leb _ _ c.if-count-lt1.false,
+  le-leb _ _ c.if-n-count.false,
+  sym c.inverse_ok.ensures ∙
+      c.if-not-inverse_ok.false,
+  sym c.blocks_ok.ensures ∙ c.if-not-blocks_ok.false,
+  sym c.lies_ok.ensures ∙ c.if-not-lies_ok.false,
+  eq-eqb _ _ (sym c.length_sum-sum.ensures ∙ c.if-sum-n.true),
 )
 
-returns-7 : tie.Need-returns-7
+returns-else-sum-n : tie.Need-returns-else-sum-n
 unfolding consistentb
-returns-7 c = simp (
-  le-leb _ _ c.before.before.before.before.before.before.before.before.before.if1.false,
-  le-leb _ _ c.before.before.before.before.before.before.before.before.if2.false,
-  sym c.before.before.before.before.before.before.before.inverse-ok.ensures ∙
-      not-false _ c.before.before.before.before.before.before.if3.false,
-  sym c.before.before.before.before.before.blocks-ok.ensures ∙ not-false _ c.before.before.before.before.if4.false,
-  sym c.before.before.before.Lies-ok.ensures ∙ not-false _ c.before.before.if5.false,
-  ne_eqb _ _ (λ q. c.if6.false (c.before.length-sum.ensures ∙ q)),
+returns-else-sum-n c = simp (
+  le-leb _ _ c.if-count-lt1.false,
+  le-leb _ _ c.if-n-count.false,
+  sym c.inverse_ok.ensures ∙
+      c.if-not-inverse_ok.false,
+  sym c.blocks_ok.ensures ∙ c.if-not-blocks_ok.false,
+  sym c.lies_ok.ensures ∙ c.if-not-lies_ok.false,
+  ne_eqb _ _ (λ q. c.if-sum-n.false (c.length_sum-sum.ensures ∙ q)),
 )
 
-pub consistent-spec : {M : Type 1} → statement M
-consistent-spec =
+pub consistent_spec : {M : Type 1} → statement M
+consistent_spec =
     tie.close
     (tie.spec
-    returns
-    returns-2
-    inverse-ok-requires
-    returns-3
-    blocks-ok-requires
-    returns-4
-    lies-ok-requires
-    returns-5
-    length-sum-requires
-    returns-6
-    returns-7)
+    returns-then-count-lt1
+    returns-then-n-count
+    inverse_ok-requires
+    returns-then-not-inverse_ok
+    blocks_ok-requires
+    returns-then-not-blocks_ok
+    lies_ok-requires
+    returns-then-not-lies_ok
+    length_sum-sum-requires
+    returns-then-sum-n
+    returns-else-sum-n)

@@ -28,50 +28,50 @@ good : (a b : List ℕ) (n k x y : ℕ) → x ≡ get_or a k 0 → y ≡ get_or 
 unfolding inverse_at
 good a b n k x y e e' h q = and_both (lt-ltb _ n (omega arith)) (eq-eqb _ k (cc))
 
-abbrev invariant-loop : tie.invariant-loop
-invariant-loop n a b k₀ k = (k ≤ n) × (all k (inverse_at a b n) ≡ true)
+abbrev invariant-loop-k : tie.invariant-loop-k
+invariant-loop-k n a b k₀ k = (k ≤ n) × (all k (inverse_at a b n) ≡ true)
 
-abbrev decreases-loop : tie.decreases-loop
-decreases-loop n a b k₀ k = n - k
+abbrev decreases-loop-k : tie.decreases-loop-k
+decreases-loop-k n a b k₀ k = n - k
 
-loop-holds : tie.Need-loop-init invariant-loop decreases-loop
-loop-holds c = (omega arith, all_none _)
+loop-k-init : tie.Need-loop-k-init invariant-loop-k decreases-loop-k
+loop-k-init c = (omega arith, all_none _)
 
-at-requires : tie.Need-at-requires invariant-loop decreases-loop
-at-requires c κs = omega arith
+at-x-requires : tie.Need-at-x-requires invariant-loop-k decreases-loop-k
+at-x-requires c κs = omega arith
 
-returns : tie.Need-returns invariant-loop decreases-loop
+returns-then-n-x : tie.Need-returns-then-n-x invariant-loop-k decreases-loop-k
 unfolding inverseb
-returns c = sym (all_fails _ _ _ (omega arith) (high _ _ _ _ _ c.before.at.ensures.0 c.if1.true))
+returns-then-n-x c = sym (all_fails _ _ _ (omega arith) (high _ _ _ _ _ c.at-x.ensures.0 c.if-n-x.true))
 
-at-requires-2 : tie.Need-at-requires-2 invariant-loop decreases-loop
-at-requires-2 c κs = omega arith
+at-y-requires : tie.Need-at-y-requires invariant-loop-k decreases-loop-k
+at-y-requires c κs = omega arith
 
-returns-2 : tie.Need-returns-2 invariant-loop decreases-loop
+returns-then-y-k : tie.Need-returns-then-y-k invariant-loop-k decreases-loop-k
 unfolding inverseb
-returns-2 c =
-    let e = c.before.before.before.at.ensures.0 in
-    sym (all_fails _ _ _ (omega arith) (other _ _ _ _ _ _ e c.before.at2.ensures.0 c.if2.true))
+returns-then-y-k c =
+    let e = c.at-x.ensures.0 in
+    sym (all_fails _ _ _ (omega arith) (other _ _ _ _ _ _ e c.at-y.ensures.0 c.if-y-k.true))
 
-add-k : tie.Need-overflow-add-k invariant-loop decreases-loop
-add-k c = omega arith
+overflow_add-k : tie.Need-overflow_add-k invariant-loop-k decreases-loop-k
+overflow_add-k c = omega arith
 
-loop-less : tie.Need-loop-smaller invariant-loop decreases-loop
-loop-less c = omega arith
+loop-k-smaller : tie.Need-loop-k-smaller invariant-loop-k decreases-loop-k
+loop-k-smaller c = omega arith
 
-loop-again : tie.Need-loop-preserved invariant-loop decreases-loop
-loop-again c =
-    let e = c.before.before.before.at.ensures.0 in (
+loop-k-preserved : tie.Need-loop-k-preserved invariant-loop-k decreases-loop-k
+loop-k-preserved c =
+    let e = c.at-x.ensures.0 in (
       omega arith,
-      all_more _ _ c.before.before.before.before.before.loop.invariant.1
-          (good _ _ _ _ _ _ e c.before.at2.ensures.0 (omega arith) c.if2.false),
+      all_more _ _ c.loop-k.invariant.1
+          (good _ _ _ _ _ _ e c.at-y.ensures.0 (omega arith) c.if-y-k.false),
     )
 
-returns-3 : tie.Need-returns-3 invariant-loop decreases-loop
+returns : tie.Need-returns invariant-loop-k decreases-loop-k
 unfolding inverseb
-returns-3 c = all_done _ _ _ c.before.loop.invariant.1 (omega arith)
+returns c = all_done _ _ _ c.loop-k.invariant.1 (omega arith)
 
-pub inverse-ok-spec : {M : Type 1} → statement M
-inverse-ok-spec =
+pub inverse_ok_spec : {M : Type 1} → statement M
+inverse_ok_spec =
     tie.close
-    (tie.spec invariant-loop decreases-loop loop-holds at-requires returns at-requires-2 returns-2 add-k loop-less loop-again returns-3)
+    (tie.spec invariant-loop-k decreases-loop-k loop-k-init at-x-requires returns-then-n-x at-y-requires returns-then-y-k overflow_add-k loop-k-smaller loop-k-preserved returns)

@@ -6,58 +6,59 @@ use mathlib.Core.Path.{◌≡◌, refl, ap, ◌∙◌}
 use native.Mathlib.Omega.{arith}
 use Prim.Native.Nat.{◌≤◌, ◌-◌, ◌*◌}
 use Rattle.partition.proofs.checks.length_sum.Statement.{statement}
+use Rattle.partition.proofs.checks.length_sum.Lts.{then-x-z, else-x-z}
 use Rattle.partition.proofs.checks.length_sum.Tie as tie
 
-abbrev invariant-loop : tie.invariant-loop
-invariant-loop count begin end sum₀ b₀ sum b = (b ≤ count) × ((sum ≡ lengths begin end b) × (sum ≤ 65535 * b))
+abbrev invariant-loop-b : tie.invariant-loop-b
+invariant-loop-b count begin end sum₀ b₀ sum b = (b ≤ count) × ((sum ≡ lengths begin end b) × (sum ≤ 65535 * b))
 
-abbrev decreases-loop : tie.decreases-loop
-decreases-loop count begin end sum₀ b₀ sum b = count - b
+abbrev decreases-loop-b : tie.decreases-loop-b
+decreases-loop-b count begin end sum₀ b₀ sum b = count - b
 
-loop-holds : tie.Need-loop-init invariant-loop decreases-loop
+loop-b-init : tie.Need-loop-b-init invariant-loop-b decreases-loop-b
 unfolding lengths
-loop-holds c = (omega arith, (refl, omega arith))
+loop-b-init c = (omega arith, (refl, omega arith))
 
-at-requires : tie.Need-at-requires invariant-loop decreases-loop
-at-requires c κs = omega arith
+at-x-requires : tie.Need-at-x-requires invariant-loop-b decreases-loop-b
+at-x-requires c κs = omega arith
 
-at-requires-2 : tie.Need-at-requires-2 invariant-loop decreases-loop
-at-requires-2 c κs = omega arith
+at-z-requires : tie.Need-at-z-requires invariant-loop-b decreases-loop-b
+at-z-requires c κs = omega arith
 
-add-sum : tie.Need-overflow-add-sum invariant-loop decreases-loop
-add-sum c = omega arith
+overflow_add-sum : tie.Need-overflow_add-sum invariant-loop-b decreases-loop-b
+overflow_add-sum c = omega arith
 
-add-b : tie.Need-overflow-add-b invariant-loop decreases-loop
-add-b c = omega arith
+overflow_add-b : tie.Need-overflow_add-b invariant-loop-b decreases-loop-b
+overflow_add-b c = omega arith
 
-loop-less : tie.Need-loop-smaller invariant-loop decreases-loop
-loop-less c = omega arith
+loop-b-smaller : tie.Need-loop-b-smaller invariant-loop-b decreases-loop-b
+loop-b-smaller c = omega arith
 
-loop-again : tie.Need-loop-preserved invariant-loop decreases-loop
-loop-again c =
-    let i = c.before.before.before.before.loop.invariant in
-    let x = c.before.before.at.ensures in
-    let z = c.before.at2.ensures in
-    ⊎_elim
-    (λ w. (omega arith, (lengths_more _ _ _ _ _ _ _ x.0 z.0 i.1.0 w.1, omega (arith, w.1))))
-    (λ w. (omega arith, (lengths_more _ _ _ _ _ _ _ x.0 z.0 i.1.0 (omega (arith, w.1)), omega (arith, w.1))))
-    c.if1.branch
+loop-b-preserved : tie.Need-loop-b-preserved invariant-loop-b decreases-loop-b
+loop-b-preserved c =
+    let i = c.loop-b.invariant in
+    let x = c.at-x.ensures in
+    let z = c.at-z.ensures in
+    elim c.if-x-z.branch [
+      then-x-z w ↦ (omega arith, (lengths_more _ _ _ _ _ _ _ x.0 z.0 i.1.0 w.sum-is, omega (arith, w.sum-is)))
+    | else-x-z w ↦ (omega arith, (lengths_more _ _ _ _ _ _ _ x.0 z.0 i.1.0 (omega (arith, w.sum-is)), omega (arith, w.sum-is)))
+    ]
 
-returns : tie.Need-returns invariant-loop decreases-loop
-returns c = let e : c.before.loop.b ≡ c.before.before.before.before.args.count = omega arith in c.before.loop.invariant.1.0 ∙
+returns : tie.Need-returns invariant-loop-b decreases-loop-b
+returns c = let e : c.loop-b.b ≡ c.args.count = omega arith in c.loop-b.invariant.1.0 ∙
     ap (lengths _ _) e
 
-pub length-sum-spec : {M : Type 1} → statement M
-length-sum-spec =
+pub length_sum_spec : {M : Type 1} → statement M
+length_sum_spec =
     tie.close
     (tie.spec
-    invariant-loop
-    decreases-loop
-    loop-holds
-    at-requires
-    at-requires-2
-    add-sum
-    add-b
-    loop-less
-    loop-again
+    invariant-loop-b
+    decreases-loop-b
+    loop-b-init
+    at-x-requires
+    at-z-requires
+    overflow_add-sum
+    overflow_add-b
+    loop-b-smaller
+    loop-b-preserved
     returns)

@@ -17,13 +17,16 @@ lies :
 unfolding lie_at
 lies o bl bg en count s b x y z r eb h ex ey ez er = rw (lt-ltb (get_or bl s 0) count (omega arith)) (cc)
 
+at-b-requires : tie.Need-at-b-requires
+at-b-requires c κs = search rules
+
+returns-then-count-b : tie.Need-returns-then-count-b
+unfolding lie_at
+returns-then-count-b c = let a = c.args in
+    rw (le-ltb (get_or a.element_to_block.now a.s 0) a.count (omega arith))
+
 at-requires : tie.Need-at-requires
 at-requires c κs = search rules
-
-returns : tie.Need-returns
-unfolding lie_at
-returns c = let a = c.before.before.before.before.before.before.args in
-    rw (le-ltb (get_or a.element_to_block.now a.s 0) a.count (omega arith))
 
 at-requires-2 : tie.Need-at-requires-2
 at-requires-2 c κs = search rules
@@ -31,24 +34,21 @@ at-requires-2 c κs = search rules
 at-requires-3 : tie.Need-at-requires-3
 at-requires-3 c κs = search rules
 
-at-requires-4 : tie.Need-at-requires-4
-at-requires-4 c κs = search rules
-
 inside-requires : tie.Need-inside-requires
 inside-requires c κs = search rules
 
-returns-2 : tie.Need-returns-2
-returns-2 c = lies _ _ _ _ _ _ _ _ _ _ _ c.before.before.before.before.before.at.ensures.0 (omega arith)
-    c.before.before.before.at2.ensures.0 c.before.before.at3.ensures.0 c.before.at4.ensures.0 c.inside.ensures
+returns : tie.Need-returns
+returns c = lies _ _ _ _ _ _ _ _ _ _ _ c.at-b.ensures.0 (omega arith)
+    c.at.ensures.0 c.at-2.ensures.0 c.at-3.ensures.0 c.inside.ensures
 
-pub lie-at-spec : {M : Type 1} → statement M
-lie-at-spec =
+pub lie_at_spec : {M : Type 1} → statement M
+lie_at_spec =
     tie.close
     (tie.spec
+    at-b-requires
+    returns-then-count-b
     at-requires
-    returns
     at-requires-2
     at-requires-3
-    at-requires-4
     inside-requires
-    returns-2)
+    returns)

@@ -10,49 +10,49 @@ use mathlib.Core.Bool.{true}
 use Rattle.partition.proofs.checks.lies_ok.Statement.{statement}
 use Rattle.partition.proofs.checks.lies_ok.Tie as tie
 
-abbrev invariant-loop : tie.invariant-loop
-invariant-loop n count offset block begin end s₀ s = (s ≤ n) × (all s (lie_at offset block begin end count) ≡ true)
+abbrev invariant-loop-s : tie.invariant-loop-s
+invariant-loop-s n count offset block begin end s₀ s = (s ≤ n) × (all s (lie_at offset block begin end count) ≡ true)
 
-abbrev decreases-loop : tie.decreases-loop
-decreases-loop n count offset block begin end s₀ s = n - s
+abbrev decreases-loop-s : tie.decreases-loop-s
+decreases-loop-s n count offset block begin end s₀ s = n - s
 
-loop-holds : tie.Need-loop-init invariant-loop decreases-loop
-loop-holds c = (omega arith, all_none _)
+loop-s-init : tie.Need-loop-s-init invariant-loop-s decreases-loop-s
+loop-s-init c = (omega arith, all_none _)
 
-lie-at-requires : tie.Need-lie-at-requires invariant-loop decreases-loop
-lie-at-requires c κs = omega arith
+lie_at-requires : tie.Need-lie_at-requires invariant-loop-s decreases-loop-s
+lie_at-requires c κs = omega arith
 
-returns : tie.Need-returns invariant-loop decreases-loop
+returns-then-not-lie_at : tie.Need-returns-then-not-lie_at invariant-loop-s decreases-loop-s
 unfolding liesb
-returns c = sym (all_fails _ _ _ (omega arith) (sym c.before.lie-at.ensures ∙ not-true _ c.if1.true))
+returns-then-not-lie_at c = sym (all_fails _ _ _ (omega arith) (sym c.lie_at.ensures ∙ c.if-not-lie_at.true))
 
-add-s : tie.Need-overflow-add-s invariant-loop decreases-loop
-add-s c = omega arith
+overflow_add-s : tie.Need-overflow_add-s invariant-loop-s decreases-loop-s
+overflow_add-s c = omega arith
 
-loop-less : tie.Need-loop-smaller invariant-loop decreases-loop
-loop-less c = omega arith
+loop-s-smaller : tie.Need-loop-s-smaller invariant-loop-s decreases-loop-s
+loop-s-smaller c = omega arith
 
-loop-again : tie.Need-loop-preserved invariant-loop decreases-loop
-loop-again c = (
+loop-s-preserved : tie.Need-loop-s-preserved invariant-loop-s decreases-loop-s
+loop-s-preserved c = (
   omega arith,
-  all_more _ _ c.before.before.before.loop.invariant.1
-      (sym c.before.lie-at.ensures ∙ not-false _ c.if1.false),
+  all_more _ _ c.loop-s.invariant.1
+      (sym c.lie_at.ensures ∙ c.if-not-lie_at.false),
 )
 
-returns-2 : tie.Need-returns-2 invariant-loop decreases-loop
+returns : tie.Need-returns invariant-loop-s decreases-loop-s
 unfolding liesb
-returns-2 c = all_done _ _ _ c.before.loop.invariant.1 (omega arith)
+returns c = all_done _ _ _ c.loop-s.invariant.1 (omega arith)
 
-pub lies-ok-spec : {M : Type 1} → statement M
-lies-ok-spec =
+pub lies_ok_spec : {M : Type 1} → statement M
+lies_ok_spec =
     tie.close
     (tie.spec
-    invariant-loop
-    decreases-loop
-    loop-holds
-    lie-at-requires
-    returns
-    add-s
-    loop-less
-    loop-again
-    returns-2)
+    invariant-loop-s
+    decreases-loop-s
+    loop-s-init
+    lie_at-requires
+    returns-then-not-lie_at
+    overflow_add-s
+    loop-s-smaller
+    loop-s-preserved
+    returns)

@@ -4,8 +4,8 @@ use Rattle.partition.specs.Partition.{longb}
 use Rattle.partition.proofs.checks.six_long.Statement.{statement}
 use Rattle.partition.proofs.checks.six_long.Tie as tie
 
-slice-aggregate-long : tie.Need-slice-aggregate-long
-slice-aggregate-long c = search rules
+slice_bounds-long-end : tie.Need-slice_bounds-long-end
+slice_bounds-long-end c = search rules
 
 long-requires : tie.Need-long-requires
 long-requires c κs = search rules
@@ -14,5 +14,5 @@ returns : tie.Need-returns
 unfolding longb
 returns c = c.long.ensures
 
-pub six-long-spec : {M : Type 1} → statement M
-six-long-spec = tie.close (tie.spec slice-aggregate-long long-requires returns)
+pub six_long_spec : {M : Type 1} → statement M
+six_long_spec = tie.close (tie.spec slice_bounds-long-end long-requires returns)

@@ -8,96 +8,94 @@ use Rattle.partition.proofs.core.mark_element.Tie as tie
 
 -- the columns that are lent
 abbrev C : tie.Start → Marks
-C a = marks a.args.elements.now a.args.element_offset.now a.args.marked_split_lem.now
+C a = marks a.args.elements.now a.args.element_offset.now a.args.marked_split.now
 
-at-requires : tie.Need-at-requires
-at-requires c κs = search rules
+at-b-requires : tie.Need-at-b-requires
+at-b-requires c κs = search rules
 
-at-requires-2 : tie.Need-at-requires-2
-at-requires-2 c κs = search rules
+at-o-requires : tie.Need-at-o-requires
+at-o-requires c κs = search rules
 
-at-requires-3 : tie.Need-at-requires-3
-at-requires-3 c κs = let a = c.before.before.before.before.before.before.before.before in
-    omega (arith, a.requires.block, c.before.before.before.at.ensures.0)
+at-m-requires : tie.Need-at-m-requires
+at-m-requires c κs = let a = c in
+    omega (arith, a.requires.block, c.at-b.ensures.0)
 
-sub-swap-elements : tie.Need-overflow-sub-swap-elements
-sub-swap-elements c = search rules
+overflow_sub-m : tie.Need-overflow_sub-m
+overflow_sub-m c = search rules
 
-swap-elements-requires : tie.Need-swap-elements-requires
-swap-elements-requires c κs = let a =
-    c.before.before.before.before.before.before.before.before.before.before.before.before in
-    mark-reads _ (C a) _ _ _ _ c.before.before.before.before.before.before.before.at.ensures.0
-    c.before.before.before.before.before.at2.ensures.0 c.before.before.before.at3.ensures.0 a.pre
-    c.before.before.if1.true
-    c.before.before.before.before.before.at2.ensures.1 c.before.before.before.at3.ensures.1
+swap_elements-requires : tie.Need-swap_elements-requires
+swap_elements-requires c κs = let a = c.before.before.before.before.before.before.before.before.before.before in
+    mark-reads _ (C a) _ _ _ _ c.at-b.ensures.0
+    c.at-o.ensures.0 c.at-m.ensures.0 a.requires
+    c.if-o-m.true
+    c.at-o.ensures.1 c.at-m.ensures.1
 
-sub-marked-split : tie.Need-overflow-sub-marked-split
-sub-marked-split c = search rules
+overflow_sub-marked_split : tie.Need-overflow_sub-marked_split
+overflow_sub-marked_split c = search rules
 
-cast-marked-split : tie.Need-overflow-cast-marked-split
-cast-marked-split c = search rules
+overflow_cast-marked_split : tie.Need-overflow_cast-marked_split
+overflow_cast-marked_split c = search rules
 
-mul-marked-split : tie.Need-overflow-mul-marked-split
-mul-marked-split c = search rules
+offset_bounds-marked_split-b : tie.Need-offset_bounds-marked_split-b
+offset_bounds-marked_split-b c = search rules
 
-slice-write-marked-split : tie.Need-slice-write-marked-split
-slice-write-marked-split c = let a =
-    c.before.before.before.before.before.before.before.before.before.before.before.before.before.before.before.before.before in
+bounds-marked_split-b : tie.Need-bounds-marked_split-b
+bounds-marked_split-b c = let a = c in
     omega (
       arith,
-      a.pre.block,
-      c.before.before.before.before.before.before.before.before.before.before.before.before.at.ensures.0,
+      a.requires.block,
+      c.at-b.ensures.0,
     )
 
-same_length : tie.Need-same-length
-same_length c = search rules
+shape_of-elements : tie.Need-shape_of-elements
+shape_of-elements c = search rules
 
-same-length-2 : tie.Need-same-length-2
-same-length-2 c = search rules
+shape_of-element_offset-then-o-m : tie.Need-shape_of-element_offset-then-o-m
+shape_of-element_offset-then-o-m c = search rules
 
-same-length-3 : tie.Need-same-length-3
-same-length-3 c = search rules
+shape_of-marked_split-then-o-m : tie.Need-shape_of-marked_split-then-o-m
+shape_of-marked_split-then-o-m c = search rules
 
-returns : tie.Need-returns
-returns c =
+returns-then-o-m : tie.Need-returns-then-o-m
+returns-then-o-m c =
     mark-moves _
-    (C c.before.before.before.before.before.before.before.before.before.before.before.before.before.before.before.before.before) _ _ _ _
-    c.before.before.before.before.before.before.before.before.before.before.before.before.at.ensures.0
-    c.before.before.before.before.before.before.before.before.before.before.at2.ensures.0
-    c.before.before.before.before.before.before.before.before.at3.ensures.0 _ _
-    c.before.before.before.before.before.before.before.if1.true
-    c.before.before.before.before.swap-elements.ensures.0 c.before.before.before.before.swap-elements.ensures.1
+    (C c.before.before.before.before.before.before.before.before.before.before.before.before.before.before.before) _ _ _ _
+    c.at-b.ensures.0
+    c.at-o.ensures.0
+    c.at-m.ensures.0 _ _
+    c.if-o-m.true
+    c.swap_elements.ensures.0 c.swap_elements.ensures.1
 
-same-length-4 : tie.Need-same-length-4
-same-length-4 c = search rules
+shape_of-element_offset-else-o-m : tie.Need-shape_of-element_offset-else-o-m
+shape_of-element_offset-else-o-m c = search rules
 
-same-length-5 : tie.Need-same-length-5
-same-length-5 c = search rules
+shape_of-marked_split-else-o-m : tie.Need-shape_of-marked_split-else-o-m
+shape_of-marked_split-else-o-m c = search rules
 
-returns-2 : tie.Need-returns-2
-returns-2 c =
-    mark_keeps _ (C c.before.before.before.before.before.before.before.before.before.before) _ _ _ _
-    c.before.before.before.before.before.at.ensures.0 c.before.before.before.at2.ensures.0
-    c.before.at3.ensures.0
-    c.if1.false
+returns-else-o-m : tie.Need-returns-else-o-m
+returns-else-o-m c =
+    mark_keeps _ (C c.before.before.before.before.before.before.before.before) _ _ _ _
+    c.at-b.ensures.0 c.at-o.ensures.0
+    c.at-m.ensures.0
+    c.if-o-m.false
 
-pub mark-element-spec : {M : Type 1} → statement M
-mark-element-spec =
+pub mark_element_spec : {M : Type 1} → statement M
+mark_element_spec =
     tie.close
     (tie.spec
-    at-requires
-    at-requires-2
-    at-requires-3
-    sub-swap-elements
-    swap-elements-requires
-    sub-marked-split
-    cast-marked-split
-    mul-marked-split
-    slice-write-marked-split
-    same_length
-    same-length-2
-    same-length-3
-    returns
-    same-length-4
-    same-length-5
-    returns-2)
+    at-b-requires
+    at-o-requires
+    at-m-requires
+    overflow_sub-m
+    swap_elements-requires
+    overflow_sub-marked_split
+    overflow_cast-marked_split
+    offset_bounds-marked_split-b
+    bounds-marked_split-b
+    shape_of-elements
+    shape_of-element_offset-then-o-m
+    shape_of-marked_split-then-o-m
+    returns-then-o-m
+    shape_of-element_offset-else-o-m
+    shape_of-marked_split-else-o-m
+    returns-else-o-m)

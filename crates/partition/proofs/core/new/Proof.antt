@@ -12,98 +12,96 @@ use Rattle.partition.proofs.core.new.Tie as tie
 abbrev P : tie.Start → Partition
 P a =
     parts a.args.elements.now a.args.element_offset.now a.args.element_to_block.now a.args.begin.now
-    a.args.marked_split_lem.now a.args.end.now a.args.n 1
+    a.args.marked_split.now a.args.end.now a.args.n 1
 
-slice-relend-prefix-count-up : tie.Need-slice-relend-prefix-count-up
-slice-relend-prefix-count-up c = search rules
+slice_bounds-count_up-end : tie.Need-slice_bounds-count_up-end
+slice_bounds-count_up-end c = search rules
 
-slice-aggregate-count-up : tie.Need-slice-aggregate-count-up
-slice-aggregate-count-up c = let a = c.before.before.before.before.before.before.before in
+slice_bounds-count_up-end-2 : tie.Need-slice_bounds-count_up-end-2
+slice_bounds-count_up-end-2 c = let a = c in
     sym (length-take-le a.args.n a.args.elements.now a.requires.0.elements)
 
-count-up-requires : tie.Need-count-up-requires
-count-up-requires c κs = let a = c.before.before.before.before.before.before.before in
+count_up-requires : tie.Need-count_up-requires
+count_up-requires c κs = let a = c in
     omega (arith, length-take-le a.args.n a.args.elements.now a.requires.0.elements)
 
-slice-relend-prefix-count-up-2 : tie.Need-slice-relend-prefix-count-up-2
-slice-relend-prefix-count-up-2 c = search rules
+slice_bounds-count_up-end-3 : tie.Need-slice_bounds-count_up-end-3
+slice_bounds-count_up-end-3 c = search rules
 
-slice-aggregate-count-up-2 : tie.Need-slice-aggregate-count-up-2
-slice-aggregate-count-up-2 c = let a = c.before.before.before.before.before.before.before.before.before.before.before in
+slice_bounds-count_up-end-4 : tie.Need-slice_bounds-count_up-end-4
+slice_bounds-count_up-end-4 c = let a = c in
     sym (length-take-le a.args.n a.args.element_offset.now a.requires.0.element_offset)
 
-count-up-requires-2 : tie.Need-count-up-requires-2
-count-up-requires-2 c κs = let a = c.before.before.before.before.before.before.before.before.before.before.before in
+count_up-requires-2 : tie.Need-count_up-requires-2
+count_up-requires-2 c κs = let a = c in
     omega (arith, length-take-le a.args.n a.args.element_offset.now a.requires.0.element_offset)
 
-slice-relend-prefix-clear : tie.Need-slice-relend-prefix-clear
-slice-relend-prefix-clear c = search rules
+slice_bounds-clear-end : tie.Need-slice_bounds-clear-end
+slice_bounds-clear-end c = search rules
 
-slice-aggregate-clear : tie.Need-slice-aggregate-clear
-slice-aggregate-clear c = let a =
-    c.before.before.before.before.before.before.before.before.before.before.before.before.before.before.before in
-    sym (length-take-le a.args.n a.args.element_to_block.now a.pre.0.element_to_block)
+slice_bounds-clear-end-2 : tie.Need-slice_bounds-clear-end-2
+slice_bounds-clear-end-2 c = let a = c in
+    sym (length-take-le a.args.n a.args.element_to_block.now a.requires.0.element_to_block)
 
 clear-requires : tie.Need-clear-requires
 clear-requires c κs = search rules
 
-slice-write-begin : tie.Need-slice-write-begin
-slice-write-begin c = search rules
+bounds-begin-0 : tie.Need-bounds-begin-0
+bounds-begin-0 c = search rules
 
-slice-write-marked-split : tie.Need-slice-write-marked-split
-slice-write-marked-split c = search rules
+bounds-marked_split-0 : tie.Need-bounds-marked_split-0
+bounds-marked_split-0 c = search rules
 
-cast-end : tie.Need-overflow-cast-end
-cast-end c = search rules
+overflow_cast-end : tie.Need-overflow_cast-end
+overflow_cast-end c = search rules
 
-slice-write-end : tie.Need-slice-write-end
-slice-write-end c = search rules
+bounds-end-0 : tie.Need-bounds-end-0
+bounds-end-0 c = search rules
 
-same_length : tie.Need-same-length
-same_length c = search rules
+shape_of-elements : tie.Need-shape_of-elements
+shape_of-elements c = search rules
 
-same-length-2 : tie.Need-same-length-2
-same-length-2 c = search rules
+shape_of-element_offset : tie.Need-shape_of-element_offset
+shape_of-element_offset c = search rules
 
-same-length-3 : tie.Need-same-length-3
-same-length-3 c = search rules
+shape_of-element_to_block : tie.Need-shape_of-element_to_block
+shape_of-element_to_block c = search rules
 
-same-length-4 : tie.Need-same-length-4
-same-length-4 c = search rules
+shape_of-begin : tie.Need-shape_of-begin
+shape_of-begin c = search rules
 
-same-length-5 : tie.Need-same-length-5
-same-length-5 c = search rules
+shape_of-marked_split : tie.Need-shape_of-marked_split
+shape_of-marked_split c = search rules
 
-same-length-6 : tie.Need-same-length-6
-same-length-6 c = search rules
+shape_of-end : tie.Need-shape_of-end
+shape_of-end c = search rules
 
 returns : tie.Need-returns
-returns c = let a =
-    c.before.before.before.before.before.before.before.before.before.before.before.before.before.before.before.before.before.before in fresh_done (P a) a.pre.0 _ _ _
-    c.before.before.before.before.before.before.before.before.before.before.count-up.ensures
-    c.before.before.before.before.before.before.count-up2.ensures c.before.before.clear.ensures
+returns c = let a = c.before.before.before.before.before.before.before.before.before.before.before.before.before.before.before.before.before.before in fresh_done (P a) a.requires.0 _ _ _
+    c.count_up.ensures
+    c.count_up-2.ensures c.clear.ensures
 
 pub new_spec : {M : Type 1} → statement M
 new_spec =
     tie.close
     (tie.spec
-    slice-relend-prefix-count-up
-    slice-aggregate-count-up
-    count-up-requires
-    slice-relend-prefix-count-up-2
-    slice-aggregate-count-up-2
-    count-up-requires-2
-    slice-relend-prefix-clear
-    slice-aggregate-clear
+    slice_bounds-count_up-end
+    slice_bounds-count_up-end-2
+    count_up-requires
+    slice_bounds-count_up-end-3
+    slice_bounds-count_up-end-4
+    count_up-requires-2
+    slice_bounds-clear-end
+    slice_bounds-clear-end-2
     clear-requires
-    slice-write-begin
-    slice-write-marked-split
-    cast-end
-    slice-write-end
-    same_length
-    same-length-2
-    same-length-3
-    same-length-4
-    same-length-5
-    same-length-6
+    bounds-begin-0
+    bounds-marked_split-0
+    overflow_cast-end
+    bounds-end-0
+    shape_of-elements
+    shape_of-element_offset
+    shape_of-element_to_block
+    shape_of-begin
+    shape_of-marked_split
+    shape_of-end
     returns)

@@ -6,84 +6,84 @@ use borrow.Author.Rules.{rules}
 use Rattle.partition.proofs.core.swap_elements.Statement.{statement}
 use Rattle.partition.proofs.core.swap_elements.Tie as tie
 
-mul-x : tie.Need-overflow-mul-x
-mul-x c = search rules
+offset_bounds-elements-i : tie.Need-offset_bounds-elements-i
+offset_bounds-elements-i c = search rules
 
-slice-read-x : tie.Need-slice-read-x
-slice-read-x c = search rules
+bounds-elements-i : tie.Need-bounds-elements-i
+bounds-elements-i c = search rules
 
-mul-y : tie.Need-overflow-mul-y
-mul-y c = search rules
+offset_bounds-elements-j : tie.Need-offset_bounds-elements-j
+offset_bounds-elements-j c = search rules
 
-slice-read-y : tie.Need-slice-read-y
-slice-read-y c = search rules
+bounds-elements-j : tie.Need-bounds-elements-j
+bounds-elements-j c = search rules
 
-mul-elements : tie.Need-overflow-mul-elements
-mul-elements c = search rules
+offset_bounds-elements-i-2 : tie.Need-offset_bounds-elements-i-2
+offset_bounds-elements-i-2 c = search rules
 
-slice-write-elements : tie.Need-slice-write-elements
-slice-write-elements c = search rules
+bounds-elements-i-2 : tie.Need-bounds-elements-i-2
+bounds-elements-i-2 c = search rules
 
-mul-elements-2 : tie.Need-overflow-mul-elements-2
-mul-elements-2 c = search rules
+offset_bounds-elements-j-2 : tie.Need-offset_bounds-elements-j-2
+offset_bounds-elements-j-2 c = search rules
 
-slice-write-elements-2 : tie.Need-slice-write-elements-2
-slice-write-elements-2 c = search rules
+bounds-elements-j-2 : tie.Need-bounds-elements-j-2
+bounds-elements-j-2 c = search rules
 
-cast-element-offset : tie.Need-overflow-cast-element-offset
-cast-element-offset c = search rules
+overflow_cast-element_offset : tie.Need-overflow_cast-element_offset
+overflow_cast-element_offset c = search rules
 
-cast-element-offset-2 : tie.Need-overflow-cast-element-offset-2
-cast-element-offset-2 c = search rules
+overflow_cast-element_offset-2 : tie.Need-overflow_cast-element_offset-2
+overflow_cast-element_offset-2 c = search rules
 
-mul-element-offset : tie.Need-overflow-mul-element-offset
-mul-element-offset c = search rules
+offset_bounds-element_offset-y : tie.Need-offset_bounds-element_offset-y
+offset_bounds-element_offset-y c = search rules
 
-slice-write-element-offset : tie.Need-slice-write-element-offset
-slice-write-element-offset c = search rules
+bounds-element_offset-y : tie.Need-bounds-element_offset-y
+bounds-element_offset-y c = search rules
 
-cast-element-offset-3 : tie.Need-overflow-cast-element-offset-3
-cast-element-offset-3 c = search rules
+overflow_cast-element_offset-3 : tie.Need-overflow_cast-element_offset-3
+overflow_cast-element_offset-3 c = search rules
 
-cast-element-offset-4 : tie.Need-overflow-cast-element-offset-4
-cast-element-offset-4 c = search rules
+overflow_cast-element_offset-4 : tie.Need-overflow_cast-element_offset-4
+overflow_cast-element_offset-4 c = search rules
 
-mul-element-offset-2 : tie.Need-overflow-mul-element-offset-2
-mul-element-offset-2 c = search rules
+offset_bounds-element_offset-x : tie.Need-offset_bounds-element_offset-x
+offset_bounds-element_offset-x c = search rules
 
-slice-write-element-offset-2 : tie.Need-slice-write-element-offset-2
-slice-write-element-offset-2 c = search rules
+bounds-element_offset-x : tie.Need-bounds-element_offset-x
+bounds-element_offset-x c = search rules
 
-same_length : tie.Need-same-length
-same_length c = search rules
+shape_of-elements : tie.Need-shape_of-elements
+shape_of-elements c = search rules
 
-same-length-2 : tie.Need-same-length-2
-same-length-2 c = search rules
+shape_of-element_offset : tie.Need-shape_of-element_offset
+shape_of-element_offset c = search rules
 
 returns : tie.Need-returns
 unfolding swapped swapped_inverse
 returns c = (refl, refl)
 
-pub swap-elements-spec : {M : Type 1} → statement M
-swap-elements-spec =
+pub swap_elements_spec : {M : Type 1} → statement M
+swap_elements_spec =
     tie.close
     (tie.spec
-    mul-x
-    slice-read-x
-    mul-y
-    slice-read-y
-    mul-elements
-    slice-write-elements
-    mul-elements-2
-    slice-write-elements-2
-    cast-element-offset
-    cast-element-offset-2
-    mul-element-offset
-    slice-write-element-offset
-    cast-element-offset-3
-    cast-element-offset-4
-    mul-element-offset-2
-    slice-write-element-offset-2
-    same_length
-    same-length-2
+    offset_bounds-elements-i
+    bounds-elements-i
+    offset_bounds-elements-j
+    bounds-elements-j
+    offset_bounds-elements-i-2
+    bounds-elements-i-2
+    offset_bounds-elements-j-2
+    bounds-elements-j-2
+    overflow_cast-element_offset
+    overflow_cast-element_offset-2
+    offset_bounds-element_offset-y
+    bounds-element_offset-y
+    overflow_cast-element_offset-3
+    overflow_cast-element_offset-4
+    offset_bounds-element_offset-x
+    bounds-element_offset-x
+    shape_of-elements
+    shape_of-element_offset
     returns)

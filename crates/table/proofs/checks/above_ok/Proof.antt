@@ -5,34 +5,34 @@ use Rattle.table.proofs.Refusals.{above_first, above_next}
 use Rattle.table.proofs.checks.above_ok.Statement.{statement}
 use Rattle.table.proofs.checks.above_ok.Tie as tie
 
+returns-then-i-eq0 : tie.Need-returns-then-i-eq0
+returns-then-i-eq0 c = let a = c in
+    above_first a.args.source.now a.args.label.now a.args.target.now a.args.i c.if-i-eq0.true
+
+overflow_sub-before : tie.Need-overflow_sub-before
+overflow_sub-before c = search rules
+
+overflow_cast-before : tie.Need-overflow_cast-before
+overflow_cast-before c = search rules
+
+overflow_cast-this : tie.Need-overflow_cast-this
+overflow_cast-this c = search rules
+
+comes_before-requires : tie.Need-comes_before-requires
+comes_before-requires c κs = search rules
+
 returns : tie.Need-returns
-returns c = let a = c.before.before.before.before in
-    above_first a.args.source.now a.args.label.now a.args.target.now a.args.i c.if1.true
+returns c = let a = c in
+    c.comes_before.ensures ∙ above_next a.args.source.now a.args.label.now a.args.target.now a.args.i
+    c.if-i-eq0.false a.requires.0 a.requires.1 a.requires.2
 
-sub-before : tie.Need-overflow-sub-before
-sub-before c = search rules
-
-cast-before : tie.Need-overflow-cast-before
-cast-before c = search rules
-
-cast-this : tie.Need-overflow-cast-this
-cast-this c = search rules
-
-comes-before-requires : tie.Need-comes-before-requires
-comes-before-requires c κs = search rules
-
-returns-2 : tie.Need-returns-2
-returns-2 c = let a = c.before.before.before.before.before in
-    c.comes-before.ensures ∙ above_next a.args.source.now a.args.label.now a.args.target.now a.args.i
-    c.before.if1.false a.requires.0 a.requires.1 a.requires.2
-
-pub above-ok-spec : {M : Type 1} → statement M
-above-ok-spec =
+pub above_ok_spec : {M : Type 1} → statement M
+above_ok_spec =
     tie.close
     (tie.spec
-    returns
-    sub-before
-    cast-before
-    cast-this
-    comes-before-requires
-    returns-2)
+    returns-then-i-eq0
+    overflow_sub-before
+    overflow_cast-before
+    overflow_cast-this
+    comes_before-requires
+    returns)

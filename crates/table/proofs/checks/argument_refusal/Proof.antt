@@ -13,22 +13,22 @@ use Rattle.table.proofs.checks.argument_refusal.Tie as tie
 abbrev L : tie.Start → Lts
 L a = lts a.args.table a.args.source.now a.args.label.now a.args.target.now
 
-check-requires : tie.Need-check-requires
-check-requires c κs = search rules
+check-t-requires : tie.Need-check-t-requires
+check-t-requires c κs = search rules
 
-index-refusal-requires : tie.Need-index-refusal-requires
-index-refusal-requires c κs = search rules
+index_refusal-requires : tie.Need-index_refusal-requires
+index_refusal-requires c κs = search rules
 
-or-else-requires : tie.Need-or-else-requires
-or-else-requires c κs = search rules
+or_else-requires : tie.Need-or_else-requires
+or_else-requires c κs = search rules
 
 returns : tie.Need-returns
 unfolding table_argument_refusal
 returns c = let a = c.before.before.before.before.before.before in
     c.or_else.ensures
-    ∙ chained (table_tests (L a) a.args.room) (index_test a.args.i a.args.bound ∷ []) refl _ c.before.before.check.ensures _
-    c.before.index-refusal.ensures
+    ∙ chained (table_tests (L a) a.args.room) (index_test a.args.i a.args.bound ∷ []) refl _ c.check-t.ensures _
+    c.index_refusal.ensures
 
-pub argument-refusal-spec : {M : Type 1} → statement M
-argument-refusal-spec =
-    tie.close (tie.spec check-requires index-refusal-requires or-else-requires returns)
+pub argument_refusal_spec : {M : Type 1} → statement M
+argument_refusal_spec =
+    tie.close (tie.spec check-t-requires index_refusal-requires or_else-requires returns)

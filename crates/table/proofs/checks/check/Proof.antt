@@ -13,26 +13,26 @@ use Rattle.table.proofs.checks.check.Tie as tie
 abbrev L : tie.Start → Lts
 L a = lts a.args.table a.args.source.now a.args.label.now a.args.target.now
 
-header-refusal-requires : tie.Need-header-refusal-requires
-header-refusal-requires c κs = search rules
+header_refusal-t-requires : tie.Need-header_refusal-t-requires
+header_refusal-t-requires c κs = search rules
 
-returns : tie.Need-returns
-returns c = let a = c.before.before.before.before.before in
-    ends (header_tests (L a) a.args.room) (row_tests (L a)) refl _ c.before.header-refusal.ensures c.if1.true
+returns-then-number-ne0 : tie.Need-returns-then-number-ne0
+returns-then-number-ne0 c = let a = c.before.before.before.before.before in
+    ends (header_tests (L a) a.args.room) (row_tests (L a)) refl _ c.header_refusal-t.ensures c.if-number-ne0.true
 
-rows-refusal-requires : tie.Need-rows-refusal-requires
-rows-refusal-requires c κs = let a = c.before.before.before.before.before in
-    let h = passed (header_tests (L a) a.args.room) refl _ c.before.header-refusal.ensures c.if1.false in
+rows_refusal-requires : tie.Need-rows_refusal-requires
+rows_refusal-requires c κs = let a = c.before.before.before.before.before in
+    let h = passed (header_tests (L a) a.args.room) refl _ c.header_refusal-t.ensures c.if-number-ne0.false in
     let l = long_of (L a) (and_left (rows_long (L a)) a.args.room h.1.1.1.1.0) in
     (l.source, l.label, l.target)
 
-returns-2 : tie.Need-returns-2
-returns-2 c = let a = c.before.before.before.before.before.before in
-    c.rows-refusal.ensures
-    ∙ goes_on_lem (header_tests (L a) a.args.room) (row_tests (L a)) refl _ c.before.before.header-refusal.ensures
-    c.before.if1.false
+returns : tie.Need-returns
+returns c = let a = c.before.before.before.before.before.before in
+    c.rows_refusal.ensures
+    ∙ goes_on_lem (header_tests (L a) a.args.room) (row_tests (L a)) refl _ c.header_refusal-t.ensures
+    c.if-number-ne0.false
 
-pub check-spec : {M : Type 1} → statement M
-check-spec =
+pub check_spec : {M : Type 1} → statement M
+check_spec =
     tie.close
-    (tie.spec header-refusal-requires returns rows-refusal-requires returns-2)
+    (tie.spec header_refusal-t-requires returns-then-number-ne0 rows_refusal-requires returns)

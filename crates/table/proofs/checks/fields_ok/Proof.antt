@@ -5,60 +5,60 @@ use Rattle.table.specs.Checks.{fieldsb}
 use Rattle.table.proofs.checks.fields_ok.Statement.{statement}
 use Rattle.table.proofs.checks.fields_ok.Tie as tie
 
-cast-n : tie.Need-overflow-cast-n
-cast-n c = search rules
+overflow_cast-n : tie.Need-overflow_cast-n
+overflow_cast-n c = search rules
 
 at-requires : tie.Need-at-requires
 at-requires c κs = search rules
 
-returns : tie.Need-returns
+returns-then-n-at : tie.Need-returns-then-n-at
 unfolding fieldsb
-returns c = rw (le-ltb _ _ (rw c.before.at.ensures.0 at c.if1.true))
+returns-then-n-at c = rw (le-ltb _ _ (rw c.at.ensures.0 at c.if-n-at.true))
 
-cast-if2 : tie.Need-overflow-cast-if2
-cast-if2 c = search rules
+overflow_cast-table : tie.Need-overflow_cast-table
+overflow_cast-table c = search rules
 
 at-requires-2 : tie.Need-at-requires-2
 at-requires-2 c κs = search rules
 
-returns-2 : tie.Need-returns-2
+returns-then-table-at : tie.Need-returns-then-table-at
 unfolding fieldsb
-returns-2 c = rw (
-  lt-ltb _ _ (rw c.before.before.before.before.at.ensures.0 at c.before.before.before.if1.false),
-  le-ltb _ _ (rw c.before.at2.ensures.0 at c.if2.true),
+returns-then-table-at c = rw (
+  lt-ltb _ _ (rw c.at.ensures.0 at c.if-n-at.false),
+  le-ltb _ _ (rw c.at-2.ensures.0 at c.if-table-at.true),
 )
 
 at-requires-3 : tie.Need-at-requires-3
 at-requires-3 c κs = search rules
 
-returns-3 : tie.Need-returns-3
+returns-then-n-at-2 : tie.Need-returns-then-n-at-2
 unfolding fieldsb
-returns-3 c = rw (
-  lt-ltb _ _ (rw c.before.before.before.before.before.before.at.ensures.0 at
-      c.before.before.before.before.before.if1.false),
-  lt-ltb _ _ (rw c.before.before.before.at2.ensures.0 at c.before.before.if2.false),
-  le-ltb _ _ (rw c.before.at3.ensures.0 at c.if3.true),
+returns-then-n-at-2 c = rw (
+  lt-ltb _ _ (rw c.at.ensures.0 at
+      c.if-n-at.false),
+  lt-ltb _ _ (rw c.at-2.ensures.0 at c.if-table-at.false),
+  le-ltb _ _ (rw c.at-3.ensures.0 at c.if-n-at-2.true),
 )
 
-returns-4 : tie.Need-returns-4
+returns-else-n-at-2 : tie.Need-returns-else-n-at-2
 unfolding fieldsb
-returns-4 c = rw (
-  lt-ltb _ _ (rw c.before.before.before.before.before.before.at.ensures.0 at
-      c.before.before.before.before.before.if1.false),
-  lt-ltb _ _ (rw c.before.before.before.at2.ensures.0 at c.before.before.if2.false),
-  lt-ltb _ _ (rw c.before.at3.ensures.0 at c.if3.false),
+returns-else-n-at-2 c = rw (
+  lt-ltb _ _ (rw c.at.ensures.0 at
+      c.if-n-at.false),
+  lt-ltb _ _ (rw c.at-2.ensures.0 at c.if-table-at.false),
+  lt-ltb _ _ (rw c.at-3.ensures.0 at c.if-n-at-2.false),
 )
 
-pub fields-ok-spec : {M : Type 1} → statement M
-fields-ok-spec =
+pub fields_ok_spec : {M : Type 1} → statement M
+fields_ok_spec =
     tie.close
     (tie.spec
-    cast-n
+    overflow_cast-n
     at-requires
-    returns
-    cast-if2
+    returns-then-n-at
+    overflow_cast-table
     at-requires-2
-    returns-2
+    returns-then-table-at
     at-requires-3
-    returns-3
-    returns-4)
+    returns-then-n-at-2
+    returns-else-n-at-2)

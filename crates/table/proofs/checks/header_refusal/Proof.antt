@@ -10,88 +10,88 @@ use Rattle.table.specs.Lts.{lts}
 use Rattle.table.proofs.checks.header_refusal.Statement.{statement}
 use Rattle.table.proofs.checks.header_refusal.Tie as tie
 
-cast-n : tie.Need-overflow-cast-n
-cast-n c = search rules
+overflow_cast-n : tie.Need-overflow_cast-n
+overflow_cast-n c = search rules
 
-cast-m : tie.Need-overflow-cast-m
-cast-m c = search rules
+overflow_cast-m : tie.Need-overflow_cast-m
+overflow_cast-m c = search rules
 
-slice-aggregate-long : tie.Need-slice-aggregate-long
-slice-aggregate-long c = search rules
+slice_bounds-long-end : tie.Need-slice_bounds-long-end
+slice_bounds-long-end c = search rules
 
 long-requires : tie.Need-long-requires
 long-requires c κs = search rules
 
-states-refusal-requires : tie.Need-states-refusal-requires
-states-refusal-requires c κs = search rules
+states_refusal-states-requires : tie.Need-states_refusal-states-requires
+states_refusal-states-requires c κs = search rules
 
-cast-labels-refusal : tie.Need-overflow-cast-labels-refusal
-cast-labels-refusal c = search rules
+overflow_cast-table : tie.Need-overflow_cast-table
+overflow_cast-table c = search rules
 
-labels-refusal-requires : tie.Need-labels-refusal-requires
-labels-refusal-requires c κs = search rules
+labels_refusal-labels-requires : tie.Need-labels_refusal-labels-requires
+labels_refusal-labels-requires c κs = search rules
 
-refuse-unless-requires : tie.Need-refuse-unless-requires
-refuse-unless-requires c κs = search rules
+refuse_unless-rows-requires : tie.Need-refuse_unless-rows-requires
+refuse_unless-rows-requires c κs = search rules
 
-cast-refuse-unless : tie.Need-overflow-cast-refuse-unless
-cast-refuse-unless c = search rules
+overflow_cast-table-2 : tie.Need-overflow_cast-table-2
+overflow_cast-table-2 c = search rules
 
-refuse-unless-requires-2 : tie.Need-refuse-unless-requires-2
-refuse-unless-requires-2 c κs = search rules
+refuse_unless-initial-requires : tie.Need-refuse_unless-initial-requires
+refuse_unless-initial-requires c κs = search rules
 
-refuse-unless-requires-3 : tie.Need-refuse-unless-requires-3
-refuse-unless-requires-3 c κs = search rules
+refuse_unless-slices-requires : tie.Need-refuse_unless-slices-requires
+refuse_unless-slices-requires c κs = search rules
 
-or-else-requires : tie.Need-or-else-requires
-or-else-requires c κs = search rules
+or_else-requires : tie.Need-or_else-requires
+or_else-requires c κs = search rules
 
-or-else-requires-2 : tie.Need-or-else-requires-2
-or-else-requires-2 c κs = search rules
+or_else-requires-2 : tie.Need-or_else-requires-2
+or_else-requires-2 c κs = search rules
 
-or-else-requires-3 : tie.Need-or-else-requires-3
-or-else-requires-3 c κs = search rules
+or_else-requires-3 : tie.Need-or_else-requires-3
+or_else-requires-3 c κs = search rules
 
-or-else-requires-4 : tie.Need-or-else-requires-4
-or-else-requires-4 c κs = search rules
+or_else-requires-4 : tie.Need-or_else-requires-4
+or_else-requires-4 c κs = search rules
 
 returns : tie.Need-returns
 unfolding rows_long
-returns c = let a = c.before.before.before.before.before.before.before.before.before.before.before.before.before.before.before.before.before.before in
+returns c = let a = c in
     let initial = test (ltb a.args.table.initial a.args.table.n) wrong_initial 0 in
     let short = test (rows_long (lts a.args.table a.args.source.now a.args.label.now a.args.target.now) && a.args.room)
     too_short 0 in
     let few = test (leb a.args.table.m max_rows) wrong_rows 0 in
     let labels = labels_test a.args.table.labels in
-    c.or-else4.ensures
+    c.or_else-4.ensures
     ∙ chained (states_test a.args.table.n ∷ []) (labels ∷ few ∷ initial ∷ short ∷ []) refl _
-    c.before.before.before.before.before.before.before.before.before.before.states-refusal.ensures _
-    (c.before.or-else3.ensures
-    ∙ chained (labels ∷ []) (few ∷ initial ∷ short ∷ []) refl _ c.before.before.before.before.before.before.before.before.labels-refusal.ensures _
-    (c.before.before.or-else2.ensures
-    ∙ chained (few ∷ []) (initial ∷ short ∷ []) refl _ c.before.before.before.before.before.before.before.refuse-unless.ensures _
-    (c.before.before.before.or_else.ensures
-    ∙ chained (initial ∷ []) (short ∷ []) refl _ c.before.before.before.before.before.refuse-unless2.ensures _
-    (c.before.before.before.before.refuse-unless3.ensures
-    ∙ ap (λ (b : Bool). due (test (b && a.args.room) too_short 0 ∷ [])) c.before.before.before.before.before.before.before.before.before.before.before.long.ensures))))
+    c.states_refusal-states.ensures _
+    (c.or_else-3.ensures
+    ∙ chained (labels ∷ []) (few ∷ initial ∷ short ∷ []) refl _ c.labels_refusal-labels.ensures _
+    (c.or_else-2.ensures
+    ∙ chained (few ∷ []) (initial ∷ short ∷ []) refl _ c.refuse_unless-rows.ensures _
+    (c.or_else.ensures
+    ∙ chained (initial ∷ []) (short ∷ []) refl _ c.refuse_unless-initial.ensures _
+    (c.refuse_unless-slices.ensures
+    ∙ ap (λ (b : Bool). due (test (b && a.args.room) too_short 0 ∷ [])) c.long.ensures))))
 
-pub header-refusal-spec : {M : Type 1} → statement M
-header-refusal-spec =
+pub header_refusal_spec : {M : Type 1} → statement M
+header_refusal_spec =
     tie.close
     (tie.spec
-    cast-n
-    cast-m
-    slice-aggregate-long
+    overflow_cast-n
+    overflow_cast-m
+    slice_bounds-long-end
     long-requires
-    states-refusal-requires
-    cast-labels-refusal
-    labels-refusal-requires
-    refuse-unless-requires
-    cast-refuse-unless
-    refuse-unless-requires-2
-    refuse-unless-requires-3
-    or-else-requires
-    or-else-requires-2
-    or-else-requires-3
-    or-else-requires-4
+    states_refusal-states-requires
+    overflow_cast-table
+    labels_refusal-labels-requires
+    refuse_unless-rows-requires
+    overflow_cast-table-2
+    refuse_unless-initial-requires
+    refuse_unless-slices-requires
+    or_else-requires
+    or_else-requires-2
+    or_else-requires-3
+    or_else-requires-4
     returns)

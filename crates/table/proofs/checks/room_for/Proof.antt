@@ -8,11 +8,11 @@ use Rattle.table.proofs.checks.room_for.Tie as tie
 long-requires : tie.Need-long-requires
 long-requires c κs = search rules
 
-works-long-requires : tie.Need-works-long-requires
-works-long-requires c κs = search rules
+works_long-requires : tie.Need-works_long-requires
+works_long-requires c κs = search rules
 
 returns : tie.Need-returns
-returns c = ap₂ (λ (x y : Bool). x && y) c.before.long.ensures c.works-long.ensures
+returns c = ap₂ (λ (x y : Bool). x && y) c.long.ensures c.works_long.ensures
 
-pub room-for-spec : {M : Type 1} → statement M
-room-for-spec = tie.close (tie.spec long-requires works-long-requires returns)
+pub room_for_spec : {M : Type 1} → statement M
+room_for_spec = tie.close (tie.spec long-requires works_long-requires returns)

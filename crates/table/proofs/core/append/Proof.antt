@@ -10,60 +10,60 @@ use Rattle.table.proofs.core.append.Tie as tie
 at-requires : tie.Need-at-requires
 at-requires c κs = search rules
 
-same_length : tie.Need-same-length
-same_length c = search rules
+shape_of-marks-then-at-ne0 : tie.Need-shape_of-marks-then-at-ne0
+shape_of-marks-then-at-ne0 c = search rules
+
+returns-then-at-ne0 : tie.Need-returns-then-at-ne0
+unfolding appended
+returns-then-at-ne0 c =
+    let e : eqb (get_or c.args.marks.now c.args.u 0)
+    0 ≡ false = ne_eqb _ _ (λ q. c.if-at-ne0.true (c.at.ensures.0 ∙ q)) in
+    rw e
+
+offset_bounds-marks-u : tie.Need-offset_bounds-marks-u
+offset_bounds-marks-u c = search rules
+
+bounds-marks-u : tie.Need-bounds-marks-u
+bounds-marks-u c = search rules
+
+overflow_cast-queue : tie.Need-overflow_cast-queue
+overflow_cast-queue c = search rules
+
+offset_bounds-queue-tail : tie.Need-offset_bounds-queue-tail
+offset_bounds-queue-tail c = search rules
+
+bounds-queue-tail : tie.Need-bounds-queue-tail
+bounds-queue-tail c = c.requires.3 (sym c.at.ensures.0 ∙ c.if-at-ne0.false)
+
+overflow_add-result : tie.Need-overflow_add-result
+overflow_add-result c = search rules
+
+shape_of-marks : tie.Need-shape_of-marks
+shape_of-marks c = search rules
+
+shape_of-queue : tie.Need-shape_of-queue
+shape_of-queue c = search rules
 
 returns : tie.Need-returns
 unfolding appended
 returns c =
-    let e : eqb (get_or c.before.before.before.before.before.args.marks.now c.before.before.before.before.before.args.u 0)
-    0 ≡ false = ne_eqb _ _ (λ q. c.if1.true (c.before.at.ensures.0 ∙ q)) in
+    let e : eqb (get_or c.args.marks.now c.args.u 0)
+    0 ≡ true = eq-eqb _ _ (sym c.at.ensures.0 ∙ c.if-at-ne0.false) in
     rw e
 
-mul-marks : tie.Need-overflow-mul-marks
-mul-marks c = search rules
-
-slice-write-marks : tie.Need-slice-write-marks
-slice-write-marks c = search rules
-
-cast-queue : tie.Need-overflow-cast-queue
-cast-queue c = search rules
-
-mul-queue : tie.Need-overflow-mul-queue
-mul-queue c = search rules
-
-slice-write-queue : tie.Need-slice-write-queue
-slice-write-queue c = c.before.before.before.before.before.requires.3 (sym c.before.at.ensures.0 ∙ c.if1.false)
-
-add-result : tie.Need-overflow-add-result
-add-result c = search rules
-
-same-length-2 : tie.Need-same-length-2
-same-length-2 c = search rules
-
-same-length-3 : tie.Need-same-length-3
-same-length-3 c = search rules
-
-returns-2 : tie.Need-returns-2
-unfolding appended
-returns-2 c =
-    let e : eqb (get_or c.before.before.before.before.before.args.marks.now c.before.before.before.before.before.args.u 0)
-    0 ≡ true = eq-eqb _ _ (sym c.before.at.ensures.0 ∙ c.if1.false) in
-    rw e
-
-pub append-spec : {M : Type 1} → statement M
-append-spec =
+pub append_spec : {M : Type 1} → statement M
+append_spec =
     tie.close
     (tie.spec
     at-requires
-    same_length
-    returns
-    mul-marks
-    slice-write-marks
-    cast-queue
-    mul-queue
-    slice-write-queue
-    add-result
-    same-length-2
-    same-length-3
-    returns-2)
+    shape_of-marks-then-at-ne0
+    returns-then-at-ne0
+    offset_bounds-marks-u
+    bounds-marks-u
+    overflow_cast-queue
+    offset_bounds-queue-tail
+    bounds-queue-tail
+    overflow_add-result
+    shape_of-marks
+    shape_of-queue
+    returns)

@@ -7,99 +7,99 @@ use Rattle.table.proofs.RowsInto.{first_into_is}
 use Rattle.table.proofs.core.first_into.Statement.{statement}
 use Rattle.table.proofs.core.first_into.Tie as tie
 
-abbrev invariant-loop : tie.invariant-loop
-invariant-loop target order h u low₀ high₀ low high =
+abbrev invariant-loop-low : tie.invariant-loop-low
+invariant-loop-low target order h u low₀ high₀ low high =
     ((low ≤ high) × (high ≤ h)) × (((j : ℕ) → j < low → listed_target target order j < u) ×
     ((j : ℕ) → high ≤ j → j < h → u ≤ listed_target target order j))
 
-abbrev decreases-loop : tie.decreases-loop
-decreases-loop target order h u low₀ high₀ low high = high - low
+abbrev decreases-loop-low : tie.decreases-loop-low
+decreases-loop-low target order h u low₀ high₀ low high = high - low
 
 -- the position in the middle
 abbrev middle : ℕ → ℕ → ℕ
 middle low high = low + (high - low) / 2
 
-loop-holds : tie.Need-loop-init invariant-loop decreases-loop
-loop-holds c = ((omega arith, omega arith), ((λ i h. absurd (omega (arith, h))), (λ i h l. absurd (omega (arith, h, l)))))
+loop-low-init : tie.Need-loop-low-init invariant-loop-low decreases-loop-low
+loop-low-init c = ((omega arith, omega arith), ((λ i h. absurd (omega (arith, h))), (λ i h l. absurd (omega (arith, h, l)))))
 
-sub-mid : tie.Need-overflow-sub-mid invariant-loop decreases-loop
-sub-mid c = omega arith
+overflow_sub-mid : tie.Need-overflow_sub-mid invariant-loop-low decreases-loop-low
+overflow_sub-mid c = omega arith
 
-add-mid : tie.Need-overflow-add-mid invariant-loop decreases-loop
-add-mid c = omega arith
+overflow_add-mid : tie.Need-overflow_add-mid invariant-loop-low decreases-loop-low
+overflow_add-mid c = omega arith
 
-at-requires : tie.Need-at-requires invariant-loop decreases-loop
-at-requires c κs = omega (arith, c.before.before.before.before.requires.room)
+at-i-requires : tie.Need-at-i-requires invariant-loop-low decreases-loop-low
+at-i-requires c κs = omega (arith, c.requires.room)
 
-at-requires-2 : tie.Need-at-requires-2 invariant-loop decreases-loop
-at-requires-2 c κs = omega (
+at-requires : tie.Need-at-requires invariant-loop-low decreases-loop-low
+at-requires c κs = omega (
   arith,
-  c.at.ensures.0,
-  c.before.before.before.before.before.requires.row (middle c.before.before.loop.low c.before.before.loop.high)
+  c.at-i.ensures.0,
+  c.requires.row (middle c.loop-low.low c.loop-low.high)
       (omega arith),
 )
 
-add_low : tie.Need-overflow-add-low invariant-loop decreases-loop
-add_low c = omega arith
+overflow_add-low : tie.Need-overflow_add-low invariant-loop-low decreases-loop-low
+overflow_add-low c = omega arith
 
-loop-less : tie.Need-loop-smaller invariant-loop decreases-loop
-loop-less c = omega arith
+loop-low-smaller-then-at-u : tie.Need-loop-low-smaller-then-at-u invariant-loop-low decreases-loop-low
+loop-low-smaller-then-at-u c = omega arith
 
-loop-again : tie.Need-loop-preserved invariant-loop decreases-loop
-loop-again c = let a = c.before.before.before.before.before.before.before in (
+loop-low-preserved-then-at-u : tie.Need-loop-low-preserved-then-at-u invariant-loop-low decreases-loop-low
+loop-low-preserved-then-at-u c = let a = c in (
   (omega arith, omega arith),
   (
     (λ i h. omega (
       arith,
       h,
-      c.before.at2.ensures.0,
-      ap (λ (x : ℕ). get_or a.args.target.now x 0) c.before.before.at.ensures.0,
-      c.if1.true,
-      a.requires.rising i (middle c.before.before.before.before.loop.low c.before.before.before.before.loop.high) (omega arith)
+      c.at.ensures.0,
+      ap (λ (x : ℕ). get_or a.args.target.now x 0) c.at-i.ensures.0,
+      c.if-at-u.true,
+      a.requires.rising i (middle c.loop-low.low c.loop-low.high) (omega arith)
           (omega arith),
     )),
-    c.before.before.before.before.loop.invariant.1.1,
+    c.loop-low.invariant.1.1,
   ),
 )
 
-loop-less-2 : tie.Need-loop-smaller-2 invariant-loop decreases-loop
-loop-less-2 c = omega arith
+loop-low-smaller : tie.Need-loop-low-smaller invariant-loop-low decreases-loop-low
+loop-low-smaller c = omega arith
 
-loop-again-2 : tie.Need-loop-preserved-2 invariant-loop decreases-loop
-loop-again-2 c = let a = c.before.before.before.before.before.before.before in (
+loop-low-preserved : tie.Need-loop-low-preserved invariant-loop-low decreases-loop-low
+loop-low-preserved c = let a = c in (
   (omega arith, omega arith),
   (
-    c.before.before.before.before.loop.invariant.1.0,
+    c.loop-low.invariant.1.0,
     (λ i h l. omega (
       arith,
       h,
-      c.before.at2.ensures.0,
-      ap (λ (x : ℕ). get_or a.args.target.now x 0) c.before.before.at.ensures.0,
-      c.if1.false,
-      a.requires.rising (middle c.before.before.before.before.loop.low c.before.before.before.before.loop.high) i h l,
+      c.at.ensures.0,
+      ap (λ (x : ℕ). get_or a.args.target.now x 0) c.at-i.ensures.0,
+      c.if-at-u.false,
+      a.requires.rising (middle c.loop-low.low c.loop-low.high) i h l,
     )),
   ),
 )
 
-returns : tie.Need-returns invariant-loop decreases-loop
-returns c = let a = c.before.before.before.before in
-    first_into_is a.args.target.now a.args.order.now a.args.h a.args.u c.before.loop.low (omega arith)
-    c.before.loop.invariant.1.0 (λ i h l. c.before.loop.invariant.1.1 i (omega arith) l)
+returns : tie.Need-returns invariant-loop-low decreases-loop-low
+returns c = let a = c in
+    first_into_is a.args.target.now a.args.order.now a.args.h a.args.u c.loop-low.low (omega arith)
+    c.loop-low.invariant.1.0 (λ i h l. c.loop-low.invariant.1.1 i (omega arith) l)
 
-pub first-into-spec : {M : Type 1} → statement M
-first-into-spec =
+pub first_into_spec : {M : Type 1} → statement M
+first_into_spec =
     tie.close
     (tie.spec
-    invariant-loop
-    decreases-loop
-    loop-holds
-    sub-mid
-    add-mid
+    invariant-loop-low
+    decreases-loop-low
+    loop-low-init
+    overflow_sub-mid
+    overflow_add-mid
+    at-i-requires
     at-requires
-    at-requires-2
-    add_low
-    loop-less
-    loop-again
-    loop-less-2
-    loop-again-2
+    overflow_add-low
+    loop-low-smaller-then-at-u
+    loop-low-preserved-then-at-u
+    loop-low-smaller
+    loop-low-preserved
     returns)

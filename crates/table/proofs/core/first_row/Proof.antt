@@ -5,85 +5,85 @@ use Rattle.table.proofs.RowsOf.{first_row_is}
 use Rattle.table.proofs.core.first_row.Statement.{statement}
 use Rattle.table.proofs.core.first_row.Tie as tie
 
-abbrev invariant-loop : tie.invariant-loop
-invariant-loop source m s low₀ high₀ low high =
+abbrev invariant-loop-low : tie.invariant-loop-low
+invariant-loop-low source m s low₀ high₀ low high =
     ((low ≤ high) × (high ≤ m)) × (((i : ℕ) → i < low → get_or source i 0 < s) × ((i : ℕ) → high ≤ i → i < m → s ≤ get_or source i 0))
 
-abbrev decreases-loop : tie.decreases-loop
-decreases-loop source m s low₀ high₀ low high = high - low
+abbrev decreases-loop-low : tie.decreases-loop-low
+decreases-loop-low source m s low₀ high₀ low high = high - low
 
-loop-holds : tie.Need-loop-init invariant-loop decreases-loop
-loop-holds c = ((omega arith, omega arith), ((λ i h. absurd (omega (arith, h))), (λ i h l. absurd (omega (arith, h, l)))))
+loop-low-init : tie.Need-loop-low-init invariant-loop-low decreases-loop-low
+loop-low-init c = ((omega arith, omega arith), ((λ i h. absurd (omega (arith, h))), (λ i h l. absurd (omega (arith, h, l)))))
 
-sub-mid : tie.Need-overflow-sub-mid invariant-loop decreases-loop
-sub-mid c = omega arith
+overflow_sub-mid : tie.Need-overflow_sub-mid invariant-loop-low decreases-loop-low
+overflow_sub-mid c = omega arith
 
-add-mid : tie.Need-overflow-add-mid invariant-loop decreases-loop
-add-mid c = omega arith
+overflow_add-mid : tie.Need-overflow_add-mid invariant-loop-low decreases-loop-low
+overflow_add-mid c = omega arith
 
-at-requires : tie.Need-at-requires invariant-loop decreases-loop
+at-requires : tie.Need-at-requires invariant-loop-low decreases-loop-low
 at-requires c κs = omega arith
 
-add_low : tie.Need-overflow-add-low invariant-loop decreases-loop
-add_low c = omega arith
+overflow_add-low : tie.Need-overflow_add-low invariant-loop-low decreases-loop-low
+overflow_add-low c = omega arith
 
-loop-less : tie.Need-loop-smaller invariant-loop decreases-loop
-loop-less c = omega arith
+loop-low-smaller-then-at-s : tie.Need-loop-low-smaller-then-at-s invariant-loop-low decreases-loop-low
+loop-low-smaller-then-at-s c = omega arith
 
-loop-again : tie.Need-loop-preserved invariant-loop decreases-loop
-loop-again c = (
+loop-low-preserved-then-at-s : tie.Need-loop-low-preserved-then-at-s invariant-loop-low decreases-loop-low
+loop-low-preserved-then-at-s c = (
   (omega arith, omega arith),
   (
     (λ i h. omega (
       arith,
       h,
-      c.before.at.ensures.0,
-      c.if1.true,
-      c.before.before.before.before.before.requires.1 i
-          (c.before.before.before.loop.low + (c.before.before.before.loop.high - c.before.before.before.loop.low) / 2)
+      c.at.ensures.0,
+      c.if-at-s.true,
+      c.requires.1 i
+          (c.loop-low.low + (c.loop-low.high - c.loop-low.low) / 2)
           (omega arith) (omega arith),
     )),
-    c.before.before.before.loop.invariant.1.1,
+    c.loop-low.invariant.1.1,
   ),
 )
 
-loop-less-2 : tie.Need-loop-smaller-2 invariant-loop decreases-loop
-loop-less-2 c = omega arith
+loop-low-smaller : tie.Need-loop-low-smaller invariant-loop-low decreases-loop-low
+loop-low-smaller c = omega arith
 
-loop-again-2 : tie.Need-loop-preserved-2 invariant-loop decreases-loop
-loop-again-2 c = (
+loop-low-preserved : tie.Need-loop-low-preserved invariant-loop-low decreases-loop-low
+loop-low-preserved c = (
   (omega arith, omega arith),
   (
-    c.before.before.before.loop.invariant.1.0,
+    c.loop-low.invariant.1.0,
     (λ i h l. omega (
       arith,
       h,
-      c.before.at.ensures.0,
-      c.if1.false,
-      c.before.before.before.before.before.requires.1
-          (c.before.before.before.loop.low + (c.before.before.before.loop.high - c.before.before.before.loop.low) / 2) i h l,
+      c.at.ensures.0,
+      c.if-at-s.false,
+      c.requires.1
+          (c.loop-low.low + (c.loop-low.high - c.loop-low.low) / 2) i h l,
     )),
   ),
 )
 
-returns : tie.Need-returns invariant-loop decreases-loop
-returns c = let a = c.before.before.before in
-    first_row_is a.args.source.now a.args.m a.args.s c.before.loop.low (omega arith) c.before.loop.invariant.1.0
-    (λ i h l. c.before.loop.invariant.1.1 i (omega arith) l)
+returns : tie.Need-returns invariant-loop-low decreases-loop-low
+returns c = let a = c in
+    first_row_is a.args.source.now a.args.m a.args.s c.loop-low.low (omega arith) c.loop-low.invariant.1.0
+    (λ i h l. c.loop-low.invariant.1.1 i (omega arith) l)
 
-pub first-row-spec : {M : Type 1} → statement M
-first-row-spec =
+pub first_row_spec : {M : Type 1} → statement M
+first_row_spec =
     tie.close
     (tie.spec
-    invariant-loop
-    decreases-loop
-    loop-holds
-    sub-mid
-    add-mid
+    invariant-loop-low
+    decreases-loop-low
+    loop-low-init
+    overflow_sub-mid
+    overflow_add-mid
     at-requires
-    add_low
-    loop-less
-    loop-again
-    loop-less-2
-    loop-again-2
+    overflow_add-low
+    loop-low-smaller-then-at-s
+    loop-low-preserved-then-at-s
+    loop-low-smaller
+    loop-low-preserved
     returns)

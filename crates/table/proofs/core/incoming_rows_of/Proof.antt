@@ -6,15 +6,15 @@ use Rattle.table.proofs.RowsInto.{first_into_up}
 use Rattle.table.proofs.core.incoming_rows_of.Statement.{statement}
 use Rattle.table.proofs.core.incoming_rows_of.Tie as tie
 
-first-into-requires : tie.Need-first-into-requires
-first-into-requires c κs = search rules
+first_into-first-requires : tie.Need-first_into-first-requires
+first_into-first-requires c κs = search rules
 
-into-end-requires : tie.Need-into-end-requires
-into-end-requires c κs = let a = c.before.before.before in (
+into_end-end-requires : tie.Need-into_end-end-requires
+into_end-end-requires c κs = let a = c in (
   a.requires,
   omega (
     arith,
-    c.first-into.ensures,
+    c.first_into-first.ensures,
     first_into_up a.args.target.now a.args.order.now a.args.h a.args.u (a.args.u + 1) (omega arith),
   ),
 )
@@ -22,5 +22,5 @@ into-end-requires c κs = let a = c.before.before.before in (
 returns : tie.Need-returns
 returns c = search rules
 
-pub incoming-rows-of-spec : {M : Type 1} → statement M
-incoming-rows-of-spec = tie.close (tie.spec first-into-requires into-end-requires returns)
+pub incoming_rows_of_spec : {M : Type 1} → statement M
+incoming_rows_of_spec = tie.close (tie.spec first_into-first-requires into_end-end-requires returns)

@@ -8,72 +8,72 @@ use Rattle.table.proofs.RowsInto.{before_into, from_into, first_into_most}
 use Rattle.table.proofs.core.into_end.Statement.{statement}
 use Rattle.table.proofs.core.into_end.Tie as tie
 
-abbrev invariant-loop : tie.invariant-loop
-invariant-loop target order h u from k₀ k = k ≤ first_into target order h (u + 1)
+abbrev invariant-loop-k : tie.invariant-loop-k
+invariant-loop-k target order h u from k₀ k = k ≤ first_into target order h (u + 1)
 
-abbrev decreases-loop : tie.decreases-loop
-decreases-loop target order h u from k₀ k = h - k
+abbrev decreases-loop-k : tie.decreases-loop-k
+decreases-loop-k target order h u from k₀ k = h - k
 
-loop-holds : tie.Need-loop-init invariant-loop decreases-loop
-loop-holds c = c.before.before.requires.1
+loop-k-init : tie.Need-loop-k-init invariant-loop-k decreases-loop-k
+loop-k-init c = c.requires.1
 
-at-requires : tie.Need-at-requires invariant-loop decreases-loop
-at-requires c κs = omega (arith, c.before.before.before.before.requires.0.room)
+at-i-requires : tie.Need-at-i-requires invariant-loop-k decreases-loop-k
+at-i-requires c κs = omega (arith, c.requires.0.room)
 
-at-requires-2 : tie.Need-at-requires-2 invariant-loop decreases-loop
-at-requires-2 c κs = omega (
+at-requires : tie.Need-at-requires invariant-loop-k decreases-loop-k
+at-requires c κs = omega (
   arith,
-  c.at.ensures.0,
-  c.before.before.before.before.before.requires.0.row c.before.before.loop.k (omega arith),
+  c.at-i.ensures.0,
+  c.requires.0.row c.loop-k.k (omega arith),
 )
 
-returns : tie.Need-returns invariant-loop decreases-loop
-returns c = let a = c.before.before.before.before.before.before.before in
-    le_antisymm c.before.before.before.before.loop.invariant
+returns-then-u-at : tie.Need-returns-then-u-at invariant-loop-k decreases-loop-k
+returns-then-u-at c = let a = c in
+    le_antisymm c.loop-k.invariant
     (from_into a.args.target.now a.args.order.now a.args.h a.requires.0 (a.args.u + 1)
-    c.before.before.before.before.loop.k (omega arith)
+    c.loop-k.k (omega arith)
     (omega (
       arith,
-      c.before.at2.ensures.0,
-      ap (λ (x : ℕ). get_or a.args.target.now x 0) c.before.before.at.ensures.0,
-      c.if1.true,
+      c.at.ensures.0,
+      ap (λ (x : ℕ). get_or a.args.target.now x 0) c.at-i.ensures.0,
+      c.if-u-at.true,
     )))
 
-add-k : tie.Need-overflow-add-k invariant-loop decreases-loop
-add-k c = omega arith
+overflow_add-k : tie.Need-overflow_add-k invariant-loop-k decreases-loop-k
+overflow_add-k c = omega arith
 
-loop-less : tie.Need-loop-smaller invariant-loop decreases-loop
-loop-less c = omega arith
+loop-k-smaller : tie.Need-loop-k-smaller invariant-loop-k decreases-loop-k
+loop-k-smaller c = omega arith
 
-loop-again : tie.Need-loop-preserved invariant-loop decreases-loop
-loop-again c = let a = c.before.before.before.before.before.before.before in
+loop-k-preserved : tie.Need-loop-k-preserved invariant-loop-k decreases-loop-k
+loop-k-preserved c = let a = c in
     omega (
       arith,
       before_into a.args.target.now a.args.order.now a.args.h a.requires.0 (a.args.u + 1)
-          c.before.before.before.before.loop.k (omega arith)
+          c.loop-k.k (omega arith)
           (omega (
             arith,
-            c.before.at2.ensures.0,
-            ap (λ (x : ℕ). get_or a.args.target.now x 0) c.before.before.at.ensures.0,
-            c.if1.false,
+            c.at.ensures.0,
+            ap (λ (x : ℕ). get_or a.args.target.now x 0) c.at-i.ensures.0,
+            c.if-u-at.false,
           )),
     )
 
-returns-2 : tie.Need-returns-2 invariant-loop decreases-loop
-returns-2 c = let a = c.before.before.before.before in
-    omega (arith, c.before.loop.invariant, first_into_most a.args.target.now a.args.order.now a.args.h (a.args.u + 1))
+returns : tie.Need-returns invariant-loop-k decreases-loop-k
+returns c = let a = c in
+    omega (arith, c.loop-k.invariant, first_into_most a.args.target.now a.args.order.now a.args.h (a.args.u + 1))
 
-pub into-end-spec : {M : Type 1} → statement M
-into-end-spec =
+pub into_end_spec : {M : Type 1} → statement M
+into_end_spec =
     tie.close
     (tie.spec
-    invariant-loop
-    decreases-loop
-    loop-holds
+    invariant-loop-k
+    decreases-loop-k
+    loop-k-init
+    at-i-requires
     at-requires
-    at-requires-2
-    returns
-    add-k
-    loop-less
-    loop-again
-    returns-2)
+    returns-then-u-at
+    overflow_add-k
+    loop-k-smaller
+    loop-k-preserved
+    returns)

@@ -10,81 +10,81 @@ use Rattle.table.proofs.RowsOf.{first_row_is, first_row_most, first_row_up}
 use Rattle.table.proofs.core.list_starts.Statement.{statement}
 use Rattle.table.proofs.core.list_starts.Tie as tie
 
-abbrev invariant-loop : tie.invariant-loop
-invariant-loop source m starts₀ s₀ i₀ starts s i =
+abbrev invariant-loop-s : tie.invariant-loop-s
+invariant-loop-s source m starts₀ s₀ i₀ starts s i =
     (i ≡ first_row source m s) × Painted (first_row source m) (length starts₀) starts₀ s starts
 
-abbrev decreases-loop : tie.decreases-loop
-decreases-loop source m starts₀ s₀ i₀ starts s i = length starts₀ - s
+abbrev decreases-loop-s : tie.decreases-loop-s
+decreases-loop-s source m starts₀ s₀ i₀ starts s i = length starts₀ - s
 
-loop-holds : tie.Need-loop-init invariant-loop decreases-loop
-loop-holds c = let a = c.before.before in
+loop-s-init : tie.Need-loop-s-init invariant-loop-s decreases-loop-s
+loop-s-init c = let a = c in
     let source = a.args.source.now in (
       first_row_is source a.args.m 0 0 (omega arith) (λ i h. absurd (omega (arith, h))) (λ i h l. omega arith),
       painted_none (first_row source a.args.m) (length a.args.starts.now) a.args.starts.now,
     )
 
-cast-starts : tie.Need-overflow-cast-starts invariant-loop decreases-loop
-cast-starts c = let a = c.before.before.before.before in
+overflow_cast-starts : tie.Need-overflow_cast-starts invariant-loop-s decreases-loop-s
+overflow_cast-starts c = let a = c in
     omega (
       arith,
       a.requires.2,
-      c.before.loop.invariant.0,
-      first_row_most a.args.source.now a.args.m c.before.loop.s,
+      c.loop-s.invariant.0,
+      first_row_most a.args.source.now a.args.m c.loop-s.s,
     )
 
-mul-starts : tie.Need-overflow-mul-starts invariant-loop decreases-loop
-mul-starts c = search rules
+offset_bounds-starts-s : tie.Need-offset_bounds-starts-s invariant-loop-s decreases-loop-s
+offset_bounds-starts-s c = search rules
 
-slice-write-starts : tie.Need-slice-write-starts invariant-loop decreases-loop
-slice-write-starts c = search rules
+bounds-starts-s : tie.Need-bounds-starts-s invariant-loop-s decreases-loop-s
+bounds-starts-s c = search rules
 
-run-end-requires : tie.Need-run-end-requires invariant-loop decreases-loop
-run-end-requires c κs = let a = c.before.before.before.before in
-    let s = c.before.loop.s in (
+run_end-i-requires : tie.Need-run_end-i-requires invariant-loop-s decreases-loop-s
+run_end-i-requires c κs = let a = c in
+    let s = c.loop-s.s in (
       a.requires.0,
       a.requires.1,
-      omega (arith, c.before.loop.invariant.0, first_row_up a.args.source.now a.args.m s (s + 1) (omega arith)),
+      omega (arith, c.loop-s.invariant.0, first_row_up a.args.source.now a.args.m s (s + 1) (omega arith)),
     )
 
-add-s : tie.Need-overflow-add-s invariant-loop decreases-loop
-add-s c = search rules
+overflow_add-s : tie.Need-overflow_add-s invariant-loop-s decreases-loop-s
+overflow_add-s c = search rules
 
-loop-less : tie.Need-loop-smaller invariant-loop decreases-loop
-loop-less c = search rules
+loop-s-smaller : tie.Need-loop-s-smaller invariant-loop-s decreases-loop-s
+loop-s-smaller c = search rules
 
-loop-again : tie.Need-loop-preserved invariant-loop decreases-loop
-loop-again c = let a = c.before.before.before.before.before in
-    let l = c.before.before.loop in (
-      c.run-end.ensures,
+loop-s-preserved : tie.Need-loop-s-preserved invariant-loop-s decreases-loop-s
+loop-s-preserved c = let a = c in
+    let l = c.loop-s in (
+      c.run_end-i.ensures,
       painted_more (first_row a.args.source.now a.args.m) (length a.args.starts.now) a.args.starts.now l.s
-          l.starts l.i (omega arith) (omega (arith, c.before.loop-test, l.invariant.1.1.1)) l.invariant.0 l.invariant.1,
+          l.starts l.i (omega arith) (omega (arith, c.loop-s-test, l.invariant.1.1.1)) l.invariant.0 l.invariant.1,
     )
 
-same_length : tie.Need-same-length invariant-loop decreases-loop
-same_length c = c.before.loop.invariant.1.1.1
+shape_of-starts : tie.Need-shape_of-starts invariant-loop-s decreases-loop-s
+shape_of-starts c = c.loop-s.invariant.1.1.1
 
-returns : tie.Need-returns invariant-loop decreases-loop
-returns c = let a = c.before.before.before.before in
+returns : tie.Need-returns invariant-loop-s decreases-loop-s
+returns c = let a = c in
     let f : ℕ → ℕ = first_row a.args.source.now a.args.m in
     let l = a.args.starts.now in
-    painted_done f (length l) l _ _ (listed (length l) f) c.before.loop.invariant.1
-    (omega (arith, c.loop-test, c.before.loop.invariant.1.1.1)) refl
+    painted_done f (length l) l _ _ (listed (length l) f) c.loop-s.invariant.1
+    (omega (arith, c.loop-s-test, c.loop-s.invariant.1.1.1)) refl
     ∙ over-all (listed (length l) f) l (length-listed (length l) f)
 
-pub list-starts-spec : {M : Type 1} → statement M
-list-starts-spec =
+pub list_starts_spec : {M : Type 1} → statement M
+list_starts_spec =
     tie.close
     (tie.spec
-    invariant-loop
-    decreases-loop
-    loop-holds
-    cast-starts
-    mul-starts
-    slice-write-starts
-    run-end-requires
-    add-s
-    loop-less
-    loop-again
-    same_length
+    invariant-loop-s
+    decreases-loop-s
+    loop-s-init
+    overflow_cast-starts
+    offset_bounds-starts-s
+    bounds-starts-s
+    run_end-i-requires
+    overflow_add-s
+    loop-s-smaller
+    loop-s-preserved
+    shape_of-starts
     returns)

@@ -8,59 +8,59 @@ use Rattle.table.proofs.Stretches.{next-is}
 use Rattle.table.proofs.core.next_incoming.Statement.{statement}
 use Rattle.table.proofs.core.next_incoming.Tie as tie
 
-abbrev invariant-loop : tie.invariant-loop
-invariant-loop target m u from i₀ i = ((from ≤ i) × (i ≤ m)) × ((j : ℕ) → from ≤ j → j < i → get_or target j 0 ≡ u → ⊥)
+abbrev invariant-loop-i : tie.invariant-loop-i
+invariant-loop-i target m u from i₀ i = ((from ≤ i) × (i ≤ m)) × ((j : ℕ) → from ≤ j → j < i → get_or target j 0 ≡ u → ⊥)
 
-abbrev decreases-loop : tie.decreases-loop
-decreases-loop target m u from i₀ i = m - i
+abbrev decreases-loop-i : tie.decreases-loop-i
+decreases-loop-i target m u from i₀ i = m - i
 
-loop-holds : tie.Need-loop-init invariant-loop decreases-loop
-loop-holds c = ((omega arith, omega arith), λ j h l. absurd (omega (arith, h, l)))
+loop-i-init : tie.Need-loop-i-init invariant-loop-i decreases-loop-i
+loop-i-init c = ((omega arith, omega arith), λ j h l. absurd (omega (arith, h, l)))
 
-at-requires : tie.Need-at-requires invariant-loop decreases-loop
+at-requires : tie.Need-at-requires invariant-loop-i decreases-loop-i
 at-requires c κs = omega arith
 
-returns : tie.Need-returns invariant-loop decreases-loop
-returns c = let a = c.before.before.before.before.before in
-    next-is a.args.target.now a.args.m a.args.u a.args.from a.requires.1 c.before.before.before.loop.i
+returns-then-at-u : tie.Need-returns-then-at-u invariant-loop-i decreases-loop-i
+returns-then-at-u c = let a = c in
+    next-is a.args.target.now a.args.m a.args.u a.args.from a.requires.1 c.loop-i.i
     record {
-      low = c.before.before.before.loop.invariant.0.0;
+      low = c.loop-i.invariant.0.0;
       most = omega arith;
-      before = c.before.before.before.loop.invariant.1;
+      before = c.loop-i.invariant.1;
       hit =
-          λ _. sym c.before.at.ensures.0 ∙ c.if1.true;
+          λ _. sym c.at.ensures.0 ∙ c.if-at-u.true;
     }
 
-add-i : tie.Need-overflow-add-i invariant-loop decreases-loop
-add-i c = omega arith
+overflow_add-i : tie.Need-overflow_add-i invariant-loop-i decreases-loop-i
+overflow_add-i c = omega arith
 
-loop-less : tie.Need-loop-smaller invariant-loop decreases-loop
-loop-less c = omega arith
+loop-i-smaller : tie.Need-loop-i-smaller invariant-loop-i decreases-loop-i
+loop-i-smaller c = omega arith
 
-loop-again : tie.Need-loop-preserved invariant-loop decreases-loop
-loop-again c = (
+loop-i-preserved : tie.Need-loop-i-preserved invariant-loop-i decreases-loop-i
+loop-i-preserved c = (
   (omega arith, omega arith),
   λ j h l e. ⊎_elim
-      (λ (q : j ≡ c.before.before.before.loop.i). c.if1.false
-      (c.before.at.ensures.0 ∙ (ap (λ (k : ℕ). get_or c.before.before.before.before.before.args.target.now k 0) (sym q) ∙ e)))
-      (λ (k : j < c.before.before.before.loop.i). c.before.before.before.loop.invariant.1 j h k e) (top_or-below (omega (arith, l))),
+      (λ (q : j ≡ c.loop-i.i). c.if-at-u.false
+      (c.at.ensures.0 ∙ (ap (λ (k : ℕ). get_or c.args.target.now k 0) (sym q) ∙ e)))
+      (λ (k : j < c.loop-i.i). c.loop-i.invariant.1 j h k e) (top_or-below (omega (arith, l))),
 )
 
-returns-2 : tie.Need-returns-2 invariant-loop decreases-loop
-returns-2 c = let a = c.before.before.before in
-    next-is a.args.target.now a.args.m a.args.u a.args.from a.requires.1 c.before.loop.i
-    record { low = c.before.loop.invariant.0.0; most = omega arith; before = c.before.loop.invariant.1; hit = λ h. absurd (omega (arith, h)) }
+returns : tie.Need-returns invariant-loop-i decreases-loop-i
+returns c = let a = c in
+    next-is a.args.target.now a.args.m a.args.u a.args.from a.requires.1 c.loop-i.i
+    record { low = c.loop-i.invariant.0.0; most = omega arith; before = c.loop-i.invariant.1; hit = λ h. absurd (omega (arith, h)) }
 
-pub next-incoming-spec : {M : Type 1} → statement M
-next-incoming-spec =
+pub next_incoming_spec : {M : Type 1} → statement M
+next_incoming_spec =
     tie.close
     (tie.spec
-    invariant-loop
-    decreases-loop
-    loop-holds
+    invariant-loop-i
+    decreases-loop-i
+    loop-i-init
     at-requires
-    returns
-    add-i
-    loop-less
-    loop-again
-    returns-2)
+    returns-then-at-u
+    overflow_add-i
+    loop-i-smaller
+    loop-i-preserved
+    returns)

@@ -12,115 +12,112 @@ use Rattle.table.proofs.Searching.{search_start, search_few, search_count, searc
 use Rattle.table.proofs.core.reach.Statement.{statement}
 use Rattle.table.proofs.core.reach.Tie as tie
 
-abbrev invariant-loop : tie.invariant-loop
-invariant-loop table source label target starts hidden state marks₀ queue₀ head₀ tail₀ marks queue head tail =
+abbrev invariant-loop-head : tie.invariant-loop-head
+invariant-loop-head table source label target starts hidden state marks₀ queue₀ head₀ tail₀ marks queue head tail =
     Search (edge (lts table source label target) hidden) table.n state marks queue head tail × (length queue ≡ length queue₀)
 
-abbrev decreases-loop : tie.decreases-loop
-decreases-loop table source label target starts hidden state marks₀ queue₀ head₀ tail₀ marks queue head tail = table.n - head
+abbrev decreases-loop-head : tie.decreases-loop-head
+decreases-loop-head table source label target starts hidden state marks₀ queue₀ head₀ tail₀ marks queue head tail = table.n - head
 
-clear-requires : tie.Need-clear-requires invariant-loop decreases-loop
+clear-requires : tie.Need-clear-requires invariant-loop-head decreases-loop-head
 clear-requires c κs = search rules
 
-mul-marks : tie.Need-overflow-mul-marks invariant-loop decreases-loop
-mul-marks c = let a = c.before.before.before.before.before.before.before.before.before.before in
+offset_bounds-marks-state : tie.Need-offset_bounds-marks-state invariant-loop-head decreases-loop-head
+offset_bounds-marks-state c = let a = c in
     omega (arith, a.requires)
 
-slice-write-marks : tie.Need-slice-write-marks invariant-loop decreases-loop
-slice-write-marks c = let a = c.before.before.before.before.before.before.before.before.before.before in
-    omega (arith, a.requires.0.1, a.requires.1.0, c.before.before.clear.auto.0)
+bounds-marks-state : tie.Need-bounds-marks-state invariant-loop-head decreases-loop-head
+bounds-marks-state c = let a = c in
+    omega (arith, a.requires.0.1, a.requires.1.0, c.clear.auto.a)
 
-cast-queue : tie.Need-overflow-cast-queue invariant-loop decreases-loop
-cast-queue c = let a = c.before.before.before.before.before.before.before.before.before.before in
+overflow_cast-queue : tie.Need-overflow_cast-queue invariant-loop-head decreases-loop-head
+overflow_cast-queue c = let a = c in
     omega (arith, a.requires.0.1, a.requires.0.0.few_states)
 
-slice-write-queue : tie.Need-slice-write-queue invariant-loop decreases-loop
-slice-write-queue c = let a = c.before.before.before.before.before.before.before.before.before.before in
+bounds-queue-0 : tie.Need-bounds-queue-0 invariant-loop-head decreases-loop-head
+bounds-queue-0 c = let a = c in
     omega (arith, a.requires.0.1, a.requires.1.1)
 
-loop-holds : tie.Need-loop-init invariant-loop decreases-loop
-loop-holds c = let a = c.before.before.before.before.before.before.before.before.before.before in (
+loop-head-init : tie.Need-loop-head-init invariant-loop-head decreases-loop-head
+loop-head-init c = let a = c in (
   subst (λ (l : List ℕ). Search (edge (lts a.args.table a.args.source.now a.args.label.now a.args.target.now)
       a.args.hidden) a.args.table.n a.args.state (set l a.args.state 1) (set a.args.queue.now 0 a.args.state) 0 1)
-      (sym (c.before.before.clear.ensures ∙ ap zeros a.requires.1.0))
+      (sym (c.clear.ensures ∙ ap zeros a.requires.1.0))
       (search_start (edge (lts a.args.table a.args.source.now a.args.label.now a.args.target.now) a.args.hidden)
       a.args.table.n a.args.state a.args.queue.now a.requires.0.1 a.requires.1.1),
   refl,
 )
 
-visit-requires : tie.Need-visit-requires invariant-loop decreases-loop
-visit-requires c κs = let a = c.before.before.before.before.before.before.before.before.before.before.before.before.before.before in (
-  (a.pre.0.0, omega arith, a.pre.0.2),
+visit-tail-requires : tie.Need-visit-tail-requires invariant-loop-head decreases-loop-head
+visit-tail-requires c κs = let a = c in (
+  (a.requires.0.0, omega arith, a.requires.0.2),
   subst (λ (x : ℕ). Search
       (edge (lts a.args.table a.args.source.now a.args.label.now a.args.target.now) a.args.hidden)
-      a.args.table.n x c.before.before.before.loop.marks c.before.before.before.loop.queue
-      c.before.before.before.loop.head c.before.before.before.loop.tail)
-      (sym c.before.before.before.loop.invariant.0.first) c.before.before.before.loop.invariant.0,
+      a.args.table.n x c.loop-head.marks c.loop-head.queue
+      c.loop-head.head c.loop-head.tail)
+      (sym c.loop-head.invariant.0.first) c.loop-head.invariant.0,
 )
 
-add-head : tie.Need-overflow-add-head invariant-loop decreases-loop
-add-head c = let a =
-    c.before.before.before.before.before.before.before.before.before.before.before.before.before.before.before.before.before.before.before in
+overflow_add-head : tie.Need-overflow_add-head invariant-loop-head decreases-loop-head
+overflow_add-head c = let a = c in
     omega (
       arith,
-      search_few _ _ _ _ _ _ _ c.before.before.before.before.before.before.before.before.loop.invariant.0,
-      a.pre.0.0.few_states,
+      search_few _ _ _ _ _ _ _ c.loop-head.invariant.0,
+      a.requires.0.0.few_states,
     )
 
-loop-less : tie.Need-loop-smaller invariant-loop decreases-loop
-loop-less c = let a =
-    c.before.before.before.before.before.before.before.before.before.before.before.before.before.before.before.before.before.before.before in
-    omega (arith, search_few _ _ _ _ _ _ _ c.before.before.before.before.before.before.before.before.loop.invariant.0)
+loop-head-smaller : tie.Need-loop-head-smaller invariant-loop-head decreases-loop-head
+loop-head-smaller c = let a = c in
+    omega (arith, search_few _ _ _ _ _ _ _ c.loop-head.invariant.0)
 
-loop-again : tie.Need-loop-preserved invariant-loop decreases-loop
-loop-again c = let a =
-    c.before.before.before.before.before.before.before.before.before.before.before.before.before.before.before.before.before.before.before in (
+loop-head-preserved : tie.Need-loop-head-preserved invariant-loop-head decreases-loop-head
+loop-head-preserved c = let a = c in (
       subst (λ (x : ℕ). Search (edge (lts a.args.table a.args.source.now a.args.label.now a.args.target.now)
-          a.args.hidden) a.args.table.n x c.before.before.before.before.visit.new.1.1.1.1.1.1.0
-          c.before.before.before.before.visit.new.1.1.1.1.1.1.1.0
-          (c.before.before.before.before.before.before.before.before.loop.head + 1)
-          c.before.before.before.before.visit.result)
-          c.before.before.before.before.before.before.before.before.loop.invariant.0.first
-          c.before.before.before.before.visit.ensures,
-      c.before.before.before.before.visit.auto.1.1.1.1.1.1.1.0 ∙
-          c.before.before.before.before.before.before.before.before.loop.invariant.1,
+          a.args.hidden) a.args.table.n x c.visit-tail.new.marks
+          c.visit-tail.new.queue
+          (c.loop-head.head + 1)
+          c.visit-tail.result)
+          c.loop-head.invariant.0.first
+          c.visit-tail.ensures,
+      c.visit-tail.auto.queue ∙
+          c.loop-head.invariant.1,
     )
 
-same_length : tie.Need-same-length invariant-loop decreases-loop
-same_length c = let a = c.before.before.before.before.before.before.before.before.before.before.before.before in
-    c.before.loop.invariant.0.size ∙ sym a.requires.1.0
+shape_of-marks : tie.Need-shape_of-marks invariant-loop-head decreases-loop-head
+shape_of-marks c = let a = c in
+    c.loop-head.invariant.0.size ∙ sym a.requires.1.0
 
-same-length-2 : tie.Need-same-length-2 invariant-loop decreases-loop
-same-length-2 c = let a = c.before.before.before.before.before.before.before.before.before.before.before.before in
-    c.before.loop.invariant.1 ∙ length-set a.args.queue.now 0 a.args.state
+shape_of-queue : tie.Need-shape_of-queue invariant-loop-head decreases-loop-head
+shape_of-queue c = let a = c in
+    c.loop-head.invariant.1 ∙ length-set a.args.queue.now 0 a.args.state
 
-returns : tie.Need-returns invariant-loop decreases-loop
-returns c = let a = c.before.before.before.before.before.before.before.before.before.before.before.before in (
+returns : tie.Need-returns invariant-loop-head decreases-loop-head
+returns c = let a = c in (
   search_count (lts a.args.table a.args.source.now a.args.label.now a.args.target.now) a.args.hidden
-      a.requires.0.0 a.args.state c.before.loop.marks c.before.loop.queue c.before.loop.head c.before.loop.tail
-      c.before.loop.invariant.0 (omega arith),
+      a.requires.0.0 a.args.state c.loop-head.marks c.loop-head.queue c.loop-head.head c.loop-head.tail
+      c.loop-head.invariant.0 (omega arith),
   search_marks
       (lts a.args.table a.args.source.now a.args.label.now a.args.target.now) a.args.hidden a.requires.0.0
-      a.args.state c.before.loop.marks c.before.loop.queue c.before.loop.head c.before.loop.tail
-      c.before.loop.invariant.0 (omega arith),
+      a.args.state c.loop-head.marks c.loop-head.queue c.loop-head.head c.loop-head.tail
+      c.loop-head.invariant.0 (omega arith),
 )
 
-pub reach-spec : {M : Type 1} → statement M
-reach-spec =
+pub reach_spec : {M : Type 1} → statement M
+reach_spec =
     tie.close
     (tie.spec
-    invariant-loop
-    decreases-loop
+    invariant-loop-head
+    decreases-loop-head
     clear-requires
-    mul-marks
-    slice-write-marks
-    cast-queue
-    slice-write-queue
-    loop-holds
-    visit-requires
-    add-head
-    loop-less
-    loop-again
-    same_length
-    same-length-2
+    offset_bounds-marks-state
+    bounds-marks-state
+    overflow_cast-queue
+    bounds-queue-0
+    loop-head-init
+    visit-tail-requires
+    overflow_add-head
+    loop-head-smaller
+    loop-head-preserved
+    shape_of-marks
+    shape_of-queue
     returns)

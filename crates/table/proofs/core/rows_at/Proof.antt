@@ -6,29 +6,29 @@ use mathlib.Core.Path.{◌∙◌}
 use Rattle.table.proofs.core.rows_at.Statement.{statement}
 use Rattle.table.proofs.core.rows_at.Tie as tie
 
-add-if1 : tie.Need-overflow-add-if1
-add-if1 c = search rules
+overflow_add-s : tie.Need-overflow_add-s
+overflow_add-s c = search rules
 
-rows-of-requires : tie.Need-rows-of-requires
-rows-of-requires c κs = search rules
+rows_of-requires : tie.Need-rows_of-requires
+rows_of-requires c κs = search rules
+
+returns-then-starts-s : tie.Need-returns-then-starts-s
+returns-then-starts-s c = search rules
+
+at-first-requires : tie.Need-at-first-requires
+at-first-requires c κs = search rules
+
+overflow_add-s-2 : tie.Need-overflow_add-s-2
+overflow_add-s-2 c = search rules
+
+at-end-requires : tie.Need-at-end-requires
+at-end-requires c κs = search rules
 
 returns : tie.Need-returns
-returns c = search rules
-
-at-requires : tie.Need-at-requires
-at-requires c κs = search rules
-
-add_at : tie.Need-overflow-add-at
-add_at c = search rules
-
-at-requires-2 : tie.Need-at-requires-2
-at-requires-2 c κs = search rules
-
-returns-2 : tie.Need-returns-2
-returns-2 c = let a = c.before.before.before.before.before in (
-  c.before.at.ensures.0 ∙ a.requires.1 a.args.s (omega arith),
-  c.at2.ensures.0 ∙ a.requires.1 (a.args.s + 1) (omega arith),
+returns c = let a = c in (
+  c.at-first.ensures.0 ∙ a.requires.1 a.args.s (omega arith),
+  c.at-end.ensures.0 ∙ a.requires.1 (a.args.s + 1) (omega arith),
 )
 
-pub rows-at-spec : {M : Type 1} → statement M
-rows-at-spec = tie.close (tie.spec add-if1 rows-of-requires returns at-requires add_at at-requires-2 returns-2)
+pub rows_at_spec : {M : Type 1} → statement M
+rows_at_spec = tie.close (tie.spec overflow_add-s rows_of-requires returns-then-starts-s at-first-requires overflow_add-s-2 at-end-requires returns)

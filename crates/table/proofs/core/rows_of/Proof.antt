@@ -6,16 +6,16 @@ use Rattle.table.proofs.RowsOf.{first_row_up}
 use Rattle.table.proofs.core.rows_of.Statement.{statement}
 use Rattle.table.proofs.core.rows_of.Tie as tie
 
-first-row-requires : tie.Need-first-row-requires
-first-row-requires c κs = search rules
+first_row-first-requires : tie.Need-first_row-first-requires
+first_row-first-requires c κs = search rules
 
-run-end-requires : tie.Need-run-end-requires
-run-end-requires c κs = let a = c.before.before in (
+run_end-end-requires : tie.Need-run_end-end-requires
+run_end-end-requires c κs = let a = c in (
   a.requires.0,
   a.requires.1,
   omega (
     arith,
-    c.first_row_lem.ensures,
+    c.first_row-first.ensures,
     first_row_up a.args.source.now a.args.m a.args.s (a.args.s + 1) (omega arith),
   ),
 )
@@ -23,5 +23,5 @@ run-end-requires c κs = let a = c.before.before in (
 returns : tie.Need-returns
 returns c = search rules
 
-pub rows-of-spec : {M : Type 1} → statement M
-rows-of-spec = tie.close (tie.spec first-row-requires run-end-requires returns)
+pub rows_of_spec : {M : Type 1} → statement M
+rows_of_spec = tie.close (tie.spec first_row-first-requires run_end-end-requires returns)

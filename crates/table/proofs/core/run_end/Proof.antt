@@ -7,52 +7,52 @@ use Rattle.table.proofs.RowsOf.{before_row, from_row, first_row_most}
 use Rattle.table.proofs.core.run_end.Statement.{statement}
 use Rattle.table.proofs.core.run_end.Tie as tie
 
-abbrev invariant-loop : tie.invariant-loop
-invariant-loop source m s from i₀ i = i ≤ first_row source m (s + 1)
+abbrev invariant-loop-i : tie.invariant-loop-i
+invariant-loop-i source m s from i₀ i = i ≤ first_row source m (s + 1)
 
-abbrev decreases-loop : tie.decreases-loop
-decreases-loop source m s from i₀ i = m - i
+abbrev decreases-loop-i : tie.decreases-loop-i
+decreases-loop-i source m s from i₀ i = m - i
 
-loop-holds : tie.Need-loop-init invariant-loop decreases-loop
-loop-holds c = c.before.requires.2
+loop-i-init : tie.Need-loop-i-init invariant-loop-i decreases-loop-i
+loop-i-init c = c.requires.2
 
-at-requires : tie.Need-at-requires invariant-loop decreases-loop
+at-requires : tie.Need-at-requires invariant-loop-i decreases-loop-i
 at-requires c κs = omega arith
 
-returns : tie.Need-returns invariant-loop decreases-loop
-returns c = let a = c.before.before.before.before.before in
-    le_antisymm c.before.before.before.loop.invariant
-    (from_row a.args.source.now a.args.m a.requires.1 (a.args.s + 1) c.before.before.before.loop.i (omega arith)
-    (omega (arith, c.before.at.ensures.0, c.if1.true)))
+returns-then-s-at : tie.Need-returns-then-s-at invariant-loop-i decreases-loop-i
+returns-then-s-at c = let a = c in
+    le_antisymm c.loop-i.invariant
+    (from_row a.args.source.now a.args.m a.requires.1 (a.args.s + 1) c.loop-i.i (omega arith)
+    (omega (arith, c.at.ensures.0, c.if-s-at.true)))
 
-add-i : tie.Need-overflow-add-i invariant-loop decreases-loop
-add-i c = omega arith
+overflow_add-i : tie.Need-overflow_add-i invariant-loop-i decreases-loop-i
+overflow_add-i c = omega arith
 
-loop-less : tie.Need-loop-smaller invariant-loop decreases-loop
-loop-less c = omega arith
+loop-i-smaller : tie.Need-loop-i-smaller invariant-loop-i decreases-loop-i
+loop-i-smaller c = omega arith
 
-loop-again : tie.Need-loop-preserved invariant-loop decreases-loop
-loop-again c = let a = c.before.before.before.before.before in
+loop-i-preserved : tie.Need-loop-i-preserved invariant-loop-i decreases-loop-i
+loop-i-preserved c = let a = c in
     omega (
       arith,
-      before_row a.args.source.now a.args.m a.requires.1 (a.args.s + 1) c.before.before.before.loop.i (omega arith)
-          (omega (arith, c.before.at.ensures.0, c.if1.false)),
+      before_row a.args.source.now a.args.m a.requires.1 (a.args.s + 1) c.loop-i.i (omega arith)
+          (omega (arith, c.at.ensures.0, c.if-s-at.false)),
     )
 
-returns-2 : tie.Need-returns-2 invariant-loop decreases-loop
-returns-2 c = let a = c.before.before.before in
-    omega (arith, c.before.loop.invariant, first_row_most a.args.source.now a.args.m (a.args.s + 1))
+returns : tie.Need-returns invariant-loop-i decreases-loop-i
+returns c = let a = c in
+    omega (arith, c.loop-i.invariant, first_row_most a.args.source.now a.args.m (a.args.s + 1))
 
-pub run-end-spec : {M : Type 1} → statement M
-run-end-spec =
+pub run_end_spec : {M : Type 1} → statement M
+run_end_spec =
     tie.close
     (tie.spec
-    invariant-loop
-    decreases-loop
-    loop-holds
+    invariant-loop-i
+    decreases-loop-i
+    loop-i-init
     at-requires
-    returns
-    add-i
-    loop-less
-    loop-again
-    returns-2)
+    returns-then-s-at
+    overflow_add-i
+    loop-i-smaller
+    loop-i-preserved
+    returns)

@@ -6,34 +6,33 @@ use Rattle.columns.specs.Columns.{sort_by, wiped}
 use Rattle.table.proofs.core.sort_incoming.Statement.{statement}
 use Rattle.table.proofs.core.sort_incoming.Tie as tie
 
-count-up-requires : tie.Need-count-up-requires
-count-up-requires c κs = search rules
+count_up-requires : tie.Need-count_up-requires
+count_up-requires c κs = search rules
 
 sort-requires : tie.Need-sort-requires
 sort-requires c κs = search rules
 
-same_length : tie.Need-same-length
-same_length c = search rules
+shape_of-order : tie.Need-shape_of-order
+shape_of-order c = search rules
 
-same-length-2 : tie.Need-same-length-2
-same-length-2 c = search rules
+shape_of-spare : tie.Need-shape_of-spare
+shape_of-spare c = search rules
 
 returns : tie.Need-returns
-returns c = let a =
-    c.before.before.before.before.before.before.before.before.before.before.before.before.before.before.before.before in (
-      c.before.before.before.before.sort.ensures.0 ∙ ap (sort_by a.args.target.now a.args.source.now a.args.label.now)
-          c.before.before.before.before.before.before.before.before.before.count-up.ensures,
-      c.before.before.before.before.sort.ensures.1 ∙
+returns c = let a = c in (
+      c.sort.ensures.0 ∙ ap (sort_by a.args.target.now a.args.source.now a.args.label.now)
+          c.count_up.ensures,
+      c.sort.ensures.1 ∙
           ap (λ (n : ℕ). wiped (n / 2) a.args.spare.now)
-          c.before.before.before.before.before.before.before.before.before.count-up.auto.0,
+          c.count_up.auto.a,
     )
 
-pub sort-incoming-spec : {M : Type 1} → statement M
-sort-incoming-spec =
+pub sort_incoming_spec : {M : Type 1} → statement M
+sort_incoming_spec =
     tie.close
     (tie.spec
-    count-up-requires
+    count_up-requires
     sort-requires
-    same_length
-    same-length-2
+    shape_of-order
+    shape_of-spare
     returns)

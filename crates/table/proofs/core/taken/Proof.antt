@@ -1,39 +1,40 @@
 -- `core.taken` meets its contract.
+use mathlib.Core.Bool.{not}
 use borrow.Author.Rules.{rules}
 use borrow.Author.Tests.{eq-eqb, ne_eqb, not-false}
-use mathlib.Core.Path.{sym}
+use mathlib.Core.Path.{ap, sym}
 use Rattle.table.specs.Reach.{takes}
 use Rattle.table.proofs.core.taken.Statement.{statement}
 use Rattle.table.proofs.core.taken.Tie as tie
 
-returns : tie.Need-returns
+returns-then-not-hidden : tie.Need-returns-then-not-hidden
 unfolding takes
-returns c = simp c.if1.true
+returns-then-not-hidden c = simp (ap not c.if-not-hidden.true)
 
 at-requires : tie.Need-at-requires
 at-requires c κs = search rules
 
-returns-2 : tie.Need-returns-2
+returns-then-at-eq0 : tie.Need-returns-then-at-eq0
 unfolding takes
-returns-2 c = simp (
-  not-false c.before.before.before.before.args.hidden c.before.before.if1.false,
-  sym c.before.at.ensures.0,
-  eq-eqb _ _ c.if2.true,
+returns-then-at-eq0 c = simp (
+  c.if-not-hidden.false,
+  sym c.at.ensures.0,
+  eq-eqb _ _ c.if-at-eq0.true,
 )
 
-returns-3 : tie.Need-returns-3
+returns-else-at-eq0 : tie.Need-returns-else-at-eq0
 unfolding takes
-returns-3 c = simp (
-  not-false c.before.before.before.before.args.hidden c.before.before.if1.false,
-  sym c.before.at.ensures.0,
-  ne_eqb _ _ c.if2.false,
+returns-else-at-eq0 c = simp (
+  c.if-not-hidden.false,
+  sym c.at.ensures.0,
+  ne_eqb _ _ c.if-at-eq0.false,
 )
 
-pub taken-spec : {M : Type 1} → statement M
-taken-spec =
+pub taken_spec : {M : Type 1} → statement M
+taken_spec =
     tie.close
     (tie.spec
-    returns
+    returns-then-not-hidden
     at-requires
-    returns-2
-    returns-3)
+    returns-then-at-eq0
+    returns-else-at-eq0)

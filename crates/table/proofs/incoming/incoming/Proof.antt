@@ -17,96 +17,96 @@ use Rattle.table.proofs.incoming.incoming.Tie as tie
 abbrev L : tie.Start → Lts
 L a = lts a.args.table a.args.source.now a.args.label.now a.args.target.now
 
-cast-m : tie.Need-overflow-cast-m
-cast-m c = search rules
+overflow_cast-m : tie.Need-overflow_cast-m
+overflow_cast-m c = search rules
 
-incoming-refusal-requires : tie.Need-incoming-refusal-requires
-incoming-refusal-requires c κs = search rules
+incoming_refusal-t-requires : tie.Need-incoming_refusal-t-requires
+incoming_refusal-t-requires c κs = search rules
 
-refusing-number-requires : tie.Need-refusing-number-requires
-refusing-number-requires c κs = search rules
+refusing_number-requires : tie.Need-refusing_number-requires
+refusing_number-requires c κs = search rules
 
-returns : tie.Need-returns
+returns-then-number-ne0 : tie.Need-returns-then-number-ne0
 unfolding incoming_rows
-returns c = let a = c.before.before.before.before.before.before.before.before.before in
+returns-then-number-ne0 c = let a = c.before.before.before.before.before.before.before.before.before in
     left_refused (incoming_refusal (L a) (length a.args.incoming.now) (length a.args.spare.now)) _
-    c.before.before.incoming-refusal.ensures
+    c.incoming_refusal-t.ensures
     (a.args.incoming.now, a.args.spare.now) (
       over (incoming_order (L a)) a.args.incoming.now,
       zeros (length a.args.spare.now),
-    ) (a.args.table.m ∷ []) _ c.before.if1.true c.refusing-number.ensures
+    ) (a.args.table.m ∷ []) _ c.if-number-ne0.true c.refusing_number.ensures
 
 clear-requires : tie.Need-clear-requires
 clear-requires c κs = search rules
 
-slice-relend-prefix-sort-incoming : tie.Need-slice-relend-prefix-sort-incoming
-slice-relend-prefix-sort-incoming c = let a = c.before.before.before.before.before.before.before.before.before.before.before.before in
-    let e = c.before.before.before.before.before.incoming-refusal.ensures in
+slice_bounds-sort_incoming-end : tie.Need-slice_bounds-sort_incoming-end
+slice_bounds-sort_incoming-end c = let a = c.before.before.before.before.before.before.before.before.before.before.before.before in
+    let e = c.incoming_refusal-t.ensures in
     let q = incoming_ready (L a) (length a.args.incoming.now) (length a.args.spare.now) _ e
-    c.before.before.before.before.if1.false in
+    c.if-number-ne0.false in
     q.long
 
-slice-aggregate-sort-incoming : tie.Need-slice-aggregate-sort-incoming
-slice-aggregate-sort-incoming c = let a = c.before.before.before.before.before.before.before.before.before.before.before.before.before in
-    let e = c.before.before.before.before.before.before.incoming-refusal.ensures in
+slice_bounds-sort_incoming-end-2 : tie.Need-slice_bounds-sort_incoming-end-2
+slice_bounds-sort_incoming-end-2 c = let a = c.before.before.before.before.before.before.before.before.before.before.before.before.before in
+    let e = c.incoming_refusal-t.ensures in
     let q = incoming_ready (L a) (length a.args.incoming.now) (length a.args.spare.now) _ e
-    c.before.before.before.before.before.if1.false in
+    c.if-number-ne0.false in
     sym (length-take-le a.args.table.m a.args.incoming.now q.long)
 
-sort-incoming-requires : tie.Need-sort-incoming-requires
-sort-incoming-requires c κs = let a = c.before.before.before.before.before.before.before.before.before.before.before.before.before.before in
-    let e = c.before.before.before.before.before.before.before.incoming-refusal.ensures in
+sort_incoming-requires : tie.Need-sort_incoming-requires
+sort_incoming-requires c κs = let a = c.before.before.before.before.before.before.before.before.before.before.before.before.before.before in
+    let e = c.incoming_refusal-t.ensures in
     let q = incoming_ready (L a) (length a.args.incoming.now) (length a.args.spare.now) _ e
-    c.before.before.before.before.before.before.if1.false in
+    c.if-number-ne0.false in
     let lt = length-take-le a.args.table.m a.args.incoming.now q.long in
-    (omega (arith, lt, q.valid.few_rows), omega (arith, lt, q.wide, c.before.before.before.before.clear.auto.0))
+    (omega (arith, lt, q.valid.few_rows), omega (arith, lt, q.wide, c.clear.auto.a))
 
-number-of-requires : tie.Need-number-of-requires
-number-of-requires c κs = search rules
+number_of-requires : tie.Need-number_of-requires
+number_of-requires c κs = search rules
 
-same_length : tie.Need-same-length
-same_length c = search rules
+shape_of-incoming : tie.Need-shape_of-incoming
+shape_of-incoming c = search rules
 
-same-length-2 : tie.Need-same-length-2
-same-length-2 c = search rules
+shape_of-spare : tie.Need-shape_of-spare
+shape_of-spare c = search rules
 
-returns-2 : tie.Need-returns-2
+returns : tie.Need-returns
 unfolding incoming_rows
-returns-2 c = let a = c.before.before.before.before.before.before.before.before.before.before.before.before.before.before.before.before.before.before.before.before in
-    let e = c.before.before.before.before.before.before.before.before.before.before.before.before.before.incoming-refusal.ensures
+returns c = let a = c.before.before.before.before.before.before.before.before.before.before.before.before.before.before.before.before.before.before.before.before in
+    let e = c.incoming_refusal-t.ensures
     in
     let q = incoming_ready (L a) (length a.args.incoming.now) (length a.args.spare.now) _ e
-    c.before.before.before.before.before.before.before.before.before.before.before.before.if1.false in
+    c.if-number-ne0.false in
     let lt = length-take-le a.args.table.m a.args.incoming.now q.long in
-    let z = c.before.before.before.before.before.sort-incoming.ensures.1 ∙
-    (ap (wiped _) c.before.before.before.before.before.before.before.before.before.before.clear.ensures ∙
+    let z = c.sort_incoming.ensures.1 ∙
+    (ap (wiped _) c.clear.ensures ∙
     wiped-zeros _ (length a.args.spare.now) (omega (arith, lt, q.wide))) in
     left_done (incoming_refusal (L a) (length a.args.incoming.now) (length a.args.spare.now)) _
-    c.before.before.before.before.before.before.before.before.before.before.before.before.before.incoming-refusal.ensures
+    c.incoming_refusal-t.ensures
     (a.args.incoming.now, a.args.spare.now) (
       over (incoming_order (L a)) a.args.incoming.now,
       zeros (length a.args.spare.now),
     ) (a.args.table.m ∷ []) _ _
-    c.before.before.before.before.before.before.before.before.before.before.before.before.if1.false
-    c.number_of_lem.ensures (λ i. (
+    c.if-number-ne0.false
+    c.number_of.ensures (λ i. (
       incoming_over (L a) a.args.incoming.now _ q.long
-          c.before.before.before.before.before.sort-incoming.ensures.0 i,
+          c.sort_incoming.ensures.0 i,
       z i,
     ))
 
-pub incoming-spec : {M : Type 1} → statement M
-incoming-spec =
+pub incoming_spec : {M : Type 1} → statement M
+incoming_spec =
     tie.close
     (tie.spec
-    cast-m
-    incoming-refusal-requires
-    refusing-number-requires
-    returns
+    overflow_cast-m
+    incoming_refusal-t-requires
+    refusing_number-requires
+    returns-then-number-ne0
     clear-requires
-    slice-relend-prefix-sort-incoming
-    slice-aggregate-sort-incoming
-    sort-incoming-requires
-    number-of-requires
-    same_length
-    same-length-2
-    returns-2)
+    slice_bounds-sort_incoming-end
+    slice_bounds-sort_incoming-end-2
+    sort_incoming-requires
+    number_of-requires
+    shape_of-incoming
+    shape_of-spare
+    returns)

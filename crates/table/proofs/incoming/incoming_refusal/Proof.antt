@@ -13,14 +13,14 @@ use Rattle.table.proofs.incoming.incoming_refusal.Tie as tie
 abbrev L : tie.Start → Lts
 L a = lts a.args.table a.args.source.now a.args.label.now a.args.target.now
 
-cast-m : tie.Need-overflow-cast-m
-cast-m c = search rules
+overflow_cast-m : tie.Need-overflow_cast-m
+overflow_cast-m c = search rules
 
-slice-aggregate-works-long : tie.Need-slice-aggregate-works-long
-slice-aggregate-works-long c = search rules
+slice_bounds-works_long-end : tie.Need-slice_bounds-works_long-end
+slice_bounds-works_long-end c = search rules
 
-works-long-requires : tie.Need-works-long-requires
-works-long-requires c κs = search rules
+works_long-requires : tie.Need-works_long-requires
+works_long-requires c κs = search rules
 
 check-requires : tie.Need-check-requires
 check-requires c κs = search rules
@@ -29,9 +29,9 @@ returns : tie.Need-returns
 unfolding incoming_refusal
 returns c = let a = c.before.before.before.before.before.before.before in
     c.check.ensures
-    ∙ ap (λ (b : Bool). due (table_tests (L a) (leb a.args.table.m a.args.res && b))) c.before.works-long.ensures
+    ∙ ap (λ (b : Bool). due (table_tests (L a) (leb a.args.table.m a.args.res && b))) c.works_long.ensures
 
-pub incoming-refusal-spec : {M : Type 1} → statement M
-incoming-refusal-spec =
+pub incoming_refusal_spec : {M : Type 1} → statement M
+incoming_refusal_spec =
     tie.close
-    (tie.spec cast-m slice-aggregate-works-long works-long-requires check-requires returns)
+    (tie.spec overflow_cast-m slice_bounds-works_long-end works_long-requires check-requires returns)

@@ -12,31 +12,31 @@ use Rattle.table.proofs.reach.reach_refusal.Tie as tie
 abbrev L : tie.Start → Lts
 L a = lts a.args.table a.args.source.now a.args.label.now a.args.target.now
 
-cast-n : tie.Need-overflow-cast-n
-cast-n c = search rules
+overflow_cast-n : tie.Need-overflow_cast-n
+overflow_cast-n c = search rules
 
-slice-aggregate-works-long : tie.Need-slice-aggregate-works-long
-slice-aggregate-works-long c = search rules
+slice_bounds-works_long-end : tie.Need-slice_bounds-works_long-end
+slice_bounds-works_long-end c = search rules
 
-works-long-requires : tie.Need-works-long-requires
-works-long-requires c κs = search rules
+works_long-requires : tie.Need-works_long-requires
+works_long-requires c κs = search rules
 
-argument-refusal-requires : tie.Need-argument-refusal-requires
-argument-refusal-requires c κs = search rules
+argument_refusal-requires : tie.Need-argument_refusal-requires
+argument_refusal-requires c κs = search rules
 
 returns : tie.Need-returns
 unfolding reach_refusal
 returns c = let a = c.before.before.before.before.before.before.before in
-    c.argument-refusal.ensures
+    c.argument_refusal.ensures
     ∙ ap (λ (b : Bool). table_argument_refusal (L a) a.args.state a.args.table.n (leb a.args.table.n a.args.res && b))
-    c.before.works-long.ensures
+    c.works_long.ensures
 
-pub reach-refusal-spec : {M : Type 1} → statement M
-reach-refusal-spec =
+pub reach_refusal_spec : {M : Type 1} → statement M
+reach_refusal_spec =
     tie.close
     (tie.spec
-    cast-n
-    slice-aggregate-works-long
-    works-long-requires
-    argument-refusal-requires
+    overflow_cast-n
+    slice_bounds-works_long-end
+    works_long-requires
+    argument_refusal-requires
     returns)

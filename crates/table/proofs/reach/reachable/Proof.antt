@@ -21,52 +21,52 @@ use Rattle.table.proofs.reach.reachable.Tie as tie
 abbrev L : tie.Start → Lts
 L a = lts a.args.table a.args.source.now a.args.label.now a.args.target.now
 
-cast-n : tie.Need-overflow-cast-n
-cast-n c = search rules
+overflow_cast-n : tie.Need-overflow_cast-n
+overflow_cast-n c = search rules
 
-reach-refusal-requires : tie.Need-reach-refusal-requires
-reach-refusal-requires c κs = search rules
+reach_refusal-t-requires : tie.Need-reach_refusal-t-requires
+reach_refusal-t-requires c κs = search rules
 
-refusing-number-requires : tie.Need-refusing-number-requires
-refusing-number-requires c κs = search rules
+refusing_number-requires : tie.Need-refusing_number-requires
+refusing_number-requires c κs = search rules
 
-returns : tie.Need-returns
+returns-then-refused-ne0 : tie.Need-returns-then-refused-ne0
 unfolding reachable
-returns c = let a = c.before.before.before.before.before.before.before.before.before in
+returns-then-refused-ne0 c = let a = c.before.before.before.before.before.before.before.before.before in
     left_refused (reach_refusal (L a) a.args.state (length a.args.reached.now) (length a.args.queue.now)) _
-    c.before.before.reach-refusal.ensures (a.args.reached.now, a.args.queue.now) (
+    c.reach_refusal-t.ensures (a.args.reached.now, a.args.queue.now) (
       written a.args.table.n (λ u. bit (reaches (L a) a.args.hidden a.args.state u)) a.args.reached.now,
       zeros (length a.args.queue.now),
     ) (many a.args.table.n (reaches (L a) a.args.hidden a.args.state) ∷ []) _
-    c.before.if1.true c.refusing-number.ensures
+    c.if-refused-ne0.true c.refusing_number.ensures
 
-sub-reach : tie.Need-overflow-sub-reach
-sub-reach c = search rules
+slice_bounds-reach-count : tie.Need-slice_bounds-reach-count
+slice_bounds-reach-count c = search rules
 
-part-reach-start : tie.Need-slice-bounds-reach-start
-part-reach-start c = search rules
+slice_bounds-reach-start : tie.Need-slice_bounds-reach-start
+slice_bounds-reach-start c = search rules
 
-part-reach-end : tie.Need-slice-bounds-reach-end
-part-reach-end c = search rules
+slice_bounds-reach-end : tie.Need-slice_bounds-reach-end
+slice_bounds-reach-end c = search rules
 
-slice-relend-prefix-reach : tie.Need-slice-relend-prefix-reach
-slice-relend-prefix-reach c = let a = c.before.before.before.before.before.before.before.before.before in
+slice_bounds-reach-end-2 : tie.Need-slice_bounds-reach-end-2
+slice_bounds-reach-end-2 c = let a = c.before.before.before.before.before.before.before.before.before in
     let q = reach_ready (L a) a.args.state (length a.args.reached.now) (length a.args.queue.now)
-    (sym (ap (λ (r : Refusal). r.number) c.before.before.reach-refusal.ensures) ∙ c.before.if1.false) in
+    (sym (ap (λ (r : Refusal). r.number) c.reach_refusal-t.ensures) ∙ c.if-refused-ne0.false) in
     let lt = length-take-le a.args.table.n a.args.reached.now q.long in
     q.long
 
-slice-aggregate-reach : tie.Need-slice-aggregate-reach
-slice-aggregate-reach c = let a = c.before.before.before.before.before.before.before.before.before.before in
+slice_bounds-reach-end-3 : tie.Need-slice_bounds-reach-end-3
+slice_bounds-reach-end-3 c = let a = c.before.before.before.before.before.before.before.before.before.before in
     let q = reach_ready (L a) a.args.state (length a.args.reached.now) (length a.args.queue.now)
-    (sym (ap (λ (r : Refusal). r.number) c.before.before.before.reach-refusal.ensures) ∙ c.before.before.if1.false) in
+    (sym (ap (λ (r : Refusal). r.number) c.reach_refusal-t.ensures) ∙ c.if-refused-ne0.false) in
     let lt = length-take-le a.args.table.n a.args.reached.now q.long in
     sym lt
 
-reach-requires : tie.Need-reach-requires
-reach-requires c κs = let a = c.before.before.before.before.before.before.before.before.before.before.before in
+reach-count-requires : tie.Need-reach-count-requires
+reach-count-requires c κs = let a = c.before.before.before.before.before.before.before.before.before.before.before in
     let q = reach_ready (L a) a.args.state (length a.args.reached.now) (length a.args.queue.now)
-    (sym (ap (λ (r : Refusal). r.number) c.before.before.before.before.reach-refusal.ensures) ∙ c.before.before.before.if1.false) in
+    (sym (ap (λ (r : Refusal). r.number) c.reach_refusal-t.ensures) ∙ c.if-refused-ne0.false) in
     let lt = length-take-le a.args.table.n a.args.reached.now q.long in
     ((q.valid, q.known, no_starts a.args.source.now a.args.table.m), (lt, omega (arith, q.wide)))
 
@@ -76,55 +76,54 @@ clear-requires c κs = search rules
 number-requires : tie.Need-number-requires
 number-requires c κs = search rules
 
-same_length : tie.Need-same-length
-same_length c = search rules
+shape_of-reached : tie.Need-shape_of-reached
+shape_of-reached c = search rules
 
-same-length-2 : tie.Need-same-length-2
-same-length-2 c = search rules
+shape_of-queue : tie.Need-shape_of-queue
+shape_of-queue c = search rules
 
-returns-2 : tie.Need-returns-2
+returns : tie.Need-returns
 unfolding reachable
-returns-2 c = let a =
-    c.before.before.before.before.before.before.before.before.before.before.before.before.before.before.before.before.before.before.before.before.before in
+returns c = let a = c.before.before.before.before.before.before.before.before.before.before.before.before.before.before.before.before.before.before.before.before.before in
     let q = reach_ready (L a) a.args.state (length a.args.reached.now) (length a.args.queue.now)
     (sym (ap (λ (r : Refusal). r.number)
-    c.before.before.before.before.before.before.before.before.before.before.before.before.before.before.reach-refusal.ensures)
-    ∙ c.before.before.before.before.before.before.before.before.before.before.before.before.before.if1.false) in
+    c.reach_refusal-t.ensures)
+    ∙ c.if-refused-ne0.false) in
     let lt = length-take-le a.args.table.n a.args.reached.now q.long in
     let f : ℕ → ℕ = λ u. bit (reaches (L a) a.args.hidden a.args.state u) in
     let w = front_written a.args.table.n f a.args.reached.now _ q.long
-    (c.before.before.before.before.before.before.before.before.before.reach.ensures.1 ∙ ap (λ (k : ℕ). listed k f) (sym lt))
+    (c.reach-count.ensures.1 ∙ ap (λ (k : ℕ). listed k f) (sym lt))
     in
-    let z = c.before.before.before.clear.ensures ∙
-    ap zeros c.before.before.before.before.before.before.before.before.before.reach.auto.1.1.1.1.1.1.1.1.0 in
+    let z = c.clear.ensures ∙
+    ap zeros c.reach-count.auto.queue in
     left_done (reach_refusal (L a) a.args.state (length a.args.reached.now) (length a.args.queue.now)) _
-    c.before.before.before.before.before.before.before.before.before.before.before.before.before.before.reach-refusal.ensures
+    c.reach_refusal-t.ensures
     (a.args.reached.now, a.args.queue.now) (
       written a.args.table.n
           (λ u. bit (reaches (L a) a.args.hidden a.args.state u)) a.args.reached.now,
       zeros (length a.args.queue.now),
     )
     (many a.args.table.n (reaches (L a) a.args.hidden a.args.state) ∷ []) _ _
-    c.before.before.before.before.before.before.before.before.before.before.before.before.before.if1.false
+    c.if-refused-ne0.false
     (c.number.ensures ∙ ap (λ (k : ℕ). done (k ∷ []))
-    c.before.before.before.before.before.before.before.before.before.reach.ensures.0) (λ i. (w i, z i))
+    c.reach-count.ensures.0) (λ i. (w i, z i))
 
-pub reachable-spec : {M : Type 1} → statement M
-reachable-spec =
+pub reachable_spec : {M : Type 1} → statement M
+reachable_spec =
     tie.close
     (tie.spec
-    cast-n
-    reach-refusal-requires
-    refusing-number-requires
-    returns
-    sub-reach
-    part-reach-start
-    part-reach-end
-    slice-relend-prefix-reach
-    slice-aggregate-reach
-    reach-requires
+    overflow_cast-n
+    reach_refusal-t-requires
+    refusing_number-requires
+    returns-then-refused-ne0
+    slice_bounds-reach-count
+    slice_bounds-reach-start
+    slice_bounds-reach-end
+    slice_bounds-reach-end-2
+    slice_bounds-reach-end-3
+    reach-count-requires
     clear-requires
     number-requires
-    same_length
-    same-length-2
-    returns-2)
+    shape_of-reached
+    shape_of-queue
+    returns)

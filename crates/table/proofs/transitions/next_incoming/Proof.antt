@@ -14,44 +14,44 @@ use Rattle.table.proofs.transitions.next_incoming.Tie as tie
 abbrev L : tie.Start → Lts
 L a = lts a.args.table a.args.source.now a.args.label.now a.args.target.now
 
-next-refusal-requires : tie.Need-next-refusal-requires
-next-refusal-requires c κs = search rules
+next_refusal-t-requires : tie.Need-next_refusal-t-requires
+next_refusal-t-requires c κs = search rules
 
-refusing-number-requires : tie.Need-refusing-number-requires
-refusing-number-requires c κs = search rules
+refusing_number-requires : tie.Need-refusing_number-requires
+refusing_number-requires c κs = search rules
 
-returns : tie.Need-returns
+returns-then-refused-ne0 : tie.Need-returns-then-refused-ne0
 unfolding next_incoming_row
-returns c = let a = c.before.before.before.before.before.before in
-    c.refusing-number.ensures ∙ asked_refused (next_refusal (L a) a.args.state a.args.from) _
-    c.before.before.next-refusal.ensures _ c.before.if1.true
+returns-then-refused-ne0 c = let a = c.before.before.before.before.before.before in
+    c.refusing_number.ensures ∙ asked_refused (next_refusal (L a) a.args.state a.args.from) _
+    c.next_refusal-t.ensures _ c.if-refused-ne0.true
 
-cast-next-incoming : tie.Need-overflow-cast-next-incoming
-cast-next-incoming c = search rules
+overflow_cast-table : tie.Need-overflow_cast-table
+overflow_cast-table c = search rules
 
-next-incoming-requires : tie.Need-next-incoming-requires
-next-incoming-requires c κs = let a = c.before.before.before.before.before.before in
-    let q = next_asked (L a) a.args.state a.args.from _ c.before.before.next-refusal.ensures c.before.if1.false in
+next_incoming-row-requires : tie.Need-next_incoming-row-requires
+next_incoming-row-requires c κs = let a = c.before.before.before.before.before.before in
+    let q = next_asked (L a) a.args.state a.args.from _ c.next_refusal-t.ensures c.if-refused-ne0.false in
     (q.valid.long.target, q.fits)
 
 number-requires : tie.Need-number-requires
 number-requires c κs = search rules
 
-returns-2 : tie.Need-returns-2
+returns : tie.Need-returns
 unfolding next_incoming_row
-returns-2 c = let a = c.before.before.before.before.before.before.before.before in
-    c.number.ensures ∙ (ap (λ (k : ℕ). done (k ∷ [])) c.before.next_incoming_lem.ensures
+returns c = let a = c.before.before.before.before.before.before.before.before in
+    c.number.ensures ∙ (ap (λ (k : ℕ). done (k ∷ [])) c.next_incoming-row.ensures
     ∙ asked_done (next_refusal (L a) a.args.state a.args.from) _
-    c.before.before.before.before.next-refusal.ensures _ c.before.before.before.if1.false)
+    c.next_refusal-t.ensures _ c.if-refused-ne0.false)
 
-pub next-incoming-spec : {M : Type 1} → statement M
-next-incoming-spec =
+pub next_incoming_spec : {M : Type 1} → statement M
+next_incoming_spec =
     tie.close
     (tie.spec
-    next-refusal-requires
-    refusing-number-requires
-    returns
-    cast-next-incoming
-    next-incoming-requires
+    next_refusal-t-requires
+    refusing_number-requires
+    returns-then-refused-ne0
+    overflow_cast-table
+    next_incoming-row-requires
     number-requires
-    returns-2)
+    returns)

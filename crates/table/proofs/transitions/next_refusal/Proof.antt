@@ -14,23 +14,23 @@ use Rattle.table.proofs.transitions.next_refusal.Tie as tie
 abbrev L : tie.Start → Lts
 L a = lts a.args.table a.args.source.now a.args.label.now a.args.target.now
 
-cast-n : tie.Need-overflow-cast-n
-cast-n c = search rules
+overflow_cast-n : tie.Need-overflow_cast-n
+overflow_cast-n c = search rules
 
-cast-m : tie.Need-overflow-cast-m
-cast-m c = search rules
+overflow_cast-m : tie.Need-overflow_cast-m
+overflow_cast-m c = search rules
 
-argument-refusal-requires : tie.Need-argument-refusal-requires
-argument-refusal-requires c κs = search rules
+argument_refusal-t-requires : tie.Need-argument_refusal-t-requires
+argument_refusal-t-requires c κs = search rules
 
-add-index-refusal : tie.Need-overflow-add-index-refusal
-add-index-refusal c = search rules
+overflow_add-m : tie.Need-overflow_add-m
+overflow_add-m c = search rules
 
-index-refusal-requires : tie.Need-index-refusal-requires
-index-refusal-requires c κs = search rules
+index_refusal-requires : tie.Need-index_refusal-requires
+index_refusal-requires c κs = search rules
 
-or-else-requires : tie.Need-or-else-requires
-or-else-requires c κs = search rules
+or_else-requires : tie.Need-or_else-requires
+or_else-requires c κs = search rules
 
 returns : tie.Need-returns
 unfolding next_refusal table_argument_refusal
@@ -38,16 +38,16 @@ returns c = let a = c.before.before.before.before.before.before.before.before in
     c.or_else.ensures
     ∙ chained (table_tests (L a) true ++ (index_test a.args.state a.args.table.n ∷ []))
     (index_test a.args.from (a.args.table.m + 1) ∷ []) refl _
-    c.before.before.argument-refusal.ensures _ c.before.index-refusal.ensures
+    c.argument_refusal-t.ensures _ c.index_refusal.ensures
 
-pub next-refusal-spec : {M : Type 1} → statement M
-next-refusal-spec =
+pub next_refusal_spec : {M : Type 1} → statement M
+next_refusal_spec =
     tie.close
     (tie.spec
-    cast-n
-    cast-m
-    argument-refusal-requires
-    add-index-refusal
-    index-refusal-requires
-    or-else-requires
+    overflow_cast-n
+    overflow_cast-m
+    argument_refusal-t-requires
+    overflow_add-m
+    index_refusal-requires
+    or_else-requires
     returns)

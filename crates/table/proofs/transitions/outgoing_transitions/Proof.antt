@@ -17,34 +17,34 @@ use Rattle.table.proofs.transitions.outgoing_transitions.Tie as tie
 abbrev L : tie.Start → Lts
 L a = lts a.args.table a.args.source.now a.args.label.now a.args.target.now
 
-cast-n : tie.Need-overflow-cast-n
-cast-n c = search rules
+overflow_cast-n : tie.Need-overflow_cast-n
+overflow_cast-n c = search rules
 
-argument-refusal-requires : tie.Need-argument-refusal-requires
-argument-refusal-requires c κs = search rules
+argument_refusal-t-requires : tie.Need-argument_refusal-t-requires
+argument_refusal-t-requires c κs = search rules
+
+returns-then-refused-ne0 : tie.Need-returns-then-refused-ne0
+unfolding outgoing_transitions
+returns-then-refused-ne0 c = let a = c.before.before.before.before.before.before in
+    asked_refused (table_argument_refusal (L a) a.args.state a.args.table.n true) _ c.argument_refusal-t.ensures _
+    c.if-refused-ne0.true
+
+overflow_cast-table : tie.Need-overflow_cast-table
+overflow_cast-table c = search rules
+
+rows_of-rows-requires : tie.Need-rows_of-rows-requires
+rows_of-rows-requires c κs = let a = c.before.before.before.before.before.before.before in
+    let q = asked_of (L a) a.args.state a.args.table.n true _ c.argument_refusal-t.ensures
+    c.if-refused-ne0.false in
+    (q.valid.long.source, rising (L a) q.valid, omega (arith, q.known, q.valid.few_states))
 
 returns : tie.Need-returns
 unfolding outgoing_transitions
-returns c = let a = c.before.before.before.before.before.before in
-    asked_refused (table_argument_refusal (L a) a.args.state a.args.table.n true) _ c.before.argument-refusal.ensures _
-    c.if1.true
+returns c = let a = c.before.before.before.before.before.before.before.before in
+    ap₂ (λ (x z : ℕ). done (x ∷ z ∷ [])) c.rows_of-rows.ensures.0 c.rows_of-rows.ensures.1
+    ∙ asked_done (table_argument_refusal (L a) a.args.state a.args.table.n true) _ c.argument_refusal-t.ensures _
+    c.if-refused-ne0.false
 
-cast-rows-of : tie.Need-overflow-cast-rows-of
-cast-rows-of c = search rules
-
-rows-of-requires : tie.Need-rows-of-requires
-rows-of-requires c κs = let a = c.before.before.before.before.before.before.before in
-    let q = asked_of (L a) a.args.state a.args.table.n true _ c.before.before.argument-refusal.ensures
-    c.before.if1.false in
-    (q.valid.long.source, rising (L a) q.valid, omega (arith, q.known, q.valid.few_states))
-
-returns-2 : tie.Need-returns-2
-unfolding outgoing_transitions
-returns-2 c = let a = c.before.before.before.before.before.before.before.before in
-    ap₂ (λ (x z : ℕ). done (x ∷ z ∷ [])) c.rows_of_lem.ensures.0 c.rows_of_lem.ensures.1
-    ∙ asked_done (table_argument_refusal (L a) a.args.state a.args.table.n true) _ c.before.before.before.argument-refusal.ensures _
-    c.before.before.if1.false
-
-pub outgoing-transitions-spec : {M : Type 1} → statement M
-outgoing-transitions-spec =
-    tie.close (tie.spec cast-n argument-refusal-requires returns cast-rows-of rows-of-requires returns-2)
+pub outgoing_transitions_spec : {M : Type 1} → statement M
+outgoing_transitions_spec =
+    tie.close (tie.spec overflow_cast-n argument_refusal-t-requires returns-then-refused-ne0 overflow_cast-table rows_of-rows-requires returns)

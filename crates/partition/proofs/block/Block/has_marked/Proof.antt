@@ -9,26 +9,26 @@ use Rattle.partition.proofs.block.Block.has_marked.Tie as tie
 sound-requires : tie.Need-sound-requires
 sound-requires c κs = search rules
 
-refusing-flag-requires : tie.Need-refusing-flag-requires
-refusing-flag-requires c κs = search rules
+refusing_flag-requires : tie.Need-refusing_flag-requires
+refusing_flag-requires c κs = search rules
 
-returns : tie.Need-returns
+returns-then-not-sound : tie.Need-returns-then-not-sound
 unfolding has_marked
-returns c = c.refusing-flag.ensures ∙ simp (sym c.before.before.sound.ensures ∙ not-true _ c.before.if1.true)
+returns-then-not-sound c = c.refusing_flag.ensures ∙ simp (sym c.sound.ensures ∙ c.if-not-sound.true)
 
 flag-requires : tie.Need-flag-requires
 flag-requires c κs = search rules
 
-returns-2 : tie.Need-returns-2
+returns : tie.Need-returns
 unfolding has_marked
-returns-2 c = c.flag.ensures ∙ simp (sym c.before.before.before.sound.ensures ∙ not-false _ c.before.before.if1.false)
+returns c = c.flag.ensures ∙ simp (sym c.sound.ensures ∙ c.if-not-sound.false)
 
-pub has-marked-spec : {M : Type 1} → statement M
-has-marked-spec =
+pub has_marked_spec : {M : Type 1} → statement M
+has_marked_spec =
     tie.close
     (tie.spec
     sound-requires
-    refusing-flag-requires
-    returns
+    refusing_flag-requires
+    returns-then-not-sound
     flag-requires
-    returns-2)
+    returns)

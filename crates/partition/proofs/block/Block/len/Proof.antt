@@ -11,43 +11,43 @@ use Rattle.partition.proofs.block.Block.len.Tie as tie
 sound-requires : tie.Need-sound-requires
 sound-requires c κs = search rules
 
-refusing-number-requires : tie.Need-refusing-number-requires
-refusing-number-requires c κs = search rules
+refusing_number-requires : tie.Need-refusing_number-requires
+refusing_number-requires c κs = search rules
 
-returns : tie.Need-returns
+returns-then-not-sound : tie.Need-returns-then-not-sound
 unfolding len
-returns c = c.refusing-number.ensures ∙ simp (sym c.before.before.sound.ensures ∙ not-true _ c.before.if1.true)
+returns-then-not-sound c = c.refusing_number.ensures ∙ simp (sym c.sound.ensures ∙ c.if-not-sound.true)
 
-cast-b : tie.Need-overflow-cast-b
-cast-b c = search rules
+overflow_cast-b : tie.Need-overflow_cast-b
+overflow_cast-b c = search rules
 
-cast-e : tie.Need-overflow-cast-e
-cast-e c = search rules
+overflow_cast-e : tie.Need-overflow_cast-e
+overflow_cast-e c = search rules
 
-sub_number : tie.Need-overflow-sub-number
-sub_number c = omega (
+overflow_sub-e : tie.Need-overflow_sub-e
+overflow_sub-e c = omega (
   arith,
-  sound_of c.before.before.before.before.args.self
-      (sym c.before.before.before.sound.ensures ∙ not-false _ c.before.before.if1.false),
+  sound_of c.args.self
+      (sym c.sound.ensures ∙ c.if-not-sound.false),
 )
 
 number-requires : tie.Need-number-requires
 number-requires c κs = search rules
 
-returns-2 : tie.Need-returns-2
+returns : tie.Need-returns
 unfolding len
-returns-2 c = c.number.ensures ∙ simp (sym c.before.before.before.before.sound.ensures ∙
-    not-false _ c.before.before.before.if1.false)
+returns c = c.number.ensures ∙ simp (sym c.sound.ensures ∙
+    c.if-not-sound.false)
 
 pub len_spec : {M : Type 1} → statement M
 len_spec =
     tie.close
     (tie.spec
     sound-requires
-    refusing-number-requires
-    returns
-    cast-b
-    cast-e
-    sub_number
+    refusing_number-requires
+    returns-then-not-sound
+    overflow_cast-b
+    overflow_cast-e
+    overflow_sub-e
     number-requires
-    returns-2)
+    returns)
