@@ -159,7 +159,10 @@ class Proof:
                 last_step = f
                 out.append(f)
                 continue
-            out.append({'inv': 'invariant', 'taken': 'true', 'left': 'false'}.get(f, f) if last_step else f)
+            if f in ('well-formed', 'well_formed'):
+                out.append('well_formed')
+                continue
+            out.append({'inv': 'invariant', 'ptr': 'ref_ptr'}.get(f, f))
         return out
 
     def run(self):

@@ -1,10 +1,9 @@
 -- Any two results that the contract of a call on a partition allows are equal. p is the partition that is lent.
 use Rattle.std.specs.Prelude.{◌≡◌, ℕ, List}
 use mathlib.Core.Path.{sym, ◌∙◌}
-use denote.Ref.{Bor}
+use Rattle.std.specs.Borrow.{Bor}
 use Rattle.columns.specs.Answers.{said, said_number, said_flag}
 use Rattle.columns.specs.Determined.{DeterminedAnswer, Determined}
-use Rattle.columns.specs.Lent.{Lent}
 use Rattle.columns.proofs.Determined.{determined_answer, determined}
 use Rattle.columns.proofs.Saying.{same_answer, same_number, same_flag}
 use Rattle.partition.specs.Block.{said_block}
@@ -37,12 +36,12 @@ pub read_block_lem : (p : Partition) (b : ℕ) → DeterminedAnswer said_block (
 read_block_lem p b = determined_answer same_block
 
 -- what `iter_block` answers: a part of the lent elements
-abbrev pub Iterated : Partition → ℕ → Lent (List ℕ) → Bor (List ℕ) → Type 0
+abbrev pub Iterated : Partition → ℕ → Bor (List ℕ) → Bor (List ℕ) → Type 0
 Iterated p b elements r = (r.now ≡ iter_block p b) × BeginsAt r elements (iter_begin p b)
 
 -- two parts that it may answer have the same cells, and lie at the same place
 pub iter_block_lem :
-    (p : Partition) (b : ℕ) (elements : Lent (List ℕ)) (r q : Bor (List ℕ)) → Iterated p b elements r → Iterated p b elements q →
+    (p : Partition) (b : ℕ) (elements : Bor (List ℕ)) (r q : Bor (List ℕ)) → Iterated p b elements r → Iterated p b elements q →
     (r.now ≡ q.now) × (r.ref_ptr ≡ q.ref_ptr)
 iter_block_lem p b elements r q u v = (u.0 ∙ sym v.0, u.1 ∙ sym v.1)
 

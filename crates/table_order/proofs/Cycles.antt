@@ -46,13 +46,13 @@ module _ (t : Lts) (hidden : Bool) where
     abbrev through : ℕ → ℕ → Bool
     through s u = not (eqb s u) && (reaches t hidden s u && reaches t hidden u s)
 
+    last_end : {x u : ℕ} → Way t hidden x u → x < t.n → u < t.n
+    last_end stop h = h
+    last_end (along {s = x} {u = y} e w) h = last_end w (edge_in t hidden v x y e)
+
     walk_end : {s u : ℕ} → (s ≡ u → ⊥) → Way t hidden s u → u < t.n
     walk_end f stop = absurd (f refl)
-    walk_end {s} {u} f (along {u = x} e w) = last x (edge_in t hidden v s x e) w
-      where
-        last : (x : ℕ) → x < t.n → Way t hidden x u → u < t.n
-        last x h stop = h
-        last x h (along {u = y} e w) = last y (edge_in t hidden v x y e) w
+    walk_end f (along {s} {u = x} e w) = last_end w (edge_in t hidden v s x e)
 
     -- the test says whether there is such a cycle
     pub cyclic_long : (has_cycle t hidden ≡ true) ↔ LongCycle t hidden

@@ -13,14 +13,14 @@ use Rattle.table_order.proofs.sort_refusal.Tie as tie
 abbrev L : tie.Start → Lts
 L a = lts a.args.table a.args.source.now a.args.label.now a.args.target.now
 
-cast-n : tie.Need-overflow-cast-n
-cast-n c = search rules
+overflow_cast-n : tie.Need-overflow_cast-n
+overflow_cast-n c = search rules
 
-slice-aggregate-works-long : tie.Need-slice-aggregate-works-long
-slice-aggregate-works-long c = search rules
+slice_bounds-works_long-end : tie.Need-slice_bounds-works_long-end
+slice_bounds-works_long-end c = search rules
 
-works-long-requires : tie.Need-works-long-requires
-works-long-requires c κs = search rules
+works_long-requires : tie.Need-works_long-requires
+works_long-requires c κs = search rules
 
 check-requires : tie.Need-check-requires
 check-requires c κs = search rules
@@ -29,9 +29,9 @@ returns : tie.Need-returns
 unfolding sort_refusal
 returns c = let a = c.before.before.before.before.before.before.before in
     c.check.ensures
-    ∙ ap (λ (b : Bool). due (table_tests (L a) (leb a.args.table.n a.args.places && b))) c.before.works-long.ensures
+    ∙ ap (λ (b : Bool). due (table_tests (L a) (leb a.args.table.n a.args.places && b))) c.works_long.ensures
 
-pub sort-refusal-spec : {M : Type 1} → statement M
-sort-refusal-spec =
+pub sort_refusal_spec : {M : Type 1} → statement M
+sort_refusal_spec =
     tie.close
-    (tie.spec cast-n slice-aggregate-works-long works-long-requires check-requires returns)
+    (tie.spec overflow_cast-n slice_bounds-works_long-end works_long-requires check-requires returns)

@@ -14,44 +14,43 @@ use Rattle.table_order.proofs.sort_topological.Tie as tie
 abbrev L : tie.Start → Lts
 L a = lts a.args.table a.args.source.now a.args.label.now a.args.target.now
 
-sort-refusal-requires : tie.Need-sort-refusal-requires
-sort-refusal-requires c κs = search rules
+sort_refusal-t-requires : tie.Need-sort_refusal-t-requires
+sort_refusal-t-requires c κs = search rules
 
 refusing-requires : tie.Need-refusing-requires
 refusing-requires c κs = search rules
 
-returns : tie.Need-returns
-returns c = let a = c.before.before.before.before.before.before.before.before.before in
+returns-then-refused-ne0 : tie.Need-returns-then-refused-ne0
+returns-then-refused-ne0 c = let a = c.before.before.before.before.before.before.before.before.before in
     refused_first (L a) a.args.hidden a.args.reversed a.args.places.now a.args.marks.now a.args.stack.now _
-    c.before.before.sort-refusal.ensures _ c.before.if1.true c.refusing.ensures
+    c.sort_refusal-t.ensures _ c.if-refused-ne0.true c.refusing.ensures
 
-sort-topological-requires : tie.Need-sort-topological-requires
-sort-topological-requires c κs = let a = c.before.before.before.before.before.before.before.before.before.before.before in
+sort_topological-free-requires : tie.Need-sort_topological-free-requires
+sort_topological-free-requires c κs = let a = c.before.before.before.before.before.before.before.before.before.before.before in
     let q = ready (L a) (length a.args.places.now) (length a.args.marks.now) (length a.args.stack.now)
-    (sym (ap (λ (r : Refusal). r.number) c.before.before.before.before.sort-refusal.ensures) ∙
-    c.before.before.before.if1.false) in
+    (sym (ap (λ (r : Refusal). r.number) c.sort_refusal-t.ensures) ∙
+    c.if-refused-ne0.false) in
     (q.valid, (q.result, q.marked, q.stacked))
 
 finished-requires : tie.Need-finished-requires
 finished-requires c κs = search rules
 
-same_length : tie.Need-same-length
-same_length c = search rules
+shape_of-places-then-free : tie.Need-shape_of-places-then-free
+shape_of-places-then-free c = search rules
 
-same-length-2 : tie.Need-same-length-2
-same-length-2 c = search rules
+shape_of-marks-then-free : tie.Need-shape_of-marks-then-free
+shape_of-marks-then-free c = search rules
 
-same-length-3 : tie.Need-same-length-3
-same-length-3 c = search rules
+shape_of-stack-then-free : tie.Need-shape_of-stack-then-free
+shape_of-stack-then-free c = search rules
 
-returns-2 : tie.Need-returns-2
-returns-2 c = let a =
-    c.before.before.before.before.before.before.before.before.before.before.before.before.before.before.before.before.before.before.before.before in
-    let e = c.before.before.before.before.before.before.before.before.sort_topological_lem.ensures in
+returns-then-free : tie.Need-returns-then-free
+returns-then-free c = let a = c.before.before.before.before.before.before.before.before.before.before.before.before.before.before.before.before.before.before.before.before in
+    let e = c.sort_topological-free.ensures in
     sorted_last (L a) a.args.hidden a.args.reversed a.args.places.now a.args.marks.now a.args.stack.now _
-    c.before.before.before.before.before.before.before.before.before.before.before.before.before.sort-refusal.ensures _
-    c.before.before.before.before.before.before.before.before.before.before.before.before.if1.false _ _ _ _
-    (c.finished.ensures ∙ ap (λ (b : Bool). cond b (done []) (refused cyclic 0)) (sym c.before.if2.true)) e.0 e.1.0
+    c.sort_refusal-t.ensures _
+    c.if-refused-ne0.false _ _ _ _
+    (c.finished.ensures ∙ ap (λ (b : Bool). cond b (done []) (refused cyclic 0)) (sym c.if-free.true)) e.0 e.1.0
     e.1.1.0 e.1.1.1
 
 refuse-requires : tie.Need-refuse-requires
@@ -60,40 +59,39 @@ refuse-requires c κs = search rules
 refusing-requires-2 : tie.Need-refusing-requires-2
 refusing-requires-2 c κs = search rules
 
-same-length-4 : tie.Need-same-length-4
-same-length-4 c = search rules
+shape_of-places : tie.Need-shape_of-places
+shape_of-places c = search rules
 
-same-length-5 : tie.Need-same-length-5
-same-length-5 c = search rules
+shape_of-marks : tie.Need-shape_of-marks
+shape_of-marks c = search rules
 
-same-length-6 : tie.Need-same-length-6
-same-length-6 c = search rules
+shape_of-stack : tie.Need-shape_of-stack
+shape_of-stack c = search rules
 
-returns-3 : tie.Need-returns-3
-returns-3 c = let a =
-    c.before.before.before.before.before.before.before.before.before.before.before.before.before.before.before.before.before.before.before.before.before in
-    let e = c.before.before.before.before.before.before.before.before.before.sort_topological_lem.ensures in
+returns : tie.Need-returns
+returns c = let a = c.before.before.before.before.before.before.before.before.before.before.before.before.before.before.before.before.before.before.before.before.before in
+    let e = c.sort_topological-free.ensures in
     sorted_last (L a) a.args.hidden a.args.reversed a.args.places.now a.args.marks.now a.args.stack.now _
-    c.before.before.before.before.before.before.before.before.before.before.before.before.before.before.sort-refusal.ensures _ c.before.before.before.before.before.before.before.before.before.before.before.before.before.if1.false _
-    _ _ _ (c.refusing2.ensures ∙ (ap (λ (r : Refusal). refused r.number r.place) c.before.refuse.ensures ∙
-    ap (λ (b : Bool). cond b (done []) (refused cyclic 0)) (sym c.before.before.if2.false))) e.0 e.1.0 e.1.1.0 e.1.1.1
+    c.sort_refusal-t.ensures _ c.if-refused-ne0.false _
+    _ _ _ (c.refusing-2.ensures ∙ (ap (λ (r : Refusal). refused r.number r.place) c.refuse.ensures ∙
+    ap (λ (b : Bool). cond b (done []) (refused cyclic 0)) (sym c.if-free.false))) e.0 e.1.0 e.1.1.0 e.1.1.1
 
-pub sort-topological-spec : {M : Type 1} → statement M
-sort-topological-spec =
+pub sort_topological_spec : {M : Type 1} → statement M
+sort_topological_spec =
     tie.close
     (tie.spec
-    sort-refusal-requires
+    sort_refusal-t-requires
     refusing-requires
-    returns
-    sort-topological-requires
+    returns-then-refused-ne0
+    sort_topological-free-requires
     finished-requires
-    same_length
-    same-length-2
-    same-length-3
-    returns-2
+    shape_of-places-then-free
+    shape_of-marks-then-free
+    shape_of-stack-then-free
+    returns-then-free
     refuse-requires
     refusing-requires-2
-    same-length-4
-    same-length-5
-    same-length-6
-    returns-3)
+    shape_of-places
+    shape_of-marks
+    shape_of-stack
+    returns)

@@ -17,24 +17,24 @@ L a = lts a.args.table a.args.source.now a.args.label.now a.args.target.now
 abbrev P : tie.Start → Partition
 P a =
     parts a.args.elements.now a.args.element_offset.now a.args.element_to_block.now a.args.begin.now
-    a.args.marked_split_lem.now a.args.end.now a.args.table.n a.args.count
+    a.args.marked_split.now a.args.end.now a.args.table.n a.args.count
 
-check-requires : tie.Need-check-requires
-check-requires c κs = search rules
+check-t-requires : tie.Need-check-t-requires
+check-t-requires c κs = search rules
 
-index-refusal-requires : tie.Need-index-refusal-requires
-index-refusal-requires c κs = search rules
+index_refusal-requires : tie.Need-index_refusal-requires
+index_refusal-requires c κs = search rules
 
-or-else-requires : tie.Need-or-else-requires
-or-else-requires c κs = search rules
+or_else-requires : tie.Need-or_else-requires
+or_else-requires c κs = search rules
 
 returns : tie.Need-returns
 unfolding both_argument_refusal
 returns c = let a = c.before.before.before.before.before.before.before.before.before.before.before.before in
     c.or_else.ensures
     ∙ chained (both_tests (L a) (P a) a.args.room) (index_test a.args.i a.args.bound ∷ []) refl _
-    c.before.before.check.ensures _ c.before.index-refusal.ensures
+    c.check-t.ensures _ c.index_refusal.ensures
 
-pub argument-refusal-spec : {M : Type 1} → statement M
-argument-refusal-spec =
-    tie.close (tie.spec check-requires index-refusal-requires or-else-requires returns)
+pub argument_refusal_spec : {M : Type 1} → statement M
+argument_refusal_spec =
+    tie.close (tie.spec check-t-requires index_refusal-requires or_else-requires returns)

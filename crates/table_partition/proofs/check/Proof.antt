@@ -23,59 +23,59 @@ L a = lts a.args.table a.args.source.now a.args.label.now a.args.target.now
 abbrev P : tie.Start → Partition
 P a =
     parts a.args.elements.now a.args.element_offset.now a.args.element_to_block.now a.args.begin.now
-    a.args.marked_split_lem.now a.args.end.now a.args.table.n a.args.count
+    a.args.marked_split.now a.args.end.now a.args.table.n a.args.count
 
 -- the room that the table's part of the chain is told
 abbrev Room : tie.Start → Bool
 Room a = longb (P a) && a.args.room
 
-cast-n : tie.Need-overflow-cast-n
-cast-n c = search rules
+overflow_cast-n : tie.Need-overflow_cast-n
+overflow_cast-n c = search rules
 
-six-long-requires : tie.Need-six-long-requires
-six-long-requires c κs = search rules
+six_long-six-requires : tie.Need-six_long-six-requires
+six_long-six-requires c κs = search rules
 
-check-requires : tie.Need-check-requires
-check-requires c κs = search rules
+check-t-requires : tie.Need-check-t-requires
+check-t-requires c κs = search rules
 
-returns : tie.Need-returns
+returns-then-number-ne0 : tie.Need-returns-then-number-ne0
 unfolding longb
-returns c = let a = c.before.before.before.before.before.before.before.before.before.before.before.before.before in
+returns-then-number-ne0 c = let a = c.before.before.before.before.before.before.before.before.before.before.before.before.before in
     ends (table_tests (L a) (Room a)) (test (consistentb (P a)) inconsistent 0 ∷ []) refl _
-    (c.before.check.ensures
-    ∙ ap (λ (x : Bool). due (table_tests (L a) (x && a.args.room))) c.before.before.six-long.ensures) c.if1.true
+    (c.check-t.ensures
+    ∙ ap (λ (x : Bool). due (table_tests (L a) (x && a.args.room))) c.six_long-six.ensures) c.if-number-ne0.true
 
-consistent-requires : tie.Need-consistent-requires
+consistent-sound-requires : tie.Need-consistent-sound-requires
 unfolding longb
-consistent-requires c κs = let a = c.before.before.before.before.before.before.before.before.before.before.before.before.before in
+consistent-sound-requires c κs = let a = c.before.before.before.before.before.before.before.before.before.before.before.before.before in
     let h = passed (table_tests (L a) (Room a)) refl _
-    (c.before.check.ensures
-    ∙ ap (λ (x : Bool). due (table_tests (L a) (x && a.args.room))) c.before.before.six-long.ensures) c.if1.false in
+    (c.check-t.ensures
+    ∙ ap (λ (x : Bool). due (table_tests (L a) (x && a.args.room))) c.six_long-six.ensures) c.if-number-ne0.false in
     let k = checked_of (L a) (Room a) h in
     let l = long_of (P a) (and_left (longb (P a)) a.args.room k.enough) in
     omega (arith, l, k.valid.few_states)
 
-refuse-unless-requires : tie.Need-refuse-unless-requires
-refuse-unless-requires c κs = search rules
+refuse_unless-requires : tie.Need-refuse_unless-requires
+refuse_unless-requires c κs = search rules
 
-returns-2 : tie.Need-returns-2
+returns : tie.Need-returns
 unfolding longb
-returns-2 c = let a = c.before.before.before.before.before.before.before.before.before.before.before.before.before.before.before in
-    c.refuse-unless.ensures
-    ∙ ap (λ (x : Bool). due (test x inconsistent 0 ∷ [])) c.before.consistent.ensures
+returns c = let a = c.before.before.before.before.before.before.before.before.before.before.before.before.before.before.before in
+    c.refuse_unless.ensures
+    ∙ ap (λ (x : Bool). due (test x inconsistent 0 ∷ [])) c.consistent-sound.ensures
     ∙ goes_on_lem (table_tests (L a) (Room a)) (test (consistentb (P a)) inconsistent 0 ∷ []) refl _
-    (c.before.before.before.check.ensures
-    ∙ ap (λ (x : Bool). due (table_tests (L a) (x && a.args.room))) c.before.before.before.before.six-long.ensures)
-    c.before.before.if1.false
+    (c.check-t.ensures
+    ∙ ap (λ (x : Bool). due (table_tests (L a) (x && a.args.room))) c.six_long-six.ensures)
+    c.if-number-ne0.false
 
-pub check-spec : {M : Type 1} → statement M
-check-spec =
+pub check_spec : {M : Type 1} → statement M
+check_spec =
     tie.close
     (tie.spec
-    cast-n
-    six-long-requires
-    check-requires
-    returns
-    consistent-requires
-    refuse-unless-requires
-    returns-2)
+    overflow_cast-n
+    six_long-six-requires
+    check-t-requires
+    returns-then-number-ne0
+    consistent-sound-requires
+    refuse_unless-requires
+    returns)

@@ -15,54 +15,54 @@ use Rattle.partition_calls.proofs.BlockPartition.block_number.Tie as tie
 abbrev P : tie.Start → Partition
 P a =
     parts a.args.elements.now a.args.element_offset.now a.args.element_to_block.now a.args.begin.now
-    a.args.marked_split_lem.now a.args.end.now a.args.self.n a.args.self.count
+    a.args.marked_split.now a.args.end.now a.args.self.n a.args.self.count
 
-cast-n : tie.Need-overflow-cast-n
-cast-n c = search rules
+overflow_cast-n : tie.Need-overflow_cast-n
+overflow_cast-n c = search rules
 
-cast-count : tie.Need-overflow-cast-count
-cast-count c = search rules
+overflow_cast-count : tie.Need-overflow_cast-count
+overflow_cast-count c = search rules
 
-argument-refusal-requires : tie.Need-argument-refusal-requires
-argument-refusal-requires c κs = search rules
+argument_refusal-t-requires : tie.Need-argument_refusal-t-requires
+argument_refusal-t-requires c κs = search rules
 
-refusing-number-requires : tie.Need-refusing-number-requires
-refusing-number-requires c κs = search rules
+refusing_number-requires : tie.Need-refusing_number-requires
+refusing_number-requires c κs = search rules
+
+returns-then-number-ne0 : tie.Need-returns-then-number-ne0
+unfolding block_number
+returns-then-number-ne0 c = let a = c.before.before.before.before.before.before.before.before.before.before.before in
+    c.refusing_number.ensures ∙ asked_refused (state_refusal (P a) a.args.element) _ c.argument_refusal-t.ensures
+    (get_or a.args.element_to_block.now a.args.element 0 ∷ []) c.if-number-ne0.true
+
+offset_bounds-element_to_block-s : tie.Need-offset_bounds-element_to_block-s
+offset_bounds-element_to_block-s c = search rules
+
+bounds-element_to_block-s : tie.Need-bounds-element_to_block-s
+bounds-element_to_block-s c = let a = c.before.before.before.before.before.before.before.before.before.before.before in
+    let q = argument_ready (P a) a.args.element a.args.self.n true _ c.argument_refusal-t.ensures
+    c.if-number-ne0.false in
+    omega (arith, q.known, q.sound.long.element_to_block)
+
+number_of-requires : tie.Need-number_of-requires
+number_of-requires c κs = search rules
 
 returns : tie.Need-returns
 unfolding block_number
-returns c = let a = c.before.before.before.before.before.before.before.before.before.before.before in
-    c.refusing-number.ensures ∙ asked_refused (state_refusal (P a) a.args.element) _ c.before.before.argument-refusal.ensures
-    (get_or a.args.element_to_block.now a.args.element 0 ∷ []) c.before.if1.true
+returns c = let a = c.before.before.before.before.before.before.before.before.before.before.before.before in
+    c.number_of.ensures ∙ asked_done (state_refusal (P a) a.args.element) _ c.argument_refusal-t.ensures
+    (get_or a.args.element_to_block.now a.args.element 0 ∷ []) c.if-number-ne0.false
 
-mul-number-of : tie.Need-overflow-mul-number-of
-mul-number-of c = search rules
-
-shared-slice-read-number-of : tie.Need-shared-slice-read-number-of
-shared-slice-read-number-of c = let a = c.before.before.before.before.before.before.before.before.before.before.before in
-    let q = argument_ready (P a) a.args.element a.args.self.n true _ c.before.before.argument-refusal.ensures
-    c.before.if1.false in
-    omega (arith, q.known, q.sound.long.element_to_block)
-
-number-of-requires : tie.Need-number-of-requires
-number-of-requires c κs = search rules
-
-returns-2 : tie.Need-returns-2
-unfolding block_number
-returns-2 c = let a = c.before.before.before.before.before.before.before.before.before.before.before.before in
-    c.number_of_lem.ensures ∙ asked_done (state_refusal (P a) a.args.element) _ c.before.before.before.argument-refusal.ensures
-    (get_or a.args.element_to_block.now a.args.element 0 ∷ []) c.before.before.if1.false
-
-pub block-number-spec : {M : Type 1} → statement M
-block-number-spec =
+pub block_number_spec : {M : Type 1} → statement M
+block_number_spec =
     tie.close
     (tie.spec
-    cast-n
-    cast-count
-    argument-refusal-requires
-    refusing-number-requires
-    returns
-    mul-number-of
-    shared-slice-read-number-of
-    number-of-requires
-    returns-2)
+    overflow_cast-n
+    overflow_cast-count
+    argument_refusal-t-requires
+    refusing_number-requires
+    returns-then-number-ne0
+    offset_bounds-element_to_block-s
+    bounds-element_to_block-s
+    number_of-requires
+    returns)

@@ -19,66 +19,66 @@ use Rattle.partition_calls.proofs.BlockPartition.is_element_marked.Tie as tie
 abbrev P : tie.Start → Partition
 P a =
     parts a.args.elements.now a.args.element_offset.now a.args.element_to_block.now a.args.begin.now
-    a.args.marked_split_lem.now a.args.end.now a.args.self.n a.args.self.count
+    a.args.marked_split.now a.args.end.now a.args.self.n a.args.self.count
 
-cast-n : tie.Need-overflow-cast-n
-cast-n c = search rules
+overflow_cast-n : tie.Need-overflow_cast-n
+overflow_cast-n c = search rules
 
-cast-count : tie.Need-overflow-cast-count
-cast-count c = search rules
+overflow_cast-count : tie.Need-overflow_cast-count
+overflow_cast-count c = search rules
 
-argument-refusal-requires : tie.Need-argument-refusal-requires
-argument-refusal-requires c κs = search rules
+argument_refusal-t-requires : tie.Need-argument_refusal-t-requires
+argument_refusal-t-requires c κs = search rules
 
-refusing-flag-requires : tie.Need-refusing-flag-requires
-refusing-flag-requires c κs = search rules
+refusing_flag-requires : tie.Need-refusing_flag-requires
+refusing_flag-requires c κs = search rules
 
-returns : tie.Need-returns
+returns-then-number-ne0 : tie.Need-returns-then-number-ne0
 unfolding is_element_marked
-returns c = let a = c.before.before.before.before.before.before.before.before.before.before.before in c.refusing-flag.ensures ∙
-    asked_refused (state_refusal (P a) a.args.element) _ c.before.before.argument-refusal.ensures
-    (bit (not (unmarkedb (P a) a.args.element)) ∷ []) c.before.if1.true
+returns-then-number-ne0 c = let a = c.before.before.before.before.before.before.before.before.before.before.before in c.refusing_flag.ensures ∙
+    asked_refused (state_refusal (P a) a.args.element) _ c.argument_refusal-t.ensures
+    (bit (not (unmarkedb (P a) a.args.element)) ∷ []) c.if-number-ne0.true
 
-at-requires : tie.Need-at-requires
-at-requires c κs = let a = c.before.before.before.before.before.before.before.before.before.before in
-    let q = argument_ready (P a) a.args.element a.args.self.n true _ c.before.argument-refusal.ensures c.if1.false in
+at-b-requires : tie.Need-at-b-requires
+at-b-requires c κs = let a = c.before.before.before.before.before.before.before.before.before.before in
+    let q = argument_ready (P a) a.args.element a.args.self.n true _ c.argument_refusal-t.ensures c.if-number-ne0.false in
     omega (arith, q.known, q.sound.long.element_to_block)
 
-at-requires-2 : tie.Need-at-requires-2
-at-requires-2 c κs = let a = c.before.before.before.before.before.before.before.before.before.before.before in
-    let q = argument_ready (P a) a.args.element a.args.self.n true _ c.before.before.argument-refusal.ensures
-    c.before.if1.false in
+at-o-requires : tie.Need-at-o-requires
+at-o-requires c κs = let a = c.before.before.before.before.before.before.before.before.before.before.before in
+    let q = argument_ready (P a) a.args.element a.args.self.n true _ c.argument_refusal-t.ensures
+    c.if-number-ne0.false in
     omega (arith, q.known, q.sound.long.element_offset)
 
-at-requires-3 : tie.Need-at-requires-3
-at-requires-3 c κs = let a = c.before.before.before.before.before.before.before.before.before.before.before.before in
-    let q = argument_ready (P a) a.args.element a.args.self.n true _ c.before.before.before.argument-refusal.ensures
-    c.before.before.if1.false in
-    block_known (P a) _ _ c.before.at.ensures.0 q.sound q.known
+at-m-requires : tie.Need-at-m-requires
+at-m-requires c κs = let a = c.before.before.before.before.before.before.before.before.before.before.before.before in
+    let q = argument_ready (P a) a.args.element a.args.self.n true _ c.argument_refusal-t.ensures
+    c.if-number-ne0.false in
+    block_known (P a) _ _ c.at-b.ensures.0 q.sound q.known
 
 flag-requires : tie.Need-flag-requires
 flag-requires c κs = search rules
 
-returns-2 : tie.Need-returns-2
+returns : tie.Need-returns
 unfolding is_element_marked
-returns-2 c = let a = c.before.before.before.before.before.before.before.before.before.before.before.before.before.before in
+returns c = let a = c.before.before.before.before.before.before.before.before.before.before.before.before.before.before in
     c.flag.ensures ∙ ap (λ (b : Bool). done (bit b ∷ []))
-    (marked_read (P a) _ _ _ _ c.before.before.before.at.ensures.0 c.before.before.at2.ensures.0
-    c.before.at3.ensures.0) ∙ asked_done (state_refusal (P a) a.args.element) _
-    c.before.before.before.before.before.argument-refusal.ensures (bit (not (unmarkedb (P a) a.args.element)) ∷ [])
-    c.before.before.before.before.if1.false
+    (marked_read (P a) _ _ _ _ c.at-b.ensures.0 c.at-o.ensures.0
+    c.at-m.ensures.0) ∙ asked_done (state_refusal (P a) a.args.element) _
+    c.argument_refusal-t.ensures (bit (not (unmarkedb (P a) a.args.element)) ∷ [])
+    c.if-number-ne0.false
 
-pub is-element-marked-spec : {M : Type 1} → statement M
-is-element-marked-spec =
+pub is_element_marked_spec : {M : Type 1} → statement M
+is_element_marked_spec =
     tie.close
     (tie.spec
-    cast-n
-    cast-count
-    argument-refusal-requires
-    refusing-flag-requires
-    returns
-    at-requires
-    at-requires-2
-    at-requires-3
+    overflow_cast-n
+    overflow_cast-count
+    argument_refusal-t-requires
+    refusing_flag-requires
+    returns-then-number-ne0
+    at-b-requires
+    at-o-requires
+    at-m-requires
     flag-requires
-    returns-2)
+    returns)

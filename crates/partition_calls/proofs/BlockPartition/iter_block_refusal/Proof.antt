@@ -13,41 +13,41 @@ use Rattle.partition_calls.proofs.BlockPartition.iter_block_refusal.Tie as tie
 abbrev P : tie.Start → Partition
 P a =
     parts a.args.elements.now a.args.element_offset.now a.args.element_to_block.now a.args.begin.now
-    a.args.marked_split_lem.now a.args.end.now a.args.self.n a.args.self.count
+    a.args.marked_split.now a.args.end.now a.args.self.n a.args.self.count
 
-cast-n : tie.Need-overflow-cast-n
-cast-n c = search rules
+overflow_cast-n : tie.Need-overflow_cast-n
+overflow_cast-n c = search rules
 
-cast-count : tie.Need-overflow-cast-count
-cast-count c = search rules
+overflow_cast-count : tie.Need-overflow_cast-count
+overflow_cast-count c = search rules
 
-argument-refusal-requires : tie.Need-argument-refusal-requires
-argument-refusal-requires c κs = search rules
+argument_refusal-t-requires : tie.Need-argument_refusal-t-requires
+argument_refusal-t-requires c κs = search rules
 
 refusing-requires : tie.Need-refusing-requires
 refusing-requires c κs = search rules
 
-returns : tie.Need-returns
+returns-then-number-ne0 : tie.Need-returns-then-number-ne0
 unfolding iter_block_refusal
-returns c = let a = c.before.before.before.before.before.before.before.before.before.before.before in c.refusing.ensures ∙
-    asked_refused (block_refusal (P a) a.args.block-index) _ c.before.before.argument-refusal.ensures ([]) c.before.if1.true
+returns-then-number-ne0 c = let a = c.before.before.before.before.before.before.before.before.before.before.before in c.refusing.ensures ∙
+    asked_refused (block_refusal (P a) a.args.block_index) _ c.argument_refusal-t.ensures ([]) c.if-number-ne0.true
 
 finished-requires : tie.Need-finished-requires
 finished-requires c κs = search rules
 
-returns-2 : tie.Need-returns-2
+returns : tie.Need-returns
 unfolding iter_block_refusal
-returns-2 c = let a = c.before.before.before.before.before.before.before.before.before.before.before in c.finished.ensures ∙
-    asked_done (block_refusal (P a) a.args.block-index) _ c.before.before.argument-refusal.ensures ([]) c.before.if1.false
+returns c = let a = c.before.before.before.before.before.before.before.before.before.before.before in c.finished.ensures ∙
+    asked_done (block_refusal (P a) a.args.block_index) _ c.argument_refusal-t.ensures ([]) c.if-number-ne0.false
 
-pub iter-block-refusal-spec : {M : Type 1} → statement M
-iter-block-refusal-spec =
+pub iter_block_refusal_spec : {M : Type 1} → statement M
+iter_block_refusal_spec =
     tie.close
     (tie.spec
-    cast-n
-    cast-count
-    argument-refusal-requires
+    overflow_cast-n
+    overflow_cast-count
+    argument_refusal-t-requires
     refusing-requires
-    returns
+    returns-then-number-ne0
     finished-requires
-    returns-2)
+    returns)

@@ -13,86 +13,83 @@ use Rattle.partition_calls.proofs.BlockPartition.new.Tie as tie
 abbrev P : tie.Start → Partition
 P a =
     parts a.args.elements.now a.args.element_offset.now a.args.element_to_block.now a.args.begin.now
-    a.args.marked_split_lem.now a.args.end.now a.args.n 1
+    a.args.marked_split.now a.args.end.now a.args.n 1
 
-size-refusal-requires : tie.Need-size-refusal-requires
-size-refusal-requires c κs = search rules
+size_refusal-t-requires : tie.Need-size_refusal-t-requires
+size_refusal-t-requires c κs = search rules
 
-same_length : tie.Need-same-length
-same_length c = search rules
+shape_of-elements-then-number-ne0 : tie.Need-shape_of-elements-then-number-ne0
+shape_of-elements-then-number-ne0 c = search rules
 
-same-length-2 : tie.Need-same-length-2
-same-length-2 c = search rules
+shape_of-element_offset-then-number-ne0 : tie.Need-shape_of-element_offset-then-number-ne0
+shape_of-element_offset-then-number-ne0 c = search rules
 
-same-length-3 : tie.Need-same-length-3
-same-length-3 c = search rules
+shape_of-element_to_block-then-number-ne0 : tie.Need-shape_of-element_to_block-then-number-ne0
+shape_of-element_to_block-then-number-ne0 c = search rules
 
-same-length-4 : tie.Need-same-length-4
-same-length-4 c = search rules
+shape_of-begin-then-number-ne0 : tie.Need-shape_of-begin-then-number-ne0
+shape_of-begin-then-number-ne0 c = search rules
 
-same-length-5 : tie.Need-same-length-5
-same-length-5 c = search rules
+shape_of-marked_split-then-number-ne0 : tie.Need-shape_of-marked_split-then-number-ne0
+shape_of-marked_split-then-number-ne0 c = search rules
 
-same-length-6 : tie.Need-same-length-6
-same-length-6 c = search rules
+shape_of-end-then-number-ne0 : tie.Need-shape_of-end-then-number-ne0
+shape_of-end-then-number-ne0 c = search rules
 
-returns : tie.Need-returns
+returns-then-number-ne0 : tie.Need-returns-then-number-ne0
 unfolding new_partition
-returns c = let a = c.before.before.before.before.before.before.before.before.before.before.before.before.before.before in
-    left_refused (new_refusal (P a)) _ c.before.size-refusal.ensures (P a) (fresh (P a)) (a.args.n ∷ 1 ∷ []) _ c.if1.true refl
+returns-then-number-ne0 c = let a = c.before.before.before.before.before.before.before.before in
+    left_refused (new_refusal (P a)) _ c.size_refusal-t.ensures (P a) (fresh (P a)) (a.args.n ∷ 1 ∷ []) _ c.if-number-ne0.true refl
 
 new-requires : tie.Need-new-requires
 unfolding new_refusal
-new-requires c κs = let a =
-    c.before.before.before.before.before.before.before.before.before.before.before.before.before.before.before.before.before.before.before.before in
-    let q = new_ready (P a) _ c.before.before.before.before.before.before.before.size-refusal.ensures
-    c.before.before.before.before.before.before.if1.false in
+new-requires c κs = let a = c.before.before.before.before.before.before.before.before.before.before.before.before.before.before in
+    let q = new_ready (P a) _ c.size_refusal-t.ensures
+    c.if-number-ne0.false in
     (q.long, (q.some, q.small))
 
-same-length-7 : tie.Need-same-length-7
-same-length-7 c = search rules
+shape_of-elements : tie.Need-shape_of-elements
+shape_of-elements c = search rules
 
-same-length-8 : tie.Need-same-length-8
-same-length-8 c = search rules
+shape_of-element_offset : tie.Need-shape_of-element_offset
+shape_of-element_offset c = search rules
 
-same-length-9 : tie.Need-same-length-9
-same-length-9 c = search rules
+shape_of-element_to_block : tie.Need-shape_of-element_to_block
+shape_of-element_to_block c = search rules
 
-same-length-10 : tie.Need-same-length-10
-same-length-10 c = search rules
+shape_of-begin : tie.Need-shape_of-begin
+shape_of-begin c = search rules
 
-same-length-11 : tie.Need-same-length-11
-same-length-11 c = search rules
+shape_of-marked_split : tie.Need-shape_of-marked_split
+shape_of-marked_split c = search rules
 
-same-length-12 : tie.Need-same-length-12
-same-length-12 c = search rules
+shape_of-end : tie.Need-shape_of-end
+shape_of-end c = search rules
 
-returns-2 : tie.Need-returns-2
+returns : tie.Need-returns
 unfolding new_partition
-returns-2 c = let a =
-    c.before.before.before.before.before.before.before.before.before.before.before.before.before.before.before.before.before.before.before.before.before.before.before.before.before.before.before.before.before.before.before.before.before
-    in left_done (new_refusal (P a)) _
-    c.before.before.before.before.before.before.before.before.before.before.before.before.before.before.before.before.before.before.before.before.size-refusal.ensures (P a) (fresh (P a)) (a.args.n ∷ 1 ∷ []) _ _
-    c.before.before.before.before.before.before.before.before.before.before.before.before.before.before.before.before.before.before.before.if1.false refl
-    c.before.before.before.before.before.before.before.before.before.before.before.before.new.ensures
+returns c = let a = c.before.before.before.before.before.before.before.before.before.before.before.before.before.before.before.before.before.before.before.before.before.before.before.before.before.before.before in left_done (new_refusal (P a)) _
+    c.size_refusal-t.ensures (P a) (fresh (P a)) (a.args.n ∷ 1 ∷ []) _ _
+    c.if-number-ne0.false refl
+    c.new.ensures
 
 pub new_spec : {M : Type 1} → statement M
 new_spec =
     tie.close
     (tie.spec
-    size-refusal-requires
-    same_length
-    same-length-2
-    same-length-3
-    same-length-4
-    same-length-5
-    same-length-6
-    returns
+    size_refusal-t-requires
+    shape_of-elements-then-number-ne0
+    shape_of-element_offset-then-number-ne0
+    shape_of-element_to_block-then-number-ne0
+    shape_of-begin-then-number-ne0
+    shape_of-marked_split-then-number-ne0
+    shape_of-end-then-number-ne0
+    returns-then-number-ne0
     new-requires
-    same-length-7
-    same-length-8
-    same-length-9
-    same-length-10
-    same-length-11
-    same-length-12
-    returns-2)
+    shape_of-elements
+    shape_of-element_offset
+    shape_of-element_to_block
+    shape_of-begin
+    shape_of-marked_split
+    shape_of-end
+    returns)

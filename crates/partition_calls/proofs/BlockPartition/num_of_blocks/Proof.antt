@@ -13,42 +13,42 @@ use Rattle.partition_calls.proofs.BlockPartition.num_of_blocks.Tie as tie
 abbrev P : tie.Start → Partition
 P a =
     parts a.args.elements.now a.args.element_offset.now a.args.element_to_block.now a.args.begin.now
-    a.args.marked_split_lem.now a.args.end.now a.args.self.n a.args.self.count
+    a.args.marked_split.now a.args.end.now a.args.self.n a.args.self.count
 
-cast-n : tie.Need-overflow-cast-n
-cast-n c = search rules
+overflow_cast-n : tie.Need-overflow_cast-n
+overflow_cast-n c = search rules
 
-cast-count : tie.Need-overflow-cast-count
-cast-count c = search rules
+overflow_cast-count : tie.Need-overflow_cast-count
+overflow_cast-count c = search rules
 
-check-requires : tie.Need-check-requires
-check-requires c κs = search rules
+check-t-requires : tie.Need-check-t-requires
+check-t-requires c κs = search rules
 
-refusing-number-requires : tie.Need-refusing-number-requires
-refusing-number-requires c κs = search rules
+refusing_number-requires : tie.Need-refusing_number-requires
+refusing_number-requires c κs = search rules
+
+returns-then-number-ne0 : tie.Need-returns-then-number-ne0
+unfolding num_of_blocks
+returns-then-number-ne0 c = let a = c.before.before.before.before.before.before.before.before.before.before.before in
+    c.refusing_number.ensures ∙ asked_refused (partition_refusal (P a)) _ c.check-t.ensures (a.args.self.count ∷ [])
+    c.if-number-ne0.true
+
+number_of-requires : tie.Need-number_of-requires
+number_of-requires c κs = search rules
 
 returns : tie.Need-returns
 unfolding num_of_blocks
-returns c = let a = c.before.before.before.before.before.before.before.before.before.before.before in
-    c.refusing-number.ensures ∙ asked_refused (partition_refusal (P a)) _ c.before.before.check.ensures (a.args.self.count ∷ [])
-    c.before.if1.true
+returns c = let a = c.before.before.before.before.before.before.before.before.before.before.before in c.number_of.ensures ∙
+    asked_done (partition_refusal (P a)) _ c.check-t.ensures (a.args.self.count ∷ []) c.if-number-ne0.false
 
-number-of-requires : tie.Need-number-of-requires
-number-of-requires c κs = search rules
-
-returns-2 : tie.Need-returns-2
-unfolding num_of_blocks
-returns-2 c = let a = c.before.before.before.before.before.before.before.before.before.before.before in c.number_of_lem.ensures ∙
-    asked_done (partition_refusal (P a)) _ c.before.before.check.ensures (a.args.self.count ∷ []) c.before.if1.false
-
-pub num-of-blocks-spec : {M : Type 1} → statement M
-num-of-blocks-spec =
+pub num_of_blocks_spec : {M : Type 1} → statement M
+num_of_blocks_spec =
     tie.close
     (tie.spec
-    cast-n
-    cast-count
-    check-requires
-    refusing-number-requires
-    returns
-    number-of-requires
-    returns-2)
+    overflow_cast-n
+    overflow_cast-count
+    check-t-requires
+    refusing_number-requires
+    returns-then-number-ne0
+    number_of-requires
+    returns)

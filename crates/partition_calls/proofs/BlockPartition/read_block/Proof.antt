@@ -18,47 +18,47 @@ use Rattle.partition_calls.proofs.BlockPartition.read_block.Tie as tie
 abbrev P : tie.Start → Partition
 P a =
     parts a.args.elements.now a.args.element_offset.now a.args.element_to_block.now a.args.begin.now
-    a.args.marked_split_lem.now a.args.end.now a.args.self.n a.args.self.count
+    a.args.marked_split.now a.args.end.now a.args.self.n a.args.self.count
 
 abbrev values : tie.Start → List ℕ
 values a =
-    get_or a.args.begin.now a.args.block-index 0 ∷ get_or a.args.marked_split_lem.now a.args.block-index 0
-    ∷ get_or a.args.end.now a.args.block-index 0 ∷ []
+    get_or a.args.begin.now a.args.block_index 0 ∷ get_or a.args.marked_split.now a.args.block_index 0
+    ∷ get_or a.args.end.now a.args.block_index 0 ∷ []
 
-cast-n : tie.Need-overflow-cast-n
-cast-n c = search rules
+overflow_cast-n : tie.Need-overflow_cast-n
+overflow_cast-n c = search rules
 
-cast-count : tie.Need-overflow-cast-count
-cast-count c = search rules
+overflow_cast-count : tie.Need-overflow_cast-count
+overflow_cast-count c = search rules
 
-argument-refusal-requires : tie.Need-argument-refusal-requires
-argument-refusal-requires c κs = search rules
+argument_refusal-t-requires : tie.Need-argument_refusal-t-requires
+argument_refusal-t-requires c κs = search rules
+
+returns-then-number-ne0 : tie.Need-returns-then-number-ne0
+unfolding read_block
+returns-then-number-ne0 c = let a = c.before.before.before.before.before.before.before.before.before.before in
+    asked_refused (block_refusal (P a) a.args.block_index) _ c.argument_refusal-t.ensures (values a) c.if-number-ne0.true
+
+read_block-requires : tie.Need-read_block-requires
+read_block-requires c κs = let a = c.before.before.before.before.before.before.before.before.before.before in
+    let q = argument_ready (P a) a.args.block_index a.args.self.count true _ c.argument_refusal-t.ensures
+    c.if-number-ne0.false in
+    omega (arith, q.known, q.sound.consistent.most, q.sound.long.begin, q.sound.long.marked_split_lem, q.sound.long.end)
 
 returns : tie.Need-returns
 unfolding read_block
-returns c = let a = c.before.before.before.before.before.before.before.before.before.before in
-    asked_refused (block_refusal (P a) a.args.block-index) _ c.before.argument-refusal.ensures (values a) c.if1.true
+returns c = let a = c.before.before.before.before.before.before.before.before.before.before.before in
+    ap (λ (b : Block). done (block_values b)) c.read_block.ensures ∙
+    asked_done (block_refusal (P a) a.args.block_index) _ c.argument_refusal-t.ensures (values a)
+    c.if-number-ne0.false
 
-read-block-requires : tie.Need-read-block-requires
-read-block-requires c κs = let a = c.before.before.before.before.before.before.before.before.before.before in
-    let q = argument_ready (P a) a.args.block-index a.args.self.count true _ c.before.argument-refusal.ensures
-    c.if1.false in
-    omega (arith, q.known, q.sound.consistent.most, q.sound.long.begin, q.sound.long.marked_split_lem, q.sound.long.end)
-
-returns-2 : tie.Need-returns-2
-unfolding read_block
-returns-2 c = let a = c.before.before.before.before.before.before.before.before.before.before.before in
-    ap (λ (b : Block). done (block_values b)) c.read_block_lem.ensures ∙
-    asked_done (block_refusal (P a) a.args.block-index) _ c.before.before.argument-refusal.ensures (values a)
-    c.before.if1.false
-
-pub read-block-spec : {M : Type 1} → statement M
-read-block-spec =
+pub read_block_spec : {M : Type 1} → statement M
+read_block_spec =
     tie.close
     (tie.spec
-    cast-n
-    cast-count
-    argument-refusal-requires
-    returns
-    read-block-requires
-    returns-2)
+    overflow_cast-n
+    overflow_cast-count
+    argument_refusal-t-requires
+    returns-then-number-ne0
+    read_block-requires
+    returns)

@@ -14,91 +14,88 @@ use Rattle.partition_calls.proofs.BlockPartition.swap_blocks.Tie as tie
 abbrev P : tie.Start → Partition
 P a =
     parts a.args.elements.now a.args.element_offset.now a.args.element_to_block.now a.args.begin.now
-    a.args.marked_split_lem.now a.args.end.now a.args.self.n a.args.self.count
+    a.args.marked_split.now a.args.end.now a.args.self.n a.args.self.count
 
-cast-n : tie.Need-overflow-cast-n
-cast-n c = search rules
+overflow_cast-n : tie.Need-overflow_cast-n
+overflow_cast-n c = search rules
 
-cast-count : tie.Need-overflow-cast-count
-cast-count c = search rules
+overflow_cast-count : tie.Need-overflow_cast-count
+overflow_cast-count c = search rules
 
-blocks-refusal-requires : tie.Need-blocks-refusal-requires
-blocks-refusal-requires c κs = search rules
+blocks_refusal-t-requires : tie.Need-blocks_refusal-t-requires
+blocks_refusal-t-requires c κs = search rules
 
 refusing-requires : tie.Need-refusing-requires
 refusing-requires c κs = search rules
 
-same_length : tie.Need-same-length
-same_length c = search rules
+shape_of-element_to_block-then-number-ne0 : tie.Need-shape_of-element_to_block-then-number-ne0
+shape_of-element_to_block-then-number-ne0 c = search rules
 
-same-length-2 : tie.Need-same-length-2
-same-length-2 c = search rules
+shape_of-begin-then-number-ne0 : tie.Need-shape_of-begin-then-number-ne0
+shape_of-begin-then-number-ne0 c = search rules
 
-same-length-3 : tie.Need-same-length-3
-same-length-3 c = search rules
+shape_of-marked_split-then-number-ne0 : tie.Need-shape_of-marked_split-then-number-ne0
+shape_of-marked_split-then-number-ne0 c = search rules
 
-same-length-4 : tie.Need-same-length-4
-same-length-4 c = search rules
+shape_of-end-then-number-ne0 : tie.Need-shape_of-end-then-number-ne0
+shape_of-end-then-number-ne0 c = search rules
 
-returns : tie.Need-returns
+returns-then-number-ne0 : tie.Need-returns-then-number-ne0
 unfolding swap_blocks
-returns c = let a =
-    c.before.before.before.before.before.before.before.before.before.before.before.before.before.before.before in
-    left_refused (blocks_refusal (P a) a.args.left-index a.args.right-index) _ c.before.before.blocks-refusal.ensures (P a)
-    (swap (P a) a.args.left-index a.args.right-index) [] _ c.before.if1.true c.refusing.ensures
+returns-then-number-ne0 c = let a = c.before.before.before.before.before.before.before.before.before.before.before in
+    left_refused (blocks_refusal (P a) a.args.left_index a.args.right_index) _ c.blocks_refusal-t.ensures (P a)
+    (swap (P a) a.args.left_index a.args.right_index) [] _ c.if-number-ne0.true c.refusing.ensures
 
-swap-blocks-requires : tie.Need-swap-blocks-requires
-swap-blocks-requires c κs = let a =
-    c.before.before.before.before.before.before.before.before.before.before.before.before.before.before.before.before.before.before in
-    let q = blocks_ready (P a) a.args.left-index a.args.right-index _
-    c.before.before.before.before.before.blocks-refusal.ensures c.before.before.before.before.if1.false in
+swap_blocks-requires : tie.Need-swap_blocks-requires
+swap_blocks-requires c κs = let a = c.before.before.before.before.before.before.before.before.before.before.before.before.before.before in
+    let q = blocks_ready (P a) a.args.left_index a.args.right_index _
+    c.blocks_refusal-t.ensures c.if-number-ne0.false in
     (swappable (P a) q.sound _ q.left, swappable (P a) q.sound _ q.right)
 
 finished-requires : tie.Need-finished-requires
 finished-requires c κs = search rules
 
-same-length-5 : tie.Need-same-length-5
-same-length-5 c = search rules
+shape_of-element_to_block : tie.Need-shape_of-element_to_block
+shape_of-element_to_block c = search rules
 
-same-length-6 : tie.Need-same-length-6
-same-length-6 c = search rules
+shape_of-begin : tie.Need-shape_of-begin
+shape_of-begin c = search rules
 
-same-length-7 : tie.Need-same-length-7
-same-length-7 c = search rules
+shape_of-marked_split : tie.Need-shape_of-marked_split
+shape_of-marked_split c = search rules
 
-same-length-8 : tie.Need-same-length-8
-same-length-8 c = search rules
+shape_of-end : tie.Need-shape_of-end
+shape_of-end c = search rules
 
-returns-2 : tie.Need-returns-2
+returns : tie.Need-returns
 unfolding swap_blocks
-returns-2 c = let a =
-    c.before.before.before.before.before.before.before.before.before.before.before.before.before.before.before.before.before.before.before.before.before.before.before.before.before.before.before.before in
-    let q = blocks_ready (P a) a.args.left-index a.args.right-index _
-    c.before.before.before.before.before.before.before.before.before.before.before.before.before.before.before.blocks-refusal.ensures
-    c.before.before.before.before.before.before.before.before.before.before.before.before.before.before.if1.false in
-    left_done (blocks_refusal (P a) a.args.left-index a.args.right-index) _
-    c.before.before.before.before.before.before.before.before.before.before.before.before.before.before.before.blocks-refusal.ensures (P a) (swap (P a) a.args.left-index a.args.right-index) [] _ _
-    c.before.before.before.before.before.before.before.before.before.before.before.before.before.before.if1.false
+returns c = let a = c.before.before.before.before.before.before.before.before.before.before.before.before.before.before.before.before.before.before.before.before.before.before.before.before in
+    let q = blocks_ready (P a) a.args.left_index a.args.right_index _
+    c.blocks_refusal-t.ensures
+    c.if-number-ne0.false in
+    left_done (blocks_refusal (P a) a.args.left_index a.args.right_index) _
+    c.blocks_refusal-t.ensures (P a) (swap (P a) a.args.left_index a.args.right_index) [] _ _
+    c.if-number-ne0.false
     c.finished.ensures (swap_done (P a) q.sound _ _ q.left q.right _
-    c.before.before.before.before.before.before.before.before.before.swap-blocks.ensures)
+    c.swap_blocks.ensures)
 
-pub swap-blocks-spec : {M : Type 1} → statement M
-swap-blocks-spec =
+pub swap_blocks_spec : {M : Type 1} → statement M
+swap_blocks_spec =
     tie.close
     (tie.spec
-    cast-n
-    cast-count
-    blocks-refusal-requires
+    overflow_cast-n
+    overflow_cast-count
+    blocks_refusal-t-requires
     refusing-requires
-    same_length
-    same-length-2
-    same-length-3
-    same-length-4
-    returns
-    swap-blocks-requires
+    shape_of-element_to_block-then-number-ne0
+    shape_of-begin-then-number-ne0
+    shape_of-marked_split-then-number-ne0
+    shape_of-end-then-number-ne0
+    returns-then-number-ne0
+    swap_blocks-requires
     finished-requires
-    same-length-5
-    same-length-6
-    same-length-7
-    same-length-8
-    returns-2)
+    shape_of-element_to_block
+    shape_of-begin
+    shape_of-marked_split
+    shape_of-end
+    returns)

@@ -5,22 +5,22 @@ use Rattle.table_order.specs.Turn.{mark_place}
 use Rattle.table_order.proofs.core.mark_place.Statement.{statement}
 use Rattle.table_order.proofs.core.mark_place.Tie as tie
 
-sub-result : tie.Need-overflow-sub-result
-sub-result c = search rules
+overflow_sub-result : tie.Need-overflow_sub-result
+overflow_sub-result c = search rules
+
+returns-then-reversed : tie.Need-returns-then-reversed
+unfolding mark_place
+returns-then-reversed c = (simp c.if-reversed.true, omega arith)
+
+overflow_add-result : tie.Need-overflow_add-result
+overflow_add-result c = search rules
+
+overflow_sub-result-2 : tie.Need-overflow_sub-result-2
+overflow_sub-result-2 c = search rules
 
 returns : tie.Need-returns
 unfolding mark_place
-returns c = (simp c.if1.true, omega arith)
+returns c = (simp c.if-reversed.false, omega arith)
 
-add-result : tie.Need-overflow-add-result
-add-result c = search rules
-
-sub-result-2 : tie.Need-overflow-sub-result-2
-sub-result-2 c = search rules
-
-returns-2 : tie.Need-returns-2
-unfolding mark_place
-returns-2 c = (simp c.if1.false, omega arith)
-
-pub mark-place-spec : {M : Type 1} → statement M
-mark-place-spec = tie.close (tie.spec sub-result returns add-result sub-result-2 returns-2)
+pub mark_place_spec : {M : Type 1} → statement M
+mark_place_spec = tie.close (tie.spec overflow_sub-result returns-then-reversed overflow_add-result overflow_sub-result-2 returns)

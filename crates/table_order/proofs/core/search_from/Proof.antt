@@ -12,116 +12,115 @@ use Rattle.table_order.proofs.Searches.{searched_skip, machine_start, searched_e
 use Rattle.table_order.proofs.core.search_from.Statement.{statement}
 use Rattle.table_order.proofs.core.search_from.Tie as tie
 
-abbrev invariant-loop : tie.invariant-loop
-invariant-loop table source label target hidden root marks₀ stack₀ count top₀ k₀ marks stack top k =
+abbrev invariant-loop-top : tie.invariant-loop-top
+invariant-loop-top table source label target hidden root marks₀ stack₀ count top₀ k₀ marks stack top k =
     ((length marks ≡ length marks₀) × (length stack ≡ length stack₀)) ×
     Machine (next (lts table source label target) hidden) table.n table.m (root + 1)
     (sweep (next (lts table source label target) hidden) table.n (root + 1)) marks (stack_of top stack) k
 
-abbrev decreases-loop : tie.decreases-loop
-decreases-loop table source label target hidden root marks₀ stack₀ count top₀ k₀ marks stack top k =
+abbrev decreases-loop-top : tie.decreases-loop-top
+decreases-loop-top table source label target hidden root marks₀ stack₀ count top₀ k₀ marks stack top k =
     measure (next (lts table source label target) hidden) table.n marks (stack_of top stack)
 
-at-requires : tie.Need-at-requires invariant-loop decreases-loop
+at-requires : tie.Need-at-requires invariant-loop-top decreases-loop-top
 at-requires c κs = omega arith
 
-same_length : tie.Need-same-length invariant-loop decreases-loop
-same_length c = search rules
+shape_of-marks-then-at-ne0 : tie.Need-shape_of-marks-then-at-ne0 invariant-loop-top decreases-loop-top
+shape_of-marks-then-at-ne0 c = search rules
 
-returns : tie.Need-returns invariant-loop decreases-loop
-returns c = let a = c.before.before.before.before.before.before.before.before in
-    searched_skip _ _ _ _ a.requires.1.1 a.requires.1.0.2 c.before.at.ensures.0 c.if1.true
+returns-then-at-ne0 : tie.Need-returns-then-at-ne0 invariant-loop-top decreases-loop-top
+returns-then-at-ne0 c = let a = c in
+    searched_skip _ _ _ _ a.requires.1.1 a.requires.1.0.2 c.at.ensures.0 c.if-at-ne0.true
 
-cast-stack : tie.Need-overflow-cast-stack invariant-loop decreases-loop
-cast-stack c = let a = c.before.before.before.before.before.before.before.before in
+overflow_cast-stack : tie.Need-overflow_cast-stack invariant-loop-top decreases-loop-top
+overflow_cast-stack c = let a = c in
     omega (arith, a.requires.1.0.2, a.requires.0.few_states)
 
-slice-write-stack : tie.Need-slice-write-stack invariant-loop decreases-loop
-slice-write-stack c = omega arith
+bounds-stack-0 : tie.Need-bounds-stack-0 invariant-loop-top decreases-loop-top
+bounds-stack-0 c = omega arith
 
-loop-holds : tie.Need-loop-init invariant-loop decreases-loop
-loop-holds c = let a = c.before.before.before.before.before.before.before.before in
+loop-top-init : tie.Need-loop-top-init invariant-loop-top decreases-loop-top
+loop-top-init c = let a = c in
     ((refl, refl), machine_start _ _ _ _ a.args.stack.now a.requires.1.1 a.requires.1.0.2 (omega arith))
 
-turn-requires : tie.Need-turn-requires invariant-loop decreases-loop
-turn-requires c κs = let a = c.before.before.before.before.before.before.before.before.before.before.before.before in (
+turn-t-requires : tie.Need-turn-t-requires invariant-loop-top decreases-loop-top
+turn-t-requires c κs = let a = c in (
   a.requires.0,
   (
     (
-      omega (arith, c.before.before.before.loop.invariant.0, a.requires.1.0),
-      omega (arith, simp length-set at c.before.before.before.loop.invariant.0.1, a.requires.1.0),
-      c.before.before.loop-test.true,
+      omega (arith, c.loop-top.invariant.0, a.requires.1.0),
+      omega (arith, simp length-set at c.loop-top.invariant.0.1, a.requires.1.0),
+      c.loop-top-test.true,
     ),
-    record { bound = _; goal = _; machine = c.before.before.before.loop.invariant.1 },
+    record { bound = _; goal = _; machine = c.loop-top.invariant.1 },
   ),
 )
 
-cast-result : tie.Need-overflow-cast-result invariant-loop decreases-loop
-cast-result c = search rules
+overflow_cast-result : tie.Need-overflow_cast-result invariant-loop-top decreases-loop-top
+overflow_cast-result c = search rules
 
-add-result : tie.Need-overflow-add-result invariant-loop decreases-loop
-add-result c = let a =
-    c.before.before.before.before.before.before.before.before.before.before.before.before.before.before.before.before.before.before.before in
-    omega (arith, a.pre.0.few_states)
+overflow_add-result : tie.Need-overflow_add-result invariant-loop-top decreases-loop-top
+overflow_add-result c = let a = c in
+    omega (arith, a.requires.0.few_states)
 
-same-length-2 : tie.Need-same-length-2 invariant-loop decreases-loop
-same-length-2 c = c.before.before.before.before.before.before.turn.auto.1.1.1.1.1.0 ∙
-    c.before.before.before.before.before.before.before.before.before.before.loop.invariant.0.0
+shape_of-marks-then-t : tie.Need-shape_of-marks-then-t invariant-loop-top decreases-loop-top
+shape_of-marks-then-t c = c.turn-t.auto.marks ∙
+    c.loop-top.invariant.0.0
 
-same-length-3 : tie.Need-same-length-3 invariant-loop decreases-loop
-same-length-3 c = c.before.before.before.before.before.before.turn.auto.1.1.1.1.1.1.0 ∙
-    simp length-set at c.before.before.before.before.before.before.before.before.before.before.loop.invariant.0.1
+shape_of-stack-then-t : tie.Need-shape_of-stack-then-t invariant-loop-top decreases-loop-top
+shape_of-stack-then-t c = c.turn-t.auto.stack ∙
+    simp length-set at c.loop-top.invariant.0.1
 
-returns-2 : tie.Need-returns-2 invariant-loop decreases-loop
-returns-2 c = searched_cycle _ _ _ _ ((c.before.before.before.before.before.before.turn.ensures _ _
-    c.before.before.before.before.before.before.before.before.before.before.loop.invariant.1).cycle c.before.if2.true)
+returns-then-t : tie.Need-returns-then-t invariant-loop-top decreases-loop-top
+returns-then-t c = searched_cycle _ _ _ _ ((c.turn-t.ensures _ _
+    c.loop-top.invariant.1).cycle c.if-t.true)
     (omega arith)
 
-loop-less : tie.Need-loop-smaller invariant-loop decreases-loop
-loop-less c = (c.before.before.before.before.before.turn.ensures _ _
-    c.before.before.before.before.before.before.before.before.before.loop.invariant.1).less c.if2.false
+loop-top-smaller : tie.Need-loop-top-smaller invariant-loop-top decreases-loop-top
+loop-top-smaller c = (c.turn-t.ensures _ _
+    c.loop-top.invariant.1).less c.if-t.false
 
-loop-again : tie.Need-loop-preserved invariant-loop decreases-loop
-loop-again c = (
+loop-top-preserved : tie.Need-loop-top-preserved invariant-loop-top decreases-loop-top
+loop-top-preserved c = (
   (
-    c.before.before.before.before.before.turn.auto.1.1.1.1.1.0 ∙
-        c.before.before.before.before.before.before.before.before.before.loop.invariant.0.0,
-    c.before.before.before.before.before.turn.auto.1.1.1.1.1.1.0 ∙
-        c.before.before.before.before.before.before.before.before.before.loop.invariant.0.1,
+    c.turn-t.auto.marks ∙
+        c.loop-top.invariant.0.0,
+    c.turn-t.auto.stack ∙
+        c.loop-top.invariant.0.1,
   ),
-  (c.before.before.before.before.before.turn.ensures _ _
-      c.before.before.before.before.before.before.before.before.before.loop.invariant.1).machine c.if2.false,
+  (c.turn-t.ensures _ _
+      c.loop-top.invariant.1).machine c.if-t.false,
 )
 
-same-length-4 : tie.Need-same-length-4 invariant-loop decreases-loop
-same-length-4 c = c.before.loop.invariant.0.0
+shape_of-marks : tie.Need-shape_of-marks invariant-loop-top decreases-loop-top
+shape_of-marks c = c.loop-top.invariant.0.0
 
-same-length-5 : tie.Need-same-length-5 invariant-loop decreases-loop
-same-length-5 c = simp length-set at c.before.loop.invariant.0.1
+shape_of-stack : tie.Need-shape_of-stack invariant-loop-top decreases-loop-top
+shape_of-stack c = simp length-set at c.loop-top.invariant.0.1
 
-returns-3 : tie.Need-returns-3 invariant-loop decreases-loop
-returns-3 c = searched_end _ _ _ _ _ _ c.before.loop.invariant.1 (omega arith)
+returns : tie.Need-returns invariant-loop-top decreases-loop-top
+returns c = searched_end _ _ _ _ _ _ c.loop-top.invariant.1 (omega arith)
 
-pub search-from-spec : {M : Type 1} → statement M
-search-from-spec =
+pub search_from_spec : {M : Type 1} → statement M
+search_from_spec =
     tie.close
     (tie.spec
-    invariant-loop
-    decreases-loop
+    invariant-loop-top
+    decreases-loop-top
     at-requires
-    same_length
-    returns
-    cast-stack
-    slice-write-stack
-    loop-holds
-    turn-requires
-    cast-result
-    add-result
-    same-length-2
-    same-length-3
-    returns-2
-    loop-less
-    loop-again
-    same-length-4
-    same-length-5
-    returns-3)
+    shape_of-marks-then-at-ne0
+    returns-then-at-ne0
+    overflow_cast-stack
+    bounds-stack-0
+    loop-top-init
+    turn-t-requires
+    overflow_cast-result
+    overflow_add-result
+    shape_of-marks-then-t
+    shape_of-stack-then-t
+    returns-then-t
+    loop-top-smaller
+    loop-top-preserved
+    shape_of-marks
+    shape_of-stack
+    returns)

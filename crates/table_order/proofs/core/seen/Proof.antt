@@ -9,22 +9,22 @@ use Rattle.table_order.proofs.core.seen.Tie as tie
 taken-requires : tie.Need-taken-requires
 taken-requires c κs = search rules
 
-returns : tie.Need-returns
-returns c = seen_skipped _ _ _ _ _ (sym c.before.taken.ensures ∙ not-true _ c.if1.true)
+returns-then-not-taken : tie.Need-returns-then-not-taken
+returns-then-not-taken c = seen_skipped _ _ _ _ _ (sym c.taken.ensures ∙ c.if-not-taken.true)
 
-at-requires : tie.Need-at-requires
-at-requires c κs = search rules
+at-u-requires : tie.Need-at-u-requires
+at-u-requires c κs = search rules
 
-at-requires-2 : tie.Need-at-requires-2
-at-requires-2 c κs = search rules
+at-mark-requires : tie.Need-at-mark-requires
+at-mark-requires c κs = search rules
 
-returns-2 : tie.Need-returns-2
-returns-2 c = seen_loop _ _ _ _ _ (sym c.before.before.at.ensures.0 ∙ c.if2.true)
+returns-then-u-s : tie.Need-returns-then-u-s
+returns-then-u-s c = seen_loop _ _ _ _ _ (sym c.at-u.ensures.0 ∙ c.if-u-s.true)
 
-returns-3 : tie.Need-returns-3
-returns-3 c = seen_mark _ _ _ _ _ _ _ (sym c.before.before.before.before.taken.ensures ∙
-    not-false _ c.before.before.before.if1.false) c.before.before.at.ensures.0 c.if2.false c.before.at2.ensures.0
+returns-else-u-s : tie.Need-returns-else-u-s
+returns-else-u-s c = seen_mark _ _ _ _ _ _ _ (sym c.taken.ensures ∙
+    c.if-not-taken.false) c.at-u.ensures.0 c.if-u-s.false c.at-mark.ensures.0
 
-pub seen-spec : {M : Type 1} → statement M
-seen-spec =
-    tie.close (tie.spec taken-requires returns at-requires at-requires-2 returns-2 returns-3)
+pub seen_spec : {M : Type 1} → statement M
+seen_spec =
+    tie.close (tie.spec taken-requires returns-then-not-taken at-u-requires at-mark-requires returns-then-u-s returns-else-u-s)

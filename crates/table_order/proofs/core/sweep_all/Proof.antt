@@ -10,89 +10,88 @@ use Rattle.table_order.proofs.Searches.{swept_cycle, swept_all}
 use Rattle.table_order.proofs.core.sweep_all.Statement.{statement}
 use Rattle.table_order.proofs.core.sweep_all.Tie as tie
 
-abbrev invariant-loop : tie.invariant-loop
-invariant-loop table source label target hidden marks₀ stack₀ n root₀ count₀ marks stack root count =
+abbrev invariant-loop-root : tie.invariant-loop-root
+invariant-loop-root table source label target hidden marks₀ stack₀ n root₀ count₀ marks stack root count =
     ((root ≤ n) × (length marks ≡ length marks₀) × (length stack ≡ length stack₀)) ×
     Idle (next (lts table source label target) hidden) table.n table.m root marks count
 
-abbrev decreases-loop : tie.decreases-loop
-decreases-loop table source label target hidden marks₀ stack₀ n root₀ count₀ marks stack root count = n - root
+abbrev decreases-loop-root : tie.decreases-loop-root
+decreases-loop-root table source label target hidden marks₀ stack₀ n root₀ count₀ marks stack root count = n - root
 
-cast-n : tie.Need-overflow-cast-n invariant-loop decreases-loop
-cast-n c = search rules
+overflow_cast-n : tie.Need-overflow_cast-n invariant-loop-root decreases-loop-root
+overflow_cast-n c = search rules
 
-loop-holds : tie.Need-loop-init invariant-loop decreases-loop
-loop-holds c = let a = c.before.before.before.before.before.before in
+loop-root-init : tie.Need-loop-root-init invariant-loop-root decreases-loop-root
+loop-root-init c = let a = c in
     ((omega arith, refl, refl), a.requires.1.1)
 
-search-from-requires : tie.Need-search-from-requires invariant-loop decreases-loop
-search-from-requires c κs = let a = c.before.before.before.before.before.before.before.before.before.before in (
+search_from-count-requires : tie.Need-search_from-count-requires invariant-loop-root decreases-loop-root
+search_from-count-requires c κs = let a = c in (
   a.requires.0,
   (
     (
-      omega (arith, c.before.before.before.loop.invariant.0, a.requires.1.0),
-      omega (arith, c.before.before.before.loop.invariant.0, a.requires.1.0),
-      c.before.before.loop-test.true,
+      omega (arith, c.loop-root.invariant.0, a.requires.1.0),
+      omega (arith, c.loop-root.invariant.0, a.requires.1.0),
+      c.loop-root-test.true,
     ),
-    c.before.before.before.loop.invariant.1,
+    c.loop-root.invariant.1,
   ),
 )
 
-same_length : tie.Need-same-length invariant-loop decreases-loop
-same_length c = c.before.before.before.before.before.search-from.auto.1.1.1.1.1.1.0 ∙
-    c.before.before.before.before.before.before.before.before.before.loop.invariant.0.1
+shape_of-marks-then-n-count : tie.Need-shape_of-marks-then-n-count invariant-loop-root decreases-loop-root
+shape_of-marks-then-n-count c = c.search_from-count.auto.marks ∙
+    c.loop-root.invariant.0.1
 
-same-length-2 : tie.Need-same-length-2 invariant-loop decreases-loop
-same-length-2 c = c.before.before.before.before.before.search-from.auto.1.1.1.1.1.1.1.0 ∙
-    c.before.before.before.before.before.before.before.before.before.loop.invariant.0.2
+shape_of-stack-then-n-count : tie.Need-shape_of-stack-then-n-count invariant-loop-root decreases-loop-root
+shape_of-stack-then-n-count c = c.search_from-count.auto.stack ∙
+    c.loop-root.invariant.0.2
 
-returns : tie.Need-returns invariant-loop decreases-loop
-returns c = swept_cycle _ _ _ (c.before.before.before.before.before.search-from.ensures.cycle c.if1.true)
+returns-then-n-count : tie.Need-returns-then-n-count invariant-loop-root decreases-loop-root
+returns-then-n-count c = swept_cycle _ _ _ (c.search_from-count.ensures.cycle c.if-n-count.true)
 
-add-root : tie.Need-overflow-add-root invariant-loop decreases-loop
-add-root c = let a =
-    c.before.before.before.before.before.before.before.before.before.before.before.before.before.before.before.before in
-    omega (arith, a.pre.0.few_states, c.before.before.before.before.before.before.before.before.loop-test.true)
+overflow_add-root : tie.Need-overflow_add-root invariant-loop-root decreases-loop-root
+overflow_add-root c = let a = c in
+    omega (arith, a.requires.0.few_states, c.loop-root-test.true)
 
-loop-less : tie.Need-loop-smaller invariant-loop decreases-loop
-loop-less c = omega arith
+loop-root-smaller : tie.Need-loop-root-smaller invariant-loop-root decreases-loop-root
+loop-root-smaller c = omega arith
 
-loop-again : tie.Need-loop-preserved invariant-loop decreases-loop
-loop-again c = (
+loop-root-preserved : tie.Need-loop-root-preserved invariant-loop-root decreases-loop-root
+loop-root-preserved c = (
   (
-    omega (arith, c.before.before.before.before.before.before.before.before.loop-test.true),
-    c.before.before.before.before.before.search-from.auto.1.1.1.1.1.1.0 ∙
-        c.before.before.before.before.before.before.before.before.before.loop.invariant.0.1,
-    c.before.before.before.before.before.search-from.auto.1.1.1.1.1.1.1.0 ∙
-        c.before.before.before.before.before.before.before.before.before.loop.invariant.0.2,
+    omega (arith, c.loop-root-test.true),
+    c.search_from-count.auto.marks ∙
+        c.loop-root.invariant.0.1,
+    c.search_from-count.auto.stack ∙
+        c.loop-root.invariant.0.2,
   ),
-  c.before.before.before.before.before.search-from.ensures.idle c.if1.false,
+  c.search_from-count.ensures.idle c.if-n-count.false,
 )
 
-same-length-3 : tie.Need-same-length-3 invariant-loop decreases-loop
-same-length-3 c = c.before.loop.invariant.0.1
+shape_of-marks : tie.Need-shape_of-marks invariant-loop-root decreases-loop-root
+shape_of-marks c = c.loop-root.invariant.0.1
 
-same-length-4 : tie.Need-same-length-4 invariant-loop decreases-loop
-same-length-4 c = c.before.loop.invariant.0.2
+shape_of-stack : tie.Need-shape_of-stack invariant-loop-root decreases-loop-root
+shape_of-stack c = c.loop-root.invariant.0.2
 
-returns-2 : tie.Need-returns-2 invariant-loop decreases-loop
-returns-2 c = swept_all _ _ _ _ c.before.loop.invariant.1 (omega (arith, c.before.loop.invariant.0.0, c.loop-test.false))
+returns : tie.Need-returns invariant-loop-root decreases-loop-root
+returns c = swept_all _ _ _ _ c.loop-root.invariant.1 (omega (arith, c.loop-root.invariant.0.0, c.loop-root-test.false))
 
-pub sweep-all-spec : {M : Type 1} → statement M
-sweep-all-spec =
+pub sweep_all_spec : {M : Type 1} → statement M
+sweep_all_spec =
     tie.close
     (tie.spec
-    invariant-loop
-    decreases-loop
-    cast-n
-    loop-holds
-    search-from-requires
-    same_length
-    same-length-2
-    returns
-    add-root
-    loop-less
-    loop-again
-    same-length-3
-    same-length-4
-    returns-2)
+    invariant-loop-root
+    decreases-loop-root
+    overflow_cast-n
+    loop-root-init
+    search_from-count-requires
+    shape_of-marks-then-n-count
+    shape_of-stack-then-n-count
+    returns-then-n-count
+    overflow_add-root
+    loop-root-smaller
+    loop-root-preserved
+    shape_of-marks
+    shape_of-stack
+    returns)

@@ -12,11 +12,11 @@ use Rattle.table_order.proofs.core.turn.Tie as tie
 abbrev L : tie.Start → Lts
 L a = lts a.args.table a.args.source.now a.args.label.now a.args.target.now
 
-sub-last : tie.Need-overflow-sub-last
-sub-last c = search rules
+overflow_sub-last : tie.Need-overflow_sub-last
+overflow_sub-last c = search rules
 
-at-requires : tie.Need-at-requires
-at-requires c κs = let a = c.before.before.before.before.before.before in
+at-s-requires : tie.Need-at-s-requires
+at-s-requires c κs = let a = c.before.before.before.before.before in
     omega (
       arith,
       a.requires.1.0,
@@ -24,131 +24,129 @@ at-requires c κs = let a = c.before.before.before.before.before.before in
           a.args.stack.now a.args.top a.args.count a.requires.1.1,
     )
 
-at-requires-2 : tie.Need-at-requires-2
-at-requires-2 c κs = let a = c.before.before.before.before.before.before.before.before in
+at-k-requires : tie.Need-at-k-requires
+at-k-requires c κs = let a = c.before.before.before.before.before.before in
     let h = state_fits (next (L a) a.args.hidden) a.args.table.n a.args.table.m a.args.marks.now a.args.stack.now
-    a.args.top a.args.count a.requires.1.1 _ a.requires.1.0.2 c.before.at.ensures.0 in
+    a.args.top a.args.count a.requires.1.1 _ a.requires.1.0.2 c.at-s.ensures.0 in
     omega (arith, h, a.requires.1.0)
 
-add-marks : tie.Need-overflow-add-marks
-add-marks c = let a = c.before.before.before.before.before.before.before.before.before.before in
+overflow_add-marks : tie.Need-overflow_add-marks
+overflow_add-marks c = let a = c.before.before.before.before.before.before.before.before in
     let k = finish_fits (next (L a) a.args.hidden) a.args.table.n a.args.table.m a.args.marks.now a.args.stack.now
-    a.args.top a.args.count a.requires.1.1 _ _ a.requires.1.0.2 c.before.before.before.at.ensures.0
-    c.before.at2.ensures.0 c.if1.true in
+    a.args.top a.args.count a.requires.1.1 _ _ a.requires.1.0.2 c.at-s.ensures.0
+    c.at-k.ensures.0 c.if-k-eq1.true in
     omega (arith, k, a.requires.0.few_states)
 
-cast-marks : tie.Need-overflow-cast-marks
-cast-marks c = let a = c.before.before.before.before.before.before.before.before.before.before in
+overflow_cast-marks : tie.Need-overflow_cast-marks
+overflow_cast-marks c = let a = c.before.before.before.before.before.before.before.before in
     let k = finish_fits (next (L a) a.args.hidden) a.args.table.n a.args.table.m a.args.marks.now a.args.stack.now
-    a.args.top a.args.count a.requires.1.1 _ _ a.requires.1.0.2 c.before.before.before.at.ensures.0
-    c.before.at2.ensures.0 c.if1.true in
+    a.args.top a.args.count a.requires.1.1 _ _ a.requires.1.0.2 c.at-s.ensures.0
+    c.at-k.ensures.0 c.if-k-eq1.true in
     omega (arith, k, a.requires.0.few_states)
 
-mul-marks : tie.Need-overflow-mul-marks
-mul-marks c = search rules
+offset_bounds-marks-s : tie.Need-offset_bounds-marks-s
+offset_bounds-marks-s c = search rules
 
-slice-write-marks : tie.Need-slice-write-marks
-slice-write-marks c = let a = c.before.before.before.before.before.before.before.before.before.before in
+bounds-marks-s : tie.Need-bounds-marks-s
+bounds-marks-s c = let a = c.before.before.before.before.before.before.before.before in
     let h = state_fits (next (L a) a.args.hidden) a.args.table.n a.args.table.m a.args.marks.now a.args.stack.now
-    a.args.top a.args.count a.requires.1.1 _ a.requires.1.0.2 c.before.before.before.at.ensures.0 in
+    a.args.top a.args.count a.requires.1.1 _ a.requires.1.0.2 c.at-s.ensures.0 in
     omega (arith, h, a.requires.1.0)
 
-add-t19 : tie.Need-overflow-add-t19
-add-t19 c = let a = c.before.before.before.before.before.before.before.before.before.before in
+overflow_add-result : tie.Need-overflow_add-result
+overflow_add-result c = let a = c.before.before.before.before.before.before.before.before in
     let k = finish_fits (next (L a) a.args.hidden) a.args.table.n a.args.table.m a.args.marks.now a.args.stack.now
-    a.args.top a.args.count a.requires.1.1 _ _ a.requires.1.0.2 c.before.before.before.at.ensures.0
-    c.before.at2.ensures.0 c.if1.true in
+    a.args.top a.args.count a.requires.1.1 _ _ a.requires.1.0.2 c.at-s.ensures.0
+    c.at-k.ensures.0 c.if-k-eq1.true in
     omega (arith, k, a.requires.0.few_states)
 
-same_length : tie.Need-same-length
-same_length c = search rules
+shape_of-marks-then-k-eq1 : tie.Need-shape_of-marks-then-k-eq1
+shape_of-marks-then-k-eq1 c = search rules
 
-same-length-2 : tie.Need-same-length-2
-same-length-2 c = search rules
+shape_of-stack-then-k-eq1 : tie.Need-shape_of-stack-then-k-eq1
+shape_of-stack-then-k-eq1 c = search rules
 
-returns : tie.Need-returns
-returns c = let a = c.before.before.before.before.before.before.before.before.before.before in
+returns-then-k-eq1 : tie.Need-returns-then-k-eq1
+returns-then-k-eq1 c = let a = c.before.before.before.before.before.before.before.before in
     λ bound goal mach. turned_finish (L a) a.requires.0 a.args.hidden a.args.marks.now a.args.stack.now a.args.top
-    a.args.count _ _ a.requires.1.0.2 c.before.before.before.at.ensures.0 c.before.at2.ensures.0 a.requires.1.0.0
-    bound goal mach c.if1.true
+    a.args.count _ _ a.requires.1.0.2 c.at-s.ensures.0 c.at-k.ensures.0 a.requires.1.0.0
+    bound goal mach c.if-k-eq1.true
 
-same-length-3 : tie.Need-same-length-3
-same-length-3 c = search rules
+shape_of-marks-then-k-ne0 : tie.Need-shape_of-marks-then-k-ne0
+shape_of-marks-then-k-ne0 c = search rules
 
-same-length-4 : tie.Need-same-length-4
-same-length-4 c = search rules
+shape_of-stack-then-k-ne0 : tie.Need-shape_of-stack-then-k-ne0
+shape_of-stack-then-k-ne0 c = search rules
 
-returns-2 : tie.Need-returns-2
-returns-2 c = let a = c.before.before.before.before.before.before.before.before.before.before.before in
+returns-then-k-ne0 : tie.Need-returns-then-k-ne0
+returns-then-k-ne0 c = let a = c.before.before.before.before.before.before.before.before.before in
     λ bound goal mach. turned_drop (L a) a.requires.0 a.args.hidden a.args.marks.now a.args.stack.now a.args.top
-    a.args.count _ _ a.requires.1.0.2 c.before.before.before.before.at.ensures.0 c.before.before.at2.ensures.0
-    a.requires.1.0.0 bound goal mach c.if2.true c.before.if1.false
+    a.args.count _ _ a.requires.1.0.2 c.at-s.ensures.0 c.at-k.ensures.0
+    a.requires.1.0.0 bound goal mach c.if-k-ne0.true c.if-k-eq1.false
 
-mul-marks-2 : tie.Need-overflow-mul-marks-2
-mul-marks-2 c = search rules
+offset_bounds-marks-s-2 : tie.Need-offset_bounds-marks-s-2
+offset_bounds-marks-s-2 c = search rules
 
-slice-write-marks-2 : tie.Need-slice-write-marks-2
-slice-write-marks-2 c = let a = c.before.before.before.before.before.before.before.before.before.before.before in
+bounds-marks-s-2 : tie.Need-bounds-marks-s-2
+bounds-marks-s-2 c = let a = c.before.before.before.before.before.before.before.before.before in
     let h = state_fits (next (L a) a.args.hidden) a.args.table.n a.args.table.m a.args.marks.now a.args.stack.now
-    a.args.top a.args.count a.requires.1.1 _ a.requires.1.0.2 c.before.before.before.before.at.ensures.0 in
+    a.args.top a.args.count a.requires.1.1 _ a.requires.1.0.2 c.at-s.ensures.0 in
     omega (arith, h, a.requires.1.0)
 
-push-successors-requires : tie.Need-push-successors-requires
-push-successors-requires c κs = let a =
-    c.before.before.before.before.before.before.before.before.before.before.before.before.before in
+push_successors-high-requires : tie.Need-push_successors-high-requires
+push_successors-high-requires c κs = let a = c.before.before.before.before.before.before.before.before.before.before in
     let h = state_fits (next (L a) a.args.hidden) a.args.table.n a.args.table.m a.args.marks.now a.args.stack.now
-    a.args.top a.args.count a.pre.1.1 _ a.pre.1.0.2
-    c.before.before.before.before.before.before.at.ensures.0 in (
-      a.pre.0,
+    a.args.top a.args.count a.requires.1.1 _ a.requires.1.0.2
+    c.at-s.ensures.0 in (
+      a.requires.0,
       (
         h,
-        simp length-set (omega (arith, a.pre.1.0)),
-        a.pre.1.0.2,
+        simp length-set (omega (arith, a.requires.1.0)),
+        a.requires.1.0.2,
         omega (
           arith,
-          a.pre.1.0,
-          enter_fits (L a) a.pre.0 a.args.hidden a.args.marks.now a.args.stack.now
-              a.args.top a.args.count _ _ a.pre.1.0.2 c.before.before.before.before.before.before.at.ensures.0
-              c.before.before.before.before.at2.ensures.0 a.pre.1.0.0 a.pre.1.1 c.before.before.if2.false,
+          a.requires.1.0,
+          enter_fits (L a) a.requires.0 a.args.hidden a.args.marks.now a.args.stack.now
+              a.args.top a.args.count _ _ a.requires.1.0.2 c.at-s.ensures.0
+              c.at-k.ensures.0 a.requires.1.0.0 a.requires.1.1 c.if-k-ne0.false,
         ),
       ),
     )
 
-same-length-5 : tie.Need-same-length-5
-same-length-5 c = search rules
+shape_of-marks : tie.Need-shape_of-marks
+shape_of-marks c = search rules
 
-same-length-6 : tie.Need-same-length-6
-same-length-6 c = search rules
+shape_of-stack : tie.Need-shape_of-stack
+shape_of-stack c = search rules
 
-returns-3 : tie.Need-returns-3
-returns-3 c = let a =
-    c.before.before.before.before.before.before.before.before.before.before.before.before.before.before.before.before in
-    λ bound goal mach. turned_visit (L a) a.pre.0 a.args.hidden a.args.marks.now a.args.stack.now a.args.top
-    a.args.count _ _ a.pre.1.0.2 c.before.before.before.before.before.before.before.before.before.at.ensures.0
-    c.before.before.before.before.before.before.before.at2.ensures.0 a.pre.1.0.0 bound goal mach
-    c.before.before.before.before.before.if2.false _ _ c.before.before.push-successors.ensures
+returns : tie.Need-returns
+returns c = let a = c.before.before.before.before.before.before.before.before.before.before.before.before.before in
+    λ bound goal mach. turned_visit (L a) a.requires.0 a.args.hidden a.args.marks.now a.args.stack.now a.args.top
+    a.args.count _ _ a.requires.1.0.2 c.at-s.ensures.0
+    c.at-k.ensures.0 a.requires.1.0.0 bound goal mach
+    c.if-k-ne0.false _ _ c.push_successors-high.ensures
 
 pub turn_spec : {M : Type 1} → statement M
 turn_spec =
     tie.close
     (tie.spec
-    sub-last
-    at-requires
-    at-requires-2
-    add-marks
-    cast-marks
-    mul-marks
-    slice-write-marks
-    add-t19
-    same_length
-    same-length-2
-    returns
-    same-length-3
-    same-length-4
-    returns-2
-    mul-marks-2
-    slice-write-marks-2
-    push-successors-requires
-    same-length-5
-    same-length-6
-    returns-3)
+    overflow_sub-last
+    at-s-requires
+    at-k-requires
+    overflow_add-marks
+    overflow_cast-marks
+    offset_bounds-marks-s
+    bounds-marks-s
+    overflow_add-result
+    shape_of-marks-then-k-eq1
+    shape_of-stack-then-k-eq1
+    returns-then-k-eq1
+    shape_of-marks-then-k-ne0
+    shape_of-stack-then-k-ne0
+    returns-then-k-ne0
+    offset_bounds-marks-s-2
+    bounds-marks-s-2
+    push_successors-high-requires
+    shape_of-marks
+    shape_of-stack
+    returns)

@@ -9,67 +9,67 @@ use Rattle.table_order.specs.Turn.{mark_place}
 use Rattle.table_order.proofs.core.write_places.Statement.{statement}
 use Rattle.table_order.proofs.core.write_places.Tie as tie
 
-abbrev invariant-loop : tie.invariant-loop
-invariant-loop n marks reversed places₀ s₀ places s = Painted (λ k. mark_place n reversed (get_or marks k 0)) n places₀ s places
+abbrev invariant-loop-s : tie.invariant-loop-s
+invariant-loop-s n marks reversed places₀ s₀ places s = Painted (λ k. mark_place n reversed (get_or marks k 0)) n places₀ s places
 
-abbrev decreases-loop : tie.decreases-loop
-decreases-loop n marks reversed places₀ s₀ places s = n - s
+abbrev decreases-loop-s : tie.decreases-loop-s
+decreases-loop-s n marks reversed places₀ s₀ places s = n - s
 
-loop-holds : tie.Need-loop-init invariant-loop decreases-loop
-loop-holds c = painted_none _ _ _
+loop-s-init : tie.Need-loop-s-init invariant-loop-s decreases-loop-s
+loop-s-init c = painted_none _ _ _
 
-at-requires : tie.Need-at-requires invariant-loop decreases-loop
+at-requires : tie.Need-at-requires invariant-loop-s decreases-loop-s
 at-requires c κs = omega arith
 
-mark-place-requires : tie.Need-mark-place-requires invariant-loop decreases-loop
-mark-place-requires c κs = omega (
+mark_place-requires : tie.Need-mark_place-requires invariant-loop-s decreases-loop-s
+mark_place-requires c κs = omega (
   arith,
   c.at.ensures.0,
-  c.before.before.before.before.before.requires.1 c.before.before.loop.s
-      c.before.loop-test.true,
+  c.requires.1 c.loop-s.s
+      c.loop-s-test.true,
 )
 
-cast-places : tie.Need-overflow-cast-places invariant-loop decreases-loop
-cast-places c = omega (arith, c.mark_place_lem.ensures.1)
+overflow_cast-places : tie.Need-overflow_cast-places invariant-loop-s decreases-loop-s
+overflow_cast-places c = omega (arith, c.mark_place.ensures.1)
 
-mul-places : tie.Need-overflow-mul-places invariant-loop decreases-loop
-mul-places c = search rules
+offset_bounds-places-s : tie.Need-offset_bounds-places-s invariant-loop-s decreases-loop-s
+offset_bounds-places-s c = search rules
 
-slice-write-places : tie.Need-slice-write-places invariant-loop decreases-loop
-slice-write-places c = omega arith
+bounds-places-s : tie.Need-bounds-places-s invariant-loop-s decreases-loop-s
+bounds-places-s c = omega arith
 
-add-s : tie.Need-overflow-add-s invariant-loop decreases-loop
-add-s c = omega arith
+overflow_add-s : tie.Need-overflow_add-s invariant-loop-s decreases-loop-s
+overflow_add-s c = omega arith
 
-loop-less : tie.Need-loop-smaller invariant-loop decreases-loop
-loop-less c = omega arith
+loop-s-smaller : tie.Need-loop-s-smaller invariant-loop-s decreases-loop-s
+loop-s-smaller c = omega arith
 
-loop-again : tie.Need-loop-preserved invariant-loop decreases-loop
-loop-again c = painted_more _ _ _ _ _ _ (omega arith) c.before.before.loop-test.true
-    (c.mark_place_lem.ensures.0 ∙ ap (mark_place c.before.before.before.before.before.before.args.n
-    c.before.before.before.before.before.before.args.reversed) c.before.at.ensures.0) c.before.before.before.loop.invariant
+loop-s-preserved : tie.Need-loop-s-preserved invariant-loop-s decreases-loop-s
+loop-s-preserved c = painted_more _ _ _ _ _ _ (omega arith) c.loop-s-test.true
+    (c.mark_place.ensures.0 ∙ ap (mark_place c.args.n
+    c.args.reversed) c.at.ensures.0) c.loop-s.invariant
 
-same_length : tie.Need-same-length invariant-loop decreases-loop
-same_length c = c.before.loop.invariant.1.1
+shape_of-places : tie.Need-shape_of-places invariant-loop-s decreases-loop-s
+shape_of-places c = c.loop-s.invariant.1.1
 
-returns : tie.Need-returns invariant-loop decreases-loop
+returns : tie.Need-returns invariant-loop-s decreases-loop-s
 unfolding written
-returns c = painted_done _ _ _ _ _ _ c.before.loop.invariant (omega arith) refl
+returns c = painted_done _ _ _ _ _ _ c.loop-s.invariant (omega arith) refl
 
-pub write-places-spec : {M : Type 1} → statement M
-write-places-spec =
+pub write_places_spec : {M : Type 1} → statement M
+write_places_spec =
     tie.close
     (tie.spec
-    invariant-loop
-    decreases-loop
-    loop-holds
+    invariant-loop-s
+    decreases-loop-s
+    loop-s-init
     at-requires
-    mark-place-requires
-    cast-places
-    mul-places
-    slice-write-places
-    add-s
-    loop-less
-    loop-again
-    same_length
+    mark_place-requires
+    overflow_cast-places
+    offset_bounds-places-s
+    bounds-places-s
+    overflow_add-s
+    loop-s-smaller
+    loop-s-preserved
+    shape_of-places
     returns)
