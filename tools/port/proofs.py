@@ -411,7 +411,12 @@ class Proof:
                 return origin[root] + ''.join('.' + f for f in whole)
             if root != ')' and root not in places and not kept:
                 # no place: a record of ours, or what a step brought
-                return root + ''.join('.' + {'ptr': 'ref_ptr', 'inv': 'invariant'}.get(f, f) for f in fields)
+                plain, last = [], None
+                for f in fields:
+                    f = f.replace('-', '_') if last in ('args', 'new', 'auto', 'initial') else f
+                    last = {'ptr': 'ref_ptr', 'inv': 'invariant', 'pre': 'requires', 'well-formed': 'well_formed'}.get(f, f)
+                    plain.append(last)
+                return root + ''.join('.' + f for f in plain)
             fields = self.turn_fields(fields)
             return root + '.before' * len(kept) + ''.join('.' + f for f in fields)
 

@@ -10,55 +10,55 @@ use Rattle.file.proofs.Stores.{sets_then, length-bytes}
 use Rattle.file.proofs.cores.put_contents.Statement.{statement}
 use Rattle.file.proofs.cores.put_contents.Tie as tie
 
-mul-rows : tie.Need-overflow-mul-rows
-mul-rows c = search rules
+overflow_mul-rows : tie.Need-overflow_mul-rows
+overflow_mul-rows c = search rules
 
-put-number-requires : tie.Need-put-number-requires
-put-number-requires c κs = search rules
+put_number-requires : tie.Need-put_number-requires
+put_number-requires c κs = search rules
 
-put-entry-requires : tie.Need-put-entry-requires
-put-entry-requires c κs = search rules
+put_entry-requires : tie.Need-put_entry-requires
+put_entry-requires c κs = search rules
 
-put-entry-requires-2 : tie.Need-put-entry-requires-2
-put-entry-requires-2 c κs = search rules
+put_entry-requires-2 : tie.Need-put_entry-requires-2
+put_entry-requires-2 c κs = search rules
 
-add-put-entry : tie.Need-overflow-add-put-entry
-add-put-entry c = search rules
+overflow_add-rows : tie.Need-overflow_add-rows
+overflow_add-rows c = search rules
 
-mul-put-entry : tie.Need-overflow-mul-put-entry
-mul-put-entry c = search rules
+overflow_mul-k : tie.Need-overflow_mul-k
+overflow_mul-k c = search rules
 
-put-entry-requires-3 : tie.Need-put-entry-requires-3
-put-entry-requires-3 c κs = search rules
+put_entry-requires-3 : tie.Need-put_entry-requires-3
+put_entry-requires-3 c κs = search rules
 
-same_length : tie.Need-same-length
-same_length c = search rules
+shape_of-bytes : tie.Need-shape_of-bytes
+shape_of-bytes c = search rules
 
 returns : tie.Need-returns
 unfolding output_contents
 returns c =
-    let a = c.before.before.before.before.before.before.before.before.before.before.before.before.before.before.before.before.before.args in
+    let a = c.args in
     let header = entry header_kind output_header header_size in
     let rows = entry rows_kind output_rows (row_size * a.m) in
     let blocks = entry blocks_kind (output_blocks a.m) (block_size * a.k) in
-    sets_then a.bytes.now _ _ 0 2 (bytes_of 2 3) (header ++ (rows ++ blocks)) c.before.before.before.before.before.before.before.before.before.before.before.before.before.before.put-number.ensures
-    (sets_then c.before.before.before.before.before.before.before.before.before.before.before.before.before.before.put-number.new.1.1.0 _ _ 2 12 header (rows ++ blocks) c.before.before.before.before.before.before.before.before.before.before.put-entry.ensures
-    (sets_then c.before.before.before.before.before.before.before.before.before.before.put-entry.new.1.1.1.0 _ _ 12 22
-    rows blocks c.before.before.before.before.before.before.put-entry2.ensures c.before.before.put-entry3.ensures
+    sets_then a.bytes.now _ _ 0 2 (bytes_of 2 3) (header ++ (rows ++ blocks)) c.put_number.ensures
+    (sets_then c.put_number.new.bytes _ _ 2 12 header (rows ++ blocks) c.put_entry.ensures
+    (sets_then c.put_entry.new.bytes _ _ 12 22
+    rows blocks c.put_entry-2.ensures c.put_entry-3.ensures
     (omega (arith, length-entry rows_kind output_rows (row_size * a.m))))
     (omega (arith, length-entry header_kind output_header header_size)))
     (omega (arith, length-bytes 2 3))
 
-pub put-contents-spec : {M : Type 1} → statement M
-put-contents-spec =
+pub put_contents_spec : {M : Type 1} → statement M
+put_contents_spec =
     tie.close
     (tie.spec
-    mul-rows
-    put-number-requires
-    put-entry-requires
-    put-entry-requires-2
-    add-put-entry
-    mul-put-entry
-    put-entry-requires-3
-    same_length
+    overflow_mul-rows
+    put_number-requires
+    put_entry-requires
+    put_entry-requires-2
+    overflow_add-rows
+    overflow_mul-k
+    put_entry-requires-3
+    shape_of-bytes
     returns)

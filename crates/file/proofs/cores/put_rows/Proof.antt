@@ -9,89 +9,89 @@ use Rattle.file.proofs.Stores.{Stored, stored_none, stored_more, stored_done}
 use Rattle.file.proofs.cores.put_rows.Statement.{statement}
 use Rattle.file.proofs.cores.put_rows.Tie as tie
 
-abbrev invariant-loop : tie.invariant-loop
-invariant-loop source label target bytes₀ m i₀ bytes i = Stored (row_bytes source label target) output_rows m bytes₀ i bytes
+abbrev invariant-loop-i : tie.invariant-loop-i
+invariant-loop-i source label target bytes₀ m i₀ bytes i = Stored (row_bytes source label target) output_rows m bytes₀ i bytes
 
-abbrev decreases-loop : tie.decreases-loop
-decreases-loop source label target bytes₀ m i₀ bytes i = m - i
+abbrev decreases-loop-i : tie.decreases-loop-i
+decreases-loop-i source label target bytes₀ m i₀ bytes i = m - i
 
-cast-m : tie.Need-overflow-cast-m invariant-loop decreases-loop
-cast-m c = omega arith
+overflow_cast-m : tie.Need-overflow_cast-m invariant-loop-i decreases-loop-i
+overflow_cast-m c = omega arith
 
-loop-holds : tie.Need-loop-init invariant-loop decreases-loop
-loop-holds c = stored_none _ _ _ _
+loop-i-init : tie.Need-loop-i-init invariant-loop-i decreases-loop-i
+loop-i-init c = stored_none _ _ _ _
 
-mul-t11 : tie.Need-overflow-mul-t11 invariant-loop decreases-loop
-mul-t11 c = omega arith
+offset_bounds-source-i : tie.Need-offset_bounds-source-i invariant-loop-i decreases-loop-i
+offset_bounds-source-i c = omega arith
 
-shared-slice-read-t13 : tie.Need-shared-slice-read-t13 invariant-loop decreases-loop
-shared-slice-read-t13 c = omega arith
+bounds-source-i : tie.Need-bounds-source-i invariant-loop-i decreases-loop-i
+bounds-source-i c = omega arith
 
-mul-t14 : tie.Need-overflow-mul-t14 invariant-loop decreases-loop
-mul-t14 c = omega arith
+offset_bounds-label-i : tie.Need-offset_bounds-label-i invariant-loop-i decreases-loop-i
+offset_bounds-label-i c = omega arith
 
-shared-slice-read-t16 : tie.Need-shared-slice-read-t16 invariant-loop decreases-loop
-shared-slice-read-t16 c = omega arith
+bounds-label-i : tie.Need-bounds-label-i invariant-loop-i decreases-loop-i
+bounds-label-i c = omega arith
 
-mul-t17 : tie.Need-overflow-mul-t17 invariant-loop decreases-loop
-mul-t17 c = omega arith
+offset_bounds-target-i : tie.Need-offset_bounds-target-i invariant-loop-i decreases-loop-i
+offset_bounds-target-i c = omega arith
 
-shared-slice-read-t19 : tie.Need-shared-slice-read-t19 invariant-loop decreases-loop
-shared-slice-read-t19 c = omega arith
+bounds-target-i : tie.Need-bounds-target-i invariant-loop-i decreases-loop-i
+bounds-target-i c = omega arith
 
-slice-aggregate-put-words : tie.Need-slice-aggregate-put-words invariant-loop decreases-loop
-slice-aggregate-put-words c = refl
+slice_bounds-put_words-end : tie.Need-slice_bounds-put_words-end invariant-loop-i decreases-loop-i
+slice_bounds-put_words-end c = refl
 
-mul-put-words : tie.Need-overflow-mul-put-words invariant-loop decreases-loop
-mul-put-words c = omega arith
+overflow_mul-i : tie.Need-overflow_mul-i invariant-loop-i decreases-loop-i
+overflow_mul-i c = omega arith
 
-add-put-words : tie.Need-overflow-add-put-words invariant-loop decreases-loop
-add-put-words c = omega arith
+overflow_add-i : tie.Need-overflow_add-i invariant-loop-i decreases-loop-i
+overflow_add-i c = omega arith
 
-put-words-requires : tie.Need-put-words-requires invariant-loop decreases-loop
-put-words-requires c κs = omega arith
+put_words-requires : tie.Need-put_words-requires invariant-loop-i decreases-loop-i
+put_words-requires c κs = omega arith
 
-add-i : tie.Need-overflow-add-i invariant-loop decreases-loop
-add-i c = omega arith
+overflow_add-i-in-loop-i : tie.Need-overflow_add-i-in-loop-i invariant-loop-i decreases-loop-i
+overflow_add-i-in-loop-i c = omega arith
 
-loop-less : tie.Need-loop-smaller invariant-loop decreases-loop
-loop-less c = omega arith
+loop-i-smaller : tie.Need-loop-i-smaller invariant-loop-i decreases-loop-i
+loop-i-smaller c = omega arith
 
-loop-again : tie.Need-loop-preserved invariant-loop decreases-loop
+loop-i-preserved : tie.Need-loop-i-preserved invariant-loop-i decreases-loop-i
 unfolding row_bytes
-loop-again c =
-    let a = c.before.before.before.before.before.before.before.before.before.before.before.before.before.before.before.args
+loop-i-preserved c =
+    let a = c.args
     in
-    stored_more (row_bytes a.source.now a.label.now a.target.now) output_rows _ _ row_size c.before.before.before.before.before.before.before.before.before.loop.i _ _ _ (length_row a.source.now a.label.now a.target.now) (omega arith) refl
-    c.before.before.put-words.ensures c.before.before.before.before.before.before.before.before.before.loop.invariant
+    stored_more (row_bytes a.source.now a.label.now a.target.now) output_rows _ _ row_size c.loop-i.i _ _ _ (length_row a.source.now a.label.now a.target.now) (omega arith) refl
+    c.put_words.ensures c.loop-i.invariant
 
-same_length : tie.Need-same-length invariant-loop decreases-loop
-same_length c = c.before.loop.invariant.size
+shape_of-bytes : tie.Need-shape_of-bytes invariant-loop-i decreases-loop-i
+shape_of-bytes c = c.loop-i.invariant.size
 
-returns : tie.Need-returns invariant-loop decreases-loop
+returns : tie.Need-returns invariant-loop-i decreases-loop-i
 unfolding rows_bytes
-returns c = stored_done _ output_rows _ _ _ _ c.before.loop.invariant (omega arith)
+returns c = stored_done _ output_rows _ _ _ _ c.loop-i.invariant (omega arith)
 
-pub put-rows-spec : {M : Type 1} → statement M
-put-rows-spec =
+pub put_rows_spec : {M : Type 1} → statement M
+put_rows_spec =
     tie.close
     (tie.spec
-    invariant-loop
-    decreases-loop
-    cast-m
-    loop-holds
-    mul-t11
-    shared-slice-read-t13
-    mul-t14
-    shared-slice-read-t16
-    mul-t17
-    shared-slice-read-t19
-    slice-aggregate-put-words
-    mul-put-words
-    add-put-words
-    put-words-requires
-    add-i
-    loop-less
-    loop-again
-    same_length
+    invariant-loop-i
+    decreases-loop-i
+    overflow_cast-m
+    loop-i-init
+    offset_bounds-source-i
+    bounds-source-i
+    offset_bounds-label-i
+    bounds-label-i
+    offset_bounds-target-i
+    bounds-target-i
+    slice_bounds-put_words-end
+    overflow_mul-i
+    overflow_add-i
+    put_words-requires
+    overflow_add-i-in-loop-i
+    loop-i-smaller
+    loop-i-preserved
+    shape_of-bytes
     returns)

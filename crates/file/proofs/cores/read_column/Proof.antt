@@ -9,64 +9,64 @@ use Rattle.file.specs.Layout.{row_size}
 use Rattle.file.proofs.cores.read_column.Statement.{statement}
 use Rattle.file.proofs.cores.read_column.Tie as tie
 
-abbrev invariant-loop : tie.invariant-loop
-invariant-loop bytes from m to₀ i₀ to i = Painted (λ k. little 2 bytes (from + row_size * k)) m to₀ i to
+abbrev invariant-loop-i : tie.invariant-loop-i
+invariant-loop-i bytes from m to₀ i₀ to i = Painted (λ k. little 2 bytes (from + row_size * k)) m to₀ i to
 
-abbrev decreases-loop : tie.decreases-loop
-decreases-loop bytes from m to₀ i₀ to i = m - i
+abbrev decreases-loop-i : tie.decreases-loop-i
+decreases-loop-i bytes from m to₀ i₀ to i = m - i
 
-loop-holds : tie.Need-loop-init invariant-loop decreases-loop
-loop-holds c = painted_none _ _ _
+loop-i-init : tie.Need-loop-i-init invariant-loop-i decreases-loop-i
+loop-i-init c = painted_none _ _ _
 
-mul-number-at : tie.Need-overflow-mul-number-at invariant-loop decreases-loop
-mul-number-at c = omega arith
+overflow_mul-i : tie.Need-overflow_mul-i invariant-loop-i decreases-loop-i
+overflow_mul-i c = omega arith
 
-add-number-at : tie.Need-overflow-add-number-at invariant-loop decreases-loop
-add-number-at c = omega arith
+overflow_add-from : tie.Need-overflow_add-from invariant-loop-i decreases-loop-i
+overflow_add-from c = omega arith
 
-number-at-requires : tie.Need-number-at-requires invariant-loop decreases-loop
-number-at-requires c κs = omega arith
+number_at-requires : tie.Need-number_at-requires invariant-loop-i decreases-loop-i
+number_at-requires c κs = omega arith
 
-cast-to : tie.Need-overflow-cast-to invariant-loop decreases-loop
-cast-to c = omega arith
+overflow_cast-to : tie.Need-overflow_cast-to invariant-loop-i decreases-loop-i
+overflow_cast-to c = omega arith
 
-mul-to : tie.Need-overflow-mul-to invariant-loop decreases-loop
-mul-to c = omega arith
+offset_bounds-to-i : tie.Need-offset_bounds-to-i invariant-loop-i decreases-loop-i
+offset_bounds-to-i c = omega arith
 
-slice-write-to : tie.Need-slice-write-to invariant-loop decreases-loop
-slice-write-to c = omega arith
+bounds-to-i : tie.Need-bounds-to-i invariant-loop-i decreases-loop-i
+bounds-to-i c = omega arith
 
-add-i : tie.Need-overflow-add-i invariant-loop decreases-loop
-add-i c = omega arith
+overflow_add-i : tie.Need-overflow_add-i invariant-loop-i decreases-loop-i
+overflow_add-i c = omega arith
 
-loop-less : tie.Need-loop-smaller invariant-loop decreases-loop
-loop-less c = omega arith
+loop-i-smaller : tie.Need-loop-i-smaller invariant-loop-i decreases-loop-i
+loop-i-smaller c = omega arith
 
-loop-again : tie.Need-loop-preserved invariant-loop decreases-loop
-loop-again c = painted_more _ _ _ _ _ _ (omega arith) (omega arith) c.number_at.ensures.0 c.before.before.loop.invariant
+loop-i-preserved : tie.Need-loop-i-preserved invariant-loop-i decreases-loop-i
+loop-i-preserved c = painted_more _ _ _ _ _ _ (omega arith) (omega arith) c.number_at.ensures.0 c.loop-i.invariant
 
-same_length : tie.Need-same-length invariant-loop decreases-loop
-same_length c = c.before.loop.invariant.1.1
+shape_of-to : tie.Need-shape_of-to invariant-loop-i decreases-loop-i
+shape_of-to c = c.loop-i.invariant.1.1
 
-returns : tie.Need-returns invariant-loop decreases-loop
+returns : tie.Need-returns invariant-loop-i decreases-loop-i
 unfolding column
-returns c = painted_done _ _ _ _ _ _ c.before.loop.invariant (omega arith) refl
+returns c = painted_done _ _ _ _ _ _ c.loop-i.invariant (omega arith) refl
 
-pub read-column-spec : {M : Type 1} → statement M
-read-column-spec =
+pub read_column_spec : {M : Type 1} → statement M
+read_column_spec =
     tie.close
     (tie.spec
-    invariant-loop
-    decreases-loop
-    loop-holds
-    mul-number-at
-    add-number-at
-    number-at-requires
-    cast-to
-    mul-to
-    slice-write-to
-    add-i
-    loop-less
-    loop-again
-    same_length
+    invariant-loop-i
+    decreases-loop-i
+    loop-i-init
+    overflow_mul-i
+    overflow_add-from
+    number_at-requires
+    overflow_cast-to
+    offset_bounds-to-i
+    bounds-to-i
+    overflow_add-i
+    loop-i-smaller
+    loop-i-preserved
+    shape_of-to
     returns)

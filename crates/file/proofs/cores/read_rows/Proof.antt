@@ -5,46 +5,46 @@ use Rattle.table.specs.Tables.{columns_over}
 use Rattle.file.proofs.cores.read_rows.Statement.{statement}
 use Rattle.file.proofs.cores.read_rows.Tie as tie
 
-cast-m : tie.Need-overflow-cast-m
-cast-m c = search rules
+overflow_cast-m : tie.Need-overflow_cast-m
+overflow_cast-m c = search rules
 
-read-column-requires : tie.Need-read-column-requires
-read-column-requires c κs = search rules
+read_column-requires : tie.Need-read_column-requires
+read_column-requires c κs = search rules
 
-read-column-requires-2 : tie.Need-read-column-requires-2
-read-column-requires-2 c κs = search rules
+read_column-requires-2 : tie.Need-read_column-requires-2
+read_column-requires-2 c κs = search rules
 
-read-column-requires-3 : tie.Need-read-column-requires-3
-read-column-requires-3 c κs = search rules
+read_column-requires-3 : tie.Need-read_column-requires-3
+read_column-requires-3 c κs = search rules
 
-same_length : tie.Need-same-length
-same_length c = c.before.before.before.before.before.before.before.before.before.before.read-column.auto.1.1.1.0
+shape_of-source : tie.Need-shape_of-source
+shape_of-source c = c.read_column.auto.to
 
-same-length-2 : tie.Need-same-length-2
-same-length-2 c = c.before.before.before.before.before.before.read-column2.auto.1.1.1.0
+shape_of-label : tie.Need-shape_of-label
+shape_of-label c = c.read_column-2.auto.to
 
-same-length-3 : tie.Need-same-length-3
-same-length-3 c = c.before.before.read-column3.auto.1.1.1.0
+shape_of-target : tie.Need-shape_of-target
+shape_of-target c = c.read_column-3.auto.to
 
 returns : tie.Need-returns
 unfolding with_rows columns_over
 returns c = λ i. (
-  c.before.before.before.before.before.before.before.before.before.before.read-column.ensures i,
+  c.read_column.ensures i,
   (
-    c.before.before.before.before.before.before.read-column2.ensures i,
-    c.before.before.read-column3.ensures i,
+    c.read_column-2.ensures i,
+    c.read_column-3.ensures i,
   ),
 )
 
-pub read-rows-spec : {M : Type 1} → statement M
-read-rows-spec =
+pub read_rows_spec : {M : Type 1} → statement M
+read_rows_spec =
     tie.close
     (tie.spec
-    cast-m
-    read-column-requires
-    read-column-requires-2
-    read-column-requires-3
-    same_length
-    same-length-2
-    same-length-3
+    overflow_cast-m
+    read_column-requires
+    read_column-requires-2
+    read_column-requires-3
+    shape_of-source
+    shape_of-label
+    shape_of-target
     returns)

@@ -12,51 +12,51 @@ use Rattle.file.proofs.cores.write.Tie as tie
 abbrev L : tie.Start → Lts
 L a = lts a.args.table a.args.source.now a.args.label.now a.args.target.now
 
-cast-m : tie.Need-overflow-cast-m
-cast-m c = search rules
+overflow_cast-m : tie.Need-overflow_cast-m
+overflow_cast-m c = search rules
 
-mul-end : tie.Need-overflow-mul-end
-mul-end c = search rules
+overflow_mul-end : tie.Need-overflow_mul-end
+overflow_mul-end c = search rules
 
-add-end : tie.Need-overflow-add-end
-add-end c = search rules
+overflow_add-end : tie.Need-overflow_add-end
+overflow_add-end c = search rules
 
-put-contents-requires : tie.Need-put-contents-requires
-put-contents-requires c κs = search rules
+put_contents-requires : tie.Need-put_contents-requires
+put_contents-requires c κs = search rules
 
-slice-aggregate-put-words : tie.Need-slice-aggregate-put-words
-slice-aggregate-put-words c = refl
+slice_bounds-put_words-end : tie.Need-slice_bounds-put_words-end
+slice_bounds-put_words-end c = refl
 
-put-words-requires : tie.Need-put-words-requires
-put-words-requires c κs = search rules
+put_words-requires : tie.Need-put_words-requires
+put_words-requires c κs = search rules
 
-put-rows-requires : tie.Need-put-rows-requires
-put-rows-requires c κs = search rules
+put_rows-requires : tie.Need-put_rows-requires
+put_rows-requires c κs = search rules
 
-put-words-requires-2 : tie.Need-put-words-requires-2
-put-words-requires-2 c κs = search rules
+put_words-requires-2 : tie.Need-put_words-requires-2
+put_words-requires-2 c κs = search rules
 
-same_length : tie.Need-same-length
-same_length c = search rules
+shape_of-bytes : tie.Need-shape_of-bytes
+shape_of-bytes c = search rules
 
 returns : tie.Need-returns
 unfolding header_bytes
 returns c =
     let a = c.before.before.before.before.before.before.before.before.before.before.before.before.before.before.before.before.before.before.before.before.before.before.before in
-    output_over (L a) a.args.blocks.now a.args.bytes.now _ _ _ _ (omega arith) c.before.before.before.before.before.before.before.before.before.before.before.before.before.before.before.put-contents.ensures
-    c.before.before.before.before.before.before.before.before.before.before.put-words.ensures c.before.before.before.before.before.before.put-rows.ensures c.before.before.put-words2.ensures
+    output_over (L a) a.args.blocks.now a.args.bytes.now _ _ _ _ (omega arith) c.put_contents.ensures
+    c.put_words.ensures c.put_rows.ensures c.put_words-2.ensures
 
 pub write_spec : {M : Type 1} → statement M
 write_spec =
     tie.close
     (tie.spec
-    cast-m
-    mul-end
-    add-end
-    put-contents-requires
-    slice-aggregate-put-words
-    put-words-requires
-    put-rows-requires
-    put-words-requires-2
-    same_length
+    overflow_cast-m
+    overflow_mul-end
+    overflow_add-end
+    put_contents-requires
+    slice_bounds-put_words-end
+    put_words-requires
+    put_rows-requires
+    put_words-requires-2
+    shape_of-bytes
     returns)

@@ -6,63 +6,63 @@ use Rattle.table.specs.Tables.{rows_over}
 use Rattle.quotient.proofs.cores.lay_rows.Statement.{statement}
 use Rattle.quotient.proofs.cores.lay_rows.Tie as tie
 
-row-set-requires : tie.Need-row-set-requires
-row-set-requires c κs = search rules
+row_set-r-requires : tie.Need-row_set-r-requires
+row_set-r-requires c κs = search rules
 
-clear-five-requires : tie.Need-clear-five-requires
-clear-five-requires c κs = search rules
+clear_five-requires : tie.Need-clear_five-requires
+clear_five-requires c κs = search rules
 
-same_length : tie.Need-same-length
-same_length c = search rules
+shape_of-a : tie.Need-shape_of-a
+shape_of-a c = search rules
 
-same-length-2 : tie.Need-same-length-2
-same-length-2 c = search rules
+shape_of-b : tie.Need-shape_of-b
+shape_of-b c = search rules
 
-same-length-3 : tie.Need-same-length-3
-same-length-3 c = search rules
+shape_of-c : tie.Need-shape_of-c
+shape_of-c c = search rules
 
-same-length-4 : tie.Need-same-length-4
-same-length-4 c = search rules
+shape_of-result_source : tie.Need-shape_of-result_source
+shape_of-result_source c = search rules
 
-same-length-5 : tie.Need-same-length-5
-same-length-5 c = search rules
+shape_of-result_label : tie.Need-shape_of-result_label
+shape_of-result_label c = search rules
 
-same-length-6 : tie.Need-same-length-6
-same-length-6 c = search rules
+shape_of-result_target : tie.Need-shape_of-result_target
+shape_of-result_target c = search rules
 
-same-length-7 : tie.Need-same-length-7
-same-length-7 c = search rules
+shape_of-order : tie.Need-shape_of-order
+shape_of-order c = search rules
 
-same-length-8 : tie.Need-same-length-8
-same-length-8 c = search rules
+shape_of-spare : tie.Need-shape_of-spare
+shape_of-spare c = search rules
 
 returns : tie.Need-returns
 unfolding rows_over
 returns c =
-    let r = c.before.before.before.before.before.before.before.before.before.before.before.before.before.before.before.before.before.before.before.before.before.before.before.before.before.before.row-set in
-    let w = c.before.before.before.before.before.before.before.before.before.before.clear-five.ensures in (
+    let r = c.row_set-r in
+    let w = c.clear_five.ensures in (
       (r.ensures.0, λ i. (r.ensures.1.0 i, (r.ensures.1.1.0 i, r.ensures.1.1.1.0 i))),
       (
         w.0,
         w.1,
         w.2,
-        w.3 ∙ ap zeros r.kept.1.1.1.1.1.1.1.0,
-        w.4 ∙ ap zeros r.kept.1.1.1.1.1.1.1.1.0,
+        w.3 ∙ ap zeros r.auto.order,
+        w.4 ∙ ap zeros r.auto.spare,
       ),
     )
 
-pub lay-rows-spec : {M : Type 1} → statement M
-lay-rows-spec =
+pub lay_rows_spec : {M : Type 1} → statement M
+lay_rows_spec =
     tie.close
     (tie.spec
-    row-set-requires
-    clear-five-requires
-    same_length
-    same-length-2
-    same-length-3
-    same-length-4
-    same-length-5
-    same-length-6
-    same-length-7
-    same-length-8
+    row_set-r-requires
+    clear_five-requires
+    shape_of-a
+    shape_of-b
+    shape_of-c
+    shape_of-result_source
+    shape_of-result_label
+    shape_of-result_target
+    shape_of-order
+    shape_of-spare
     returns)

@@ -4,79 +4,79 @@ use mathlib.Core.Path.{refl}
 use Rattle.quotient.proofs.cores.push_row.Statement.{statement}
 use Rattle.quotient.proofs.cores.push_row.Tie as tie
 
-at-requires : tie.Need-at-requires
-at-requires c κs = search rules
+at-s-requires : tie.Need-at-s-requires
+at-s-requires c κs = search rules
 
-at-requires-2 : tie.Need-at-requires-2
-at-requires-2 c κs = search rules
+at-u-requires : tie.Need-at-u-requires
+at-u-requires c κs = search rules
 
-mul-a : tie.Need-overflow-mul-a
-mul-a c = search rules
+offset_bounds-home-s : tie.Need-offset_bounds-home-s
+offset_bounds-home-s c = search rules
 
-shared-slice-read-a : tie.Need-shared-slice-read-a
-shared-slice-read-a c = search rules
+bounds-home-s : tie.Need-bounds-home-s
+bounds-home-s c = search rules
 
-mul-a-2 : tie.Need-overflow-mul-a-2
-mul-a-2 c = search rules
+offset_bounds-a-d : tie.Need-offset_bounds-a-d
+offset_bounds-a-d c = search rules
 
-slice-write-a : tie.Need-slice-write-a
-slice-write-a c = search rules
+bounds-a-d : tie.Need-bounds-a-d
+bounds-a-d c = search rules
 
-mul-b : tie.Need-overflow-mul-b
-mul-b c = search rules
+offset_bounds-label-i : tie.Need-offset_bounds-label-i
+offset_bounds-label-i c = search rules
 
-shared-slice-read-b : tie.Need-shared-slice-read-b
-shared-slice-read-b c = search rules
+bounds-label-i : tie.Need-bounds-label-i
+bounds-label-i c = search rules
 
-mul-b-2 : tie.Need-overflow-mul-b-2
-mul-b-2 c = search rules
+offset_bounds-b-d : tie.Need-offset_bounds-b-d
+offset_bounds-b-d c = search rules
 
-slice-write-b : tie.Need-slice-write-b
-slice-write-b c = search rules
+bounds-b-d : tie.Need-bounds-b-d
+bounds-b-d c = search rules
 
-mul-c : tie.Need-overflow-mul-c
-mul-c c = search rules
+offset_bounds-home-u : tie.Need-offset_bounds-home-u
+offset_bounds-home-u c = search rules
 
-shared-slice-read-c : tie.Need-shared-slice-read-c
-shared-slice-read-c c = search rules
+bounds-home-u : tie.Need-bounds-home-u
+bounds-home-u c = search rules
 
-mul-c-2 : tie.Need-overflow-mul-c-2
-mul-c-2 c = search rules
+offset_bounds-c-d : tie.Need-offset_bounds-c-d
+offset_bounds-c-d c = search rules
 
-slice-write-c : tie.Need-slice-write-c
-slice-write-c c = search rules
+bounds-c-d : tie.Need-bounds-c-d
+bounds-c-d c = search rules
 
-same_length : tie.Need-same-length
-same_length c = search rules
+shape_of-a : tie.Need-shape_of-a
+shape_of-a c = search rules
 
-same-length-2 : tie.Need-same-length-2
-same-length-2 c = search rules
+shape_of-b : tie.Need-shape_of-b
+shape_of-b c = search rules
 
-same-length-3 : tie.Need-same-length-3
-same-length-3 c = search rules
+shape_of-c : tie.Need-shape_of-c
+shape_of-c c = search rules
 
 returns : tie.Need-returns
-returns c = (rw c.before.before.before.before.at.ensures.0 refl, (refl, rw c.before.before.before.at2.ensures.0 refl))
+returns c = (rw c.at-s.ensures.0 refl, (refl, rw c.at-u.ensures.0 refl))
 
-pub push-row-spec : {M : Type 1} → statement M
-push-row-spec =
+pub push_row_spec : {M : Type 1} → statement M
+push_row_spec =
     tie.close
     (tie.spec
-    at-requires
-    at-requires-2
-    mul-a
-    shared-slice-read-a
-    mul-a-2
-    slice-write-a
-    mul-b
-    shared-slice-read-b
-    mul-b-2
-    slice-write-b
-    mul-c
-    shared-slice-read-c
-    mul-c-2
-    slice-write-c
-    same_length
-    same-length-2
-    same-length-3
+    at-s-requires
+    at-u-requires
+    offset_bounds-home-s
+    bounds-home-s
+    offset_bounds-a-d
+    bounds-a-d
+    offset_bounds-label-i
+    bounds-label-i
+    offset_bounds-b-d
+    bounds-b-d
+    offset_bounds-home-u
+    bounds-home-u
+    offset_bounds-c-d
+    bounds-c-d
+    shape_of-a
+    shape_of-b
+    shape_of-c
     returns)

@@ -20,11 +20,24 @@ B a = block_of a.args.home.now
 at-requires : tie.Need-at-requires
 at-requires c κs = search rules
 
-returns : tie.Need-returns
+returns-then-at-ne0 : tie.Need-returns-then-at-ne0
 unfolding row_in
-returns c =
+returns-then-at-ne0 c =
     let a = c.before.before.before.before.before.before in
-    row_visible a.args.inerts a.args.loops (B a) (R a) (ne_eqb _ _ (λ e. c.if1.true (c.before.at.ensures.0 ∙ e)))
+    row_visible a.args.inerts a.args.loops (B a) (R a) (ne_eqb _ _ (λ e. c.if-at-ne0.true (c.at.ensures.0 ∙ e)))
+
+at-s-requires : tie.Need-at-s-requires
+at-s-requires c κs = search rules
+
+at-u-requires : tie.Need-at-u-requires
+at-u-requires c κs = search rules
+
+returns-then-s-u : tie.Need-returns-then-s-u
+unfolding row_in
+returns-then-s-u c =
+    let a = c.before.before.before.before.before.before.before.before.before in
+    row_loop a.args.inerts a.args.loops (B a) (R a) (eq-eqb _ _ (sym c.at.ensures.0 ∙ c.if-at-ne0.false))
+    (eq-eqb _ _ (sym c.at-s.ensures.0 ∙ c.if-s-u.true ∙ c.at-u.ensures.0))
 
 at-requires-2 : tie.Need-at-requires-2
 at-requires-2 c κs = search rules
@@ -32,65 +45,52 @@ at-requires-2 c κs = search rules
 at-requires-3 : tie.Need-at-requires-3
 at-requires-3 c κs = search rules
 
-returns-2 : tie.Need-returns-2
-unfolding row_in
-returns-2 c =
-    let a = c.before.before.before.before.before.before.before.before.before in
-    row_loop a.args.inerts a.args.loops (B a) (R a) (eq-eqb _ _ (sym c.before.before.before.before.at.ensures.0 ∙ c.before.before.before.if1.false))
-    (eq-eqb _ _ (sym c.before.before.at2.ensures.0 ∙ c.if2.true ∙ c.before.at3.ensures.0))
-
-at-requires-4 : tie.Need-at-requires-4
-at-requires-4 c κs = search rules
-
-at-requires-5 : tie.Need-at-requires-5
-at-requires-5 c κs = search rules
-
 -- the row is hidden and no self-loop, and its blocks are read
-hidden : (c : tie.After-at5) → eqb (R c.before.before.before.before.before.before.before.before.before.before.before).1.0
+hidden : (c : tie.After-at-3) → eqb (R c.before.before.before.before.before.before.before.before.before.before.before).1.0
     0 ≡ true
 unfolding row_in
 hidden c =
-    eq-eqb _ _ (sym c.before.before.before.before.before.before.at.ensures.0 ∙ c.before.before.before.before.before.if1.false)
+    eq-eqb _ _ (sym c.at.ensures.0 ∙ c.if-at-ne0.false)
 
-apart : (c : tie.After-at5) → eqb (R c.before.before.before.before.before.before.before.before.before.before.before).0 (R
+apart : (c : tie.After-at-3) → eqb (R c.before.before.before.before.before.before.before.before.before.before.before).0 (R
     c.before.before.before.before.before.before.before.before.before.before.before).1.1 ≡ false
 unfolding row_in
 apart c =
-    ne_eqb _ _ (λ e. c.before.before.if2.false (c.before.before.before.before.at2.ensures.0 ∙ e ∙ sym c.before.before.before.at3.ensures.0))
+    ne_eqb _ _ (λ e. c.if-s-u.false (c.at-s.ensures.0 ∙ e ∙ sym c.at-u.ensures.0))
 
-from : (c : tie.After-at5) → c.before.at4.result ≡ B c.before.before.before.before.before.before.before.before.before.before.before (R c.before.before.before.before.before.before.before.before.before.before.before).0
+from : (c : tie.After-at-3) → c.at-2.result ≡ B c.before.before.before.before.before.before.before.before.before.before.before (R c.before.before.before.before.before.before.before.before.before.before.before).0
 unfolding row_in
 from c =
-    c.before.at4.ensures.0 ∙ ap (B c.before.before.before.before.before.before.before.before.before.before.before) c.before.before.before.before.at2.ensures.0
+    c.at-2.ensures.0 ∙ ap (B c.before.before.before.before.before.before.before.before.before.before.before) c.at-s.ensures.0
 
-to : (c : tie.After-at5) → c.at5.result ≡ B c.before.before.before.before.before.before.before.before.before.before.before
+to : (c : tie.After-at-3) → c.at-3.result ≡ B c.before.before.before.before.before.before.before.before.before.before.before
     (R c.before.before.before.before.before.before.before.before.before.before.before).1.1
 unfolding row_in
 to c =
-    c.at5.ensures.0 ∙ ap (B c.before.before.before.before.before.before.before.before.before.before.before) c.before.before.before.at3.ensures.0
+    c.at-3.ensures.0 ∙ ap (B c.before.before.before.before.before.before.before.before.before.before.before) c.at-u.ensures.0
 
-returns-3 : tie.Need-returns-3
-returns-3 c =
+returns-then-at : tie.Need-returns-then-at
+returns-then-at c =
     let a = c.before.before.before.before.before.before.before.before.before.before.before.before in
     row_outward a.args.inerts a.args.loops (B a) (R a) (hidden c.before) (apart c.before)
-    (ne_eqb _ _ (λ e. c.if3.true (from c.before ∙ e ∙ sym (to c.before))))
+    (ne_eqb _ _ (λ e. c.if-at.true (from c.before ∙ e ∙ sym (to c.before))))
 
-returns-4 : tie.Need-returns-4
-returns-4 c =
+returns : tie.Need-returns
+returns c =
     let a = c.before.before.before.before.before.before.before.before.before.before.before.before in
     row_inert a.args.inerts a.args.loops (B a) (R a) (hidden c.before) (apart c.before)
-    (eq-eqb _ _ (sym (from c.before) ∙ c.if3.false ∙ to c.before))
+    (eq-eqb _ _ (sym (from c.before) ∙ c.if-at.false ∙ to c.before))
 
-pub row-stays-spec : {M : Type 1} → statement M
-row-stays-spec =
+pub row_stays_spec : {M : Type 1} → statement M
+row_stays_spec =
     tie.close
     (tie.spec
     at-requires
-    returns
+    returns-then-at-ne0
+    at-s-requires
+    at-u-requires
+    returns-then-s-u
     at-requires-2
     at-requires-3
-    returns-2
-    at-requires-4
-    at-requires-5
-    returns-3
-    returns-4)
+    returns-then-at
+    returns)

@@ -15,100 +15,100 @@ use Rattle.quotient_components.proofs.cores.find_components.Tie as tie
 abbrev L : tie.Start → Lts
 L a = lts a.args.table a.args.source.now a.args.label.now a.args.target.now
 
-cast-n : tie.Need-overflow-cast-n
-cast-n c = search rules
+overflow_cast-n : tie.Need-overflow_cast-n
+overflow_cast-n c = search rules
 
-turn-rows-requires : tie.Need-turn-rows-requires
-turn-rows-requires c κs = let p = c.before.before.before.before.before.before.before.before.before.before.before.before.before.before.before.before.before.requires in (p.0.0, (p.1.0, (p.1.1.0.0, p.0.2, p.1.1.1.1)))
+turn_rows-back-requires : tie.Need-turn_rows-back-requires
+turn_rows-back-requires c κs = let p = c.requires in (p.0.0, (p.1.0, (p.1.1.0.0, p.0.2, p.1.1.1.1)))
 
-slice-relend-prefix-number-all : tie.Need-slice-relend-prefix-number-all
-slice-relend-prefix-number-all c = let h = c.before.before.before.before.before.before.before.before.before.before.before.before.before.before.before.before.before.before.before.before.before.before.before.before.before.before.before.before.before.before.before.requires.0.1 in omega (arith, h)
+slice_bounds-number_all-end : tie.Need-slice_bounds-number_all-end
+slice_bounds-number_all-end c = let h = c.requires.0.1 in omega (arith, h)
 
-slice-aggregate-number-all : tie.Need-slice-aggregate-number-all
-slice-aggregate-number-all c = let a = c.before.before.before.before.before.before.before.before.before.before.before.before.before.before.before.before.before.before.before.before.before.before.before.before.before.before.before.before.before.before.before.before in sym (length-take-le a.args.table.n a.args.numbers.now a.pre.0.1)
+slice_bounds-number_all-end-2 : tie.Need-slice_bounds-number_all-end-2
+slice_bounds-number_all-end-2 c = let a = c in sym (length-take-le a.args.table.n a.args.numbers.now a.requires.0.1)
 
-slice-relend-prefix-number-all-2 : tie.Need-slice-relend-prefix-number-all-2
-slice-relend-prefix-number-all-2 c = let h = c.before.before.before.before.before.before.before.before.before.before.before.before.before.before.before.before.before.before.before.before.before.before.before.before.before.before.before.before.before.before.before.before.requires.1.1.0.1 in omega (arith, h)
+slice_bounds-number_all-end-3 : tie.Need-slice_bounds-number_all-end-3
+slice_bounds-number_all-end-3 c = let h = c.requires.1.1.0.1 in omega (arith, h)
 
-slice-aggregate-number-all-2 : tie.Need-slice-aggregate-number-all-2
-slice-aggregate-number-all-2 c = let a = c.before.before.before.before.before.before.before.before.before.before.before.before.before.before.before.before.before.before.before.before.before.before.before.before.before.before.before.before.before.before.before.before.before in sym (length-take-le a.args.table.n a.args.forward.now a.pre.1.1.0.1)
+slice_bounds-number_all-end-4 : tie.Need-slice_bounds-number_all-end-4
+slice_bounds-number_all-end-4 c = let a = c in sym (length-take-le a.args.table.n a.args.forward.now a.requires.1.1.0.1)
 
-slice-relend-prefix-number-all-3 : tie.Need-slice-relend-prefix-number-all-3
-slice-relend-prefix-number-all-3 c = let h = c.before.before.before.before.before.before.before.before.before.before.before.before.before.before.before.before.before.before.before.before.before.before.before.before.before.before.before.before.before.before.before.before.before.requires.1.1.0.2 in omega (arith, h)
+slice_bounds-number_all-end-5 : tie.Need-slice_bounds-number_all-end-5
+slice_bounds-number_all-end-5 c = let h = c.requires.1.1.0.2 in omega (arith, h)
 
-slice-aggregate-number-all-3 : tie.Need-slice-aggregate-number-all-3
-slice-aggregate-number-all-3 c = let a = c.before.before.before.before.before.before.before.before.before.before.before.before.before.before.before.before.before.before.before.before.before.before.before.before.before.before.before.before.before.before.before.before.before.before in sym (length-take-le a.args.table.n a.args.backward.now a.pre.1.1.0.2)
+slice_bounds-number_all-end-6 : tie.Need-slice_bounds-number_all-end-6
+slice_bounds-number_all-end-6 c = let a = c in sym (length-take-le a.args.table.n a.args.backward.now a.requires.1.1.0.2)
 
-number-all-requires : tie.Need-number-all-requires
-number-all-requires c κs = let a = c.before.before.before.before.before.before.before.before.before.before.before.before.before.before.before.before.before.before.before.before.before.before.before.before.before.before.before.before.before.before.before.before.before.before.before in
+number_all-requires : tie.Need-number_all-requires
+number_all-requires c κs = let a = c in
     let n = a.args.table.n in
-    let q = c.before.before.before.before.before.before.before.before.before.before.before.before.before.before.before.before.before.turn_rows in (
+    let q = c.turn_rows-back in (
       q.ensures.0,
       (
         (
-          length-take-le n a.args.numbers.now a.pre.0.1,
-          length-take-le n a.args.forward.now a.pre.1.1.0.1,
+          length-take-le n a.args.numbers.now a.requires.0.1,
+          length-take-le n a.args.forward.now a.requires.1.1.0.1,
         ),
         (
-          length-take-le n a.args.backward.now a.pre.1.1.0.2,
-          omega (arith, a.pre.1.1.1.0, q.kept.1.1.1.1.1.1.1.1.0),
+          length-take-le n a.args.backward.now a.requires.1.1.0.2,
+          omega (arith, a.requires.1.1.1.0, q.auto.spare),
         ),
       ),
     )
 
-same_length : tie.Need-same-length
-same_length c = search rules
+shape_of-numbers : tie.Need-shape_of-numbers
+shape_of-numbers c = search rules
 
-same-length-2 : tie.Need-same-length-2
-same-length-2 c = c.before.before.before.before.before.before.before.before.before.before.before.before.before.before.before.before.before.before.before.before.before.before.before.before.before.before.turn_rows.auto.1.1.1.1.1.1.1.0
+shape_of-order : tie.Need-shape_of-order
+shape_of-order c = c.turn_rows-back.auto.order
 
-same-length-3 : tie.Need-same-length-3
-same-length-3 c = c.before.before.before.before.before.before.before.before.before.before.before.before.before.before.before.before.before.before.before.before.before.before.before.before.before.before.turn_rows.auto.1.1.1.1.0
+shape_of-back_source : tie.Need-shape_of-back_source
+shape_of-back_source c = c.turn_rows-back.auto.back_source
 
-same-length-4 : tie.Need-same-length-4
-same-length-4 c = c.before.before.before.before.before.before.before.before.before.before.before.before.before.before.before.before.before.before.before.before.before.before.before.before.before.before.turn_rows.auto.1.1.1.1.1.0
+shape_of-back_label : tie.Need-shape_of-back_label
+shape_of-back_label c = c.turn_rows-back.auto.back_label
 
-same-length-5 : tie.Need-same-length-5
-same-length-5 c = c.before.before.before.before.before.before.before.before.before.before.before.before.before.before.before.before.before.before.before.before.before.before.before.before.before.before.turn_rows.auto.1.1.1.1.1.1.0
+shape_of-back_target : tie.Need-shape_of-back_target
+shape_of-back_target c = c.turn_rows-back.auto.back_target
 
-same-length-6 : tie.Need-same-length-6
-same-length-6 c = search rules
+shape_of-forward : tie.Need-shape_of-forward
+shape_of-forward c = search rules
 
-same-length-7 : tie.Need-same-length-7
-same-length-7 c = search rules
+shape_of-backward : tie.Need-shape_of-backward
+shape_of-backward c = search rules
 
-same-length-8 : tie.Need-same-length-8
-same-length-8 c = c.before.before.before.before.before.before.before.before.number-all.auto.1.1.1.1.1.1.1.1.1.1.1.0 ∙ c.before.before.before.before.before.before.before.before.before.before.before.before.before.before.before.before.before.before.before.before.before.before.before.before.before.before.turn_rows.auto.1.1.1.1.1.1.1.1.0
+shape_of-queue : tie.Need-shape_of-queue
+shape_of-queue c = c.number_all.auto.queue ∙ c.turn_rows-back.auto.spare
 
 returns : tie.Need-returns
-returns c = let a = c.before.before.before.before.before.before.before.before.before.before.before.before.before.before.before.before.before.before.before.before.before.before.before.before.before.before.before.before.before.before.before.before.before.before.before.before.before.before.before.before.before.before.before.before in
-    let q = c.before.before.before.before.before.before.before.before.number-all in
+returns c = let a = c.before.before.before.before.before.before.before.before.before.before.before.before.before.before.before.before.before.before.before.before.before.before.before.before.before.before.before.before.before.before.before.before.before.before.before.before.before.before.before.before.before in
+    let q = c.number_all in
     let n = a.args.table.n in
     let l = a.args.numbers.now in (
       q.ensures.0,
-      front_written n (component (L a)) l q.new.1.1.1.1.1.1.1.1.0 a.pre.0.1
-          (q.ensures.1 ∙ ap (λ (k : ℕ). listed k (component (L a))) (sym (length-take-le n l a.pre.0.1))),
+      front_written n (component (L a)) l q.new.numbers a.requires.0.1
+          (q.ensures.1 ∙ ap (λ (k : ℕ). listed k (component (L a))) (sym (length-take-le n l a.requires.0.1))),
     )
 
-pub find-components-spec : {M : Type 1} → statement M
-find-components-spec =
+pub find_components_spec : {M : Type 1} → statement M
+find_components_spec =
     tie.close
     (tie.spec
-    cast-n
-    turn-rows-requires
-    slice-relend-prefix-number-all
-    slice-aggregate-number-all
-    slice-relend-prefix-number-all-2
-    slice-aggregate-number-all-2
-    slice-relend-prefix-number-all-3
-    slice-aggregate-number-all-3
-    number-all-requires
-    same_length
-    same-length-2
-    same-length-3
-    same-length-4
-    same-length-5
-    same-length-6
-    same-length-7
-    same-length-8
+    overflow_cast-n
+    turn_rows-back-requires
+    slice_bounds-number_all-end
+    slice_bounds-number_all-end-2
+    slice_bounds-number_all-end-3
+    slice_bounds-number_all-end-4
+    slice_bounds-number_all-end-5
+    slice_bounds-number_all-end-6
+    number_all-requires
+    shape_of-numbers
+    shape_of-order
+    shape_of-back_source
+    shape_of-back_label
+    shape_of-back_target
+    shape_of-forward
+    shape_of-backward
+    shape_of-queue
     returns)

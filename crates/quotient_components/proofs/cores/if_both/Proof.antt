@@ -4,17 +4,17 @@ use Rattle.quotient_components.specs.Numbering.{if_both}
 use Rattle.quotient_components.proofs.cores.if_both.Statement.{statement}
 use Rattle.quotient_components.proofs.cores.if_both.Tie as tie
 
-returns : tie.Need-returns
+returns-then-f-eq0 : tie.Need-returns-then-f-eq0
 unfolding if_both
-returns c = rw (eq-eqb _ _ c.if1.true)
+returns-then-f-eq0 c = rw (eq-eqb _ _ c.if-f-eq0.true)
 
-returns-2 : tie.Need-returns-2
+returns-then-b-eq0 : tie.Need-returns-then-b-eq0
 unfolding if_both
-returns-2 c = rw (ne_eqb _ _ c.before.if1.false, eq-eqb _ _ c.if2.true)
+returns-then-b-eq0 c = rw (ne_eqb _ _ c.if-f-eq0.false, eq-eqb _ _ c.if-b-eq0.true)
 
-returns-3 : tie.Need-returns-3
+returns-else-b-eq0 : tie.Need-returns-else-b-eq0
 unfolding if_both
-returns-3 c = rw (ne_eqb _ _ c.before.if1.false, ne_eqb _ _ c.if2.false)
+returns-else-b-eq0 c = rw (ne_eqb _ _ c.if-f-eq0.false, ne_eqb _ _ c.if-b-eq0.false)
 
-pub if-both-spec : {M : Type 1} → statement M
-if-both-spec = tie.close (tie.spec returns returns-2 returns-3)
+pub if_both_spec : {M : Type 1} → statement M
+if_both_spec = tie.close (tie.spec returns-then-f-eq0 returns-then-b-eq0 returns-else-b-eq0)

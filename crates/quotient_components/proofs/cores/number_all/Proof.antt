@@ -25,191 +25,191 @@ use Rattle.quotient_components.proofs.Numbering.{
 use Rattle.quotient_components.proofs.cores.number_all.Statement.{statement}
 use Rattle.quotient_components.proofs.cores.number_all.Tie as tie
 
-abbrev invariant-loop : tie.invariant-loop
-invariant-loop table source label target back back-source back-label back_target numbers₀ forward₀ backward₀ queue₀ n s₀ count₀ numbers
+abbrev invariant-loop-s : tie.invariant-loop-s
+invariant-loop-s table source label target back back-source back-label back_target numbers₀ forward₀ backward₀ queue₀ n s₀ count₀ numbers
     forward
     backward queue s count =
     ((length forward ≡ length forward₀) × (length backward ≡ length backward₀) × (length queue ≡ length queue₀))
     × ((s ≤ table.n) × (numbers ≡ numbered_below (lts table source label target) s)
     × (count ≡ many s (leads (linked (lts table source label target)))))
 
-abbrev decreases-loop : tie.decreases-loop
-decreases-loop table source label target back back-source back-label back_target numbers₀ forward₀ backward₀ queue₀ n s₀ count₀ numbers forward
+abbrev decreases-loop-s : tie.decreases-loop-s
+decreases-loop-s table source label target back back-source back-label back_target numbers₀ forward₀ backward₀ queue₀ n s₀ count₀ numbers forward
     backward queue s count = table.n - s
 
 -- the table that is lent
-abbrev L : tie.Start invariant-loop decreases-loop → Lts
+abbrev L : tie.Start invariant-loop-s decreases-loop-s → Lts
 L a = lts a.args.table a.args.source.now a.args.label.now a.args.target.now
 
-valid : (a : tie.Start invariant-loop decreases-loop) → Valid (L a)
+valid : (a : tie.Start invariant-loop-s decreases-loop-s) → Valid (L a)
 valid a = a.requires.0.rows.given
 
 -- a turn of the loop: s is a state, and not more components are counted
-module _ (q : tie.In-loop invariant-loop decreases-loop) where
-  abbrev Q : tie.At-loop invariant-loop decreases-loop
+module _ (q : tie.In-loop-s invariant-loop-s decreases-loop-s) where
+  abbrev Q : tie.At-loop-s invariant-loop-s decreases-loop-s
   Q = q.before
 
-  below : (Q.loop.s < q.before.before.before.before.before.before.before.before.before.before.before.before.before.before.before.before.before.args.table.n) × (q.before.before.before.before.before.before.before.before.before.before.before.before.before.before.before.before.before.args.table.n ≤ 4096)
+  below : (Q.loop-s.s < q.args.table.n) × (q.args.table.n ≤ 4096)
   below = (
-    omega (arith, q.loop-test),
+    omega (arith, q.loop-s-test),
     (valid q.before.before.before.before.before.before.before.before.before.before.before.before.before.before.before.before.before).few_states,
   )
 
-  few : Q.loop.count ≤ Q.loop.s
-  few = counts_few (L q.before.before.before.before.before.before.before.before.before.before.before.before.before.before.before.before.before) Q.loop.s Q.loop.count Q.loop.inv.1.2
+  few : Q.loop-s.count ≤ Q.loop-s.s
+  few = counts_few (L q.before.before.before.before.before.before.before.before.before.before.before.before.before.before.before.before.before) Q.loop-s.s Q.loop-s.count Q.loop-s.invariant.1.2
 
 -- whether s has a number, by its cell
-module _ (q : tie.After-at invariant-loop decreases-loop) where
+module _ (q : tie.After-at invariant-loop-s decreases-loop-s) where
   abbrev cell : ℕ
   cell = q.at.result
 
-  fresh : cell ≡ q.before.before.before.before.before.before.before.before.before.before.before.before.before.before.before.before.before.before.before.args.table.n → leads (linked (L q.before.before.before.before.before.before.before.before.before.before.before.before.before.before.before.before.before.before.before)) q.before.before.before.loop.s ≡ true
+  fresh : cell ≡ q.args.table.n → leads (linked (L q.before.before.before.before.before.before.before.before.before.before.before.before.before.before.before.before.before.before)) q.loop-s.s ≡ true
   fresh z =
-      fresh_leads (L q.before.before.before.before.before.before.before.before.before.before.before.before.before.before.before.before.before.before.before) (valid q.before.before.before.before.before.before.before.before.before.before.before.before.before.before.before.before.before.before.before) q.before.before.before.loop.s (below q.before.before).0 q.before.before.before.loop.numbers q.before.before.before.loop.inv.1.1 cell
+      fresh_leads (L q.before.before.before.before.before.before.before.before.before.before.before.before.before.before.before.before.before.before) (valid q.before.before.before.before.before.before.before.before.before.before.before.before.before.before.before.before.before.before) q.loop-s.s (below q.before).0 q.loop-s.numbers q.loop-s.invariant.1.1 cell
       q.at.ensures.0 z
 
-  known : (cell ≡ q.before.before.before.before.before.before.before.before.before.before.before.before.before.before.before.before.before.before.before.args.table.n → ⊥) → leads (linked (L q.before.before.before.before.before.before.before.before.before.before.before.before.before.before.before.before.before.before.before)) q.before.before.before.loop.s ≡ false
+  known : (cell ≡ q.args.table.n → ⊥) → leads (linked (L q.before.before.before.before.before.before.before.before.before.before.before.before.before.before.before.before.before.before)) q.loop-s.s ≡ false
   known z =
-      known_follows (L q.before.before.before.before.before.before.before.before.before.before.before.before.before.before.before.before.before.before.before) (valid q.before.before.before.before.before.before.before.before.before.before.before.before.before.before.before.before.before.before.before) q.before.before.before.loop.s
-      (below q.before.before).0 q.before.before.before.loop.numbers q.before.before.before.loop.inv.1.1 cell
+      known_follows (L q.before.before.before.before.before.before.before.before.before.before.before.before.before.before.before.before.before.before) (valid q.before.before.before.before.before.before.before.before.before.before.before.before.before.before.before.before.before.before) q.loop-s.s
+      (below q.before).0 q.loop-s.numbers q.loop-s.invariant.1.1 cell
       q.at.ensures.0 z
 
-cast-n : tie.Need-overflow-cast-n invariant-loop decreases-loop
-cast-n c = search rules
+overflow_cast-n : tie.Need-overflow_cast-n invariant-loop-s decreases-loop-s
+overflow_cast-n c = search rules
 
-fill-requires : tie.Need-fill-requires invariant-loop decreases-loop
+fill-requires : tie.Need-fill-requires invariant-loop-s decreases-loop-s
 fill-requires c κs = search rules
 
-loop-holds : tie.Need-loop-init invariant-loop decreases-loop
-loop-holds c = let a = c.before.before.before.before.before.before.before.before.before.before.before.before.before.before.before in (
+loop-s-init : tie.Need-loop-s-init invariant-loop-s decreases-loop-s
+loop-s-init c = let a = c.before.before.before.before.before.before.before.before.before.before.before.before.before.before.before in (
   (refl, refl, refl),
   (
     omega arith,
-    number_none (L a) (valid a) c.before.before.fill.new.1.0
-        (c.before.before.fill.ensures ∙ ap (λ (k : ℕ). listed k (λ _. a.args.table.n)) a.pre.1.0.0),
+    number_none (L a) (valid a) c.fill.new.a
+        (c.fill.ensures ∙ ap (λ (k : ℕ). listed k (λ _. a.args.table.n)) a.requires.1.0.0),
     sym (many-none (leads (linked (L a)))),
   ),
 )
 
-at-requires : tie.Need-at-requires invariant-loop decreases-loop
-at-requires c κs = let l = c.before.before.loop in omega (
+at-requires : tie.Need-at-requires invariant-loop-s decreases-loop-s
+at-requires c κs = let l = c.loop-s in omega (
   arith,
-  below c.before,
+  below c,
   ap length l.invariant.1.1,
-  length-numbered (L c.before.before.before.before.before.before.before.before.before.before.before.before.before.before.before.before.before.before) l.s,
+  length-numbered (L c.before.before.before.before.before.before.before.before.before.before.before.before.before.before.before.before.before) l.s,
 )
 
-cast-number-one : tie.Need-overflow-cast-number-one invariant-loop decreases-loop
-cast-number-one c = omega (arith, few c.before.before.before, below c.before.before.before)
+overflow_cast-count : tie.Need-overflow_cast-count invariant-loop-s decreases-loop-s
+overflow_cast-count c = omega (arith, few c.before.before, below c.before.before)
 
-number-one-requires : tie.Need-number-one-requires invariant-loop decreases-loop
-number-one-requires c κs = let p = c.before.before.before.before.before.before.before.before.before.before.before.before.before.before.before.before.before.before.before.before.before.before.before.before.requires in
-    let l = c.before.before.before.before.before.before.before.before.loop.invariant in (
-      (p.0, (below c.before.before.before.before.before.before.before).0),
+number_one-requires : tie.Need-number_one-requires invariant-loop-s decreases-loop-s
+number_one-requires c κs = let p = c.requires in
+    let l = c.loop-s.invariant in (
+      (p.0, (below c.before.before.before.before.before.before).0),
       (
         (l.0.0 ∙ p.1.0.1, l.0.1 ∙ p.1.1.0, omega (arith, l.0.2, p.1.1.1)),
         (
-          (l.1.1, sym c.before.before.before.before.before.at.ensures.0 ∙ c.before.before.before.before.if1.true),
+          (l.1.1, sym c.at.ensures.0 ∙ c.if-at-n.true),
           l.1.2,
         ),
       ),
     )
 
-add-count : tie.Need-overflow-add-count invariant-loop decreases-loop
-add-count c = omega (
+overflow_add-count : tie.Need-overflow_add-count invariant-loop-s decreases-loop-s
+overflow_add-count c = omega (
   arith,
-  few c.before.before.before.before.before.before.before.before.before.before.before.before.before.before.before.before,
-  below c.before.before.before.before.before.before.before.before.before.before.before.before.before.before.before.before,
+  few c.before.before.before.before.before.before.before.before.before.before.before.before.before.before.before,
+  below c.before.before.before.before.before.before.before.before.before.before.before.before.before.before.before,
 )
 
-add-s : tie.Need-overflow-add-s invariant-loop decreases-loop
-add-s c = omega (
+overflow_add-s : tie.Need-overflow_add-s invariant-loop-s decreases-loop-s
+overflow_add-s c = omega (
   arith,
-  below c.before.before.before.before.before.before.before.before.before.before.before.before.before.before.before.before,
+  below c.before.before.before.before.before.before.before.before.before.before.before.before.before.before.before,
 )
 
-loop-less : tie.Need-loop-smaller invariant-loop decreases-loop
-loop-less c = omega (
+loop-s-smaller-then-at-n : tie.Need-loop-s-smaller-then-at-n invariant-loop-s decreases-loop-s
+loop-s-smaller-then-at-n c = omega (
   arith,
-  below c.before.before.before.before.before.before.before.before.before.before.before.before.before.before.before.before,
+  below c.before.before.before.before.before.before.before.before.before.before.before.before.before.before.before,
 )
 
-loop-again : tie.Need-loop-preserved invariant-loop decreases-loop
-loop-again c = let a = c.before.before.before.before.before.before.before.before.before.before.before.before.before.before.before.before.before.before.before.before.before.before.before.before.before.before.before.before.before.before.before.before.before in
-    let l = c.before.before.before.before.before.before.before.before.before.before.before.before.before.before.before.before.before.loop in
-    let q = c.before.before.before.before.before.before.before.before.number-one in
-    let k = q.auto.1.1.1.1.1.1.1.1.1.1.1 in (
-      (k.0 ∙ l.inv.0.0, k.1.0 ∙ l.inv.0.1, k.1.1.0 ∙ l.inv.0.2),
+loop-s-preserved-then-at-n : tie.Need-loop-s-preserved-then-at-n invariant-loop-s decreases-loop-s
+loop-s-preserved-then-at-n c = let a = c.before.before.before.before.before.before.before.before.before.before.before.before.before.before.before.before.before.before.before.before.before.before.before.before.before.before.before.before.before.before.before.before in
+    let l = c.loop-s in
+    let q = c.number_one in
+    let k = q.auto.forward in (
+      (k ∙ l.invariant.0.0, c.number_one.auto.backward ∙ l.invariant.0.1, c.number_one.auto.queue ∙ l.invariant.0.2),
       (
         omega (
           arith,
-          below c.before.before.before.before.before.before.before.before.before.before.before.before.before.before.before.before,
+          below c.before.before.before.before.before.before.before.before.before.before.before.before.before.before.before,
         ),
         q.ensures,
-        count_more (L a) (valid a) l.s l.count (fresh c.before.before.before.before.before.before.before.before.before.before.before.before.before.before c.before.before.before.before.before.before.before.before.before.before.before.before.before.if1.true) l.inv.1.2,
+        count_more (L a) (valid a) l.s l.count (fresh c.before.before.before.before.before.before.before.before.before.before.before.before.before.before c.if-at-n.true) l.invariant.1.2,
       ),
     )
 
-add-s-2 : tie.Need-overflow-add-s-2 invariant-loop decreases-loop
-add-s-2 c = omega (arith, below c.before.before.before)
+overflow_add-s-else-at-n : tie.Need-overflow_add-s-else-at-n invariant-loop-s decreases-loop-s
+overflow_add-s-else-at-n c = omega (arith, below c.before.before)
 
-loop-less-2 : tie.Need-loop-smaller-2 invariant-loop decreases-loop
-loop-less-2 c = omega (arith, below c.before.before.before)
+loop-s-smaller : tie.Need-loop-s-smaller invariant-loop-s decreases-loop-s
+loop-s-smaller c = omega (arith, below c.before.before)
 
-loop-again-2 : tie.Need-loop-preserved-2 invariant-loop decreases-loop
-loop-again-2 c = let a = c.before.before.before.before.before.before.before.before.before.before.before.before.before.before.before.before.before.before.before.before in
-    let l = c.before.before.before.before.loop in
-    let k = known c.before c.if1.false in (
+loop-s-preserved : tie.Need-loop-s-preserved invariant-loop-s decreases-loop-s
+loop-s-preserved c = let a = c.before.before.before.before.before.before.before.before.before.before.before.before.before.before.before.before.before.before.before in
+    let l = c.loop-s in
+    let k = known c.before c.if-at-n.false in (
       l.invariant.0,
       (
-        omega (arith, below c.before.before.before),
+        omega (arith, below c.before.before),
         number_skip (L a) (valid a) l.s k l.numbers l.invariant.1.1,
         count_skip (L a) (valid a) l.s k l.count l.invariant.1.2,
       ),
     )
 
-same_length : tie.Need-same-length invariant-loop decreases-loop
-same_length c = let a = c.before.before.before.before.before.before.before.before.before.before.before.before.before.before.before.before.before in
-    let l = c.before.loop in
-    ap length l.invariant.1.1 ∙ length-numbered (L a) l.s ∙ sym a.pre.1.0.0
+shape_of-numbers : tie.Need-shape_of-numbers invariant-loop-s decreases-loop-s
+shape_of-numbers c = let a = c.before.before.before.before.before.before.before.before.before.before.before.before.before.before.before.before.before in
+    let l = c.loop-s in
+    ap length l.invariant.1.1 ∙ length-numbered (L a) l.s ∙ sym a.requires.1.0.0
 
-same-length-2 : tie.Need-same-length-2 invariant-loop decreases-loop
-same-length-2 c = c.before.loop.invariant.0.0
+shape_of-forward : tie.Need-shape_of-forward invariant-loop-s decreases-loop-s
+shape_of-forward c = c.loop-s.invariant.0.0
 
-same-length-3 : tie.Need-same-length-3 invariant-loop decreases-loop
-same-length-3 c = c.before.loop.invariant.0.1
+shape_of-backward : tie.Need-shape_of-backward invariant-loop-s decreases-loop-s
+shape_of-backward c = c.loop-s.invariant.0.1
 
-same-length-4 : tie.Need-same-length-4 invariant-loop decreases-loop
-same-length-4 c = c.before.loop.invariant.0.2
+shape_of-queue : tie.Need-shape_of-queue invariant-loop-s decreases-loop-s
+shape_of-queue c = c.loop-s.invariant.0.2
 
-returns : tie.Need-returns invariant-loop decreases-loop
+returns : tie.Need-returns invariant-loop-s decreases-loop-s
 returns c = let a = c.before.before.before.before.before.before.before.before.before.before.before.before.before.before.before.before.before in
-    let l = c.before.loop in (
-      count_done (L a) (valid a) l.s l.count (omega (arith, c.loop-test, l.invariant.1.0)) l.invariant.1.2,
-      number_done (L a) (valid a) l.s l.numbers (omega (arith, c.loop-test)) l.invariant.1.1,
+    let l = c.loop-s in (
+      count_done (L a) (valid a) l.s l.count (omega (arith, c.loop-s-test, l.invariant.1.0)) l.invariant.1.2,
+      number_done (L a) (valid a) l.s l.numbers (omega (arith, c.loop-s-test)) l.invariant.1.1,
     )
 
-pub number-all-spec : {M : Type 1} → statement M
-number-all-spec =
+pub number_all_spec : {M : Type 1} → statement M
+number_all_spec =
     tie.close
     (tie.spec
-    invariant-loop
-    decreases-loop
-    cast-n
+    invariant-loop-s
+    decreases-loop-s
+    overflow_cast-n
     fill-requires
-    loop-holds
+    loop-s-init
     at-requires
-    cast-number-one
-    number-one-requires
-    add-count
-    add-s
-    loop-less
-    loop-again
-    add-s-2
-    loop-less-2
-    loop-again-2
-    same_length
-    same-length-2
-    same-length-3
-    same-length-4
+    overflow_cast-count
+    number_one-requires
+    overflow_add-count
+    overflow_add-s
+    loop-s-smaller-then-at-n
+    loop-s-preserved-then-at-n
+    overflow_add-s-else-at-n
+    loop-s-smaller
+    loop-s-preserved
+    shape_of-numbers
+    shape_of-forward
+    shape_of-backward
+    shape_of-queue
     returns)

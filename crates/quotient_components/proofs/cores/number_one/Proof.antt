@@ -13,27 +13,27 @@ use Rattle.quotient_components.proofs.cores.number_one.Tie as tie
 abbrev L : tie.Start → Lts
 L a = lts a.args.table a.args.source.now a.args.label.now a.args.target.now
 
-cast-m : tie.Need-overflow-cast-m
-cast-m c = search rules
+overflow_cast-m : tie.Need-overflow_cast-m
+overflow_cast-m c = search rules
 
-mul-reach : tie.Need-overflow-mul-reach
-mul-reach c = search rules
+offset_bounds-back_target-m : tie.Need-offset_bounds-back_target-m
+offset_bounds-back_target-m c = search rules
 
-sub-reach : tie.Need-overflow-sub-reach
-sub-reach c = omega (
+slice_bounds-reach-count : tie.Need-slice_bounds-reach-count
+slice_bounds-reach-count c = omega (
   arith,
-  c.before.before.before.before.before.before.before.before.before.before.before.requires.0.0.target_room,
+  c.requires.0.0.target_room,
 )
 
-part-reach-start : tie.Need-slice-bounds-reach-start
-part-reach-start c = c.before.before.before.before.before.before.before.before.before.before.before.requires.0.0.target_room
+slice_bounds-reach-start : tie.Need-slice_bounds-reach-start
+slice_bounds-reach-start c = c.requires.0.0.target_room
 
-part-reach-end : tie.Need-slice-bounds-reach-end
-part-reach-end c = search rules
+slice_bounds-reach-end : tie.Need-slice_bounds-reach-end
+slice_bounds-reach-end c = search rules
 
 reach-requires : tie.Need-reach-requires
 reach-requires c κs =
-    let a = c.before.before.before.before.before.before.before.before.before.before.before.before.before.before in
+    let a = c in
     let g = a.args in
     let r = a.requires.0.0 in
     let l = a.requires.1.0 in (
@@ -41,89 +41,89 @@ reach-requires c κs =
       (l.0, l.2),
     )
 
-mul-reach-back : tie.Need-overflow-mul-reach-back
-mul-reach-back c = search rules
+offset_bounds-back_label-m : tie.Need-offset_bounds-back_label-m
+offset_bounds-back_label-m c = search rules
 
-sub-reach-back : tie.Need-overflow-sub-reach-back
-sub-reach-back c =
-    let a = c.before.before.before.before.before.before.before.before.before.before.before.before.before.before.before.before.before.before.before in
-    omega (arith, a.pre.0.0.label_room)
+slice_bounds-reach_back-count : tie.Need-slice_bounds-reach_back-count
+slice_bounds-reach_back-count c =
+    let a = c in
+    omega (arith, a.requires.0.0.label_room)
 
-part-reach-back-start : tie.Need-slice-bounds-reach-back-start
-part-reach-back-start c =
-    let a = c.before.before.before.before.before.before.before.before.before.before.before.before.before.before.before.before.before.before.before in
-    a.pre.0.0.label_room
+slice_bounds-reach_back-start : tie.Need-slice_bounds-reach_back-start
+slice_bounds-reach_back-start c =
+    let a = c in
+    a.requires.0.0.label_room
 
-part-reach-back-end : tie.Need-slice-bounds-reach-back-end
-part-reach-back-end c = search rules
+slice_bounds-reach_back-end : tie.Need-slice_bounds-reach_back-end
+slice_bounds-reach_back-end c = search rules
 
-reach-back-requires : tie.Need-reach-back-requires
-reach-back-requires c κs =
-    let a = c.before.before.before.before.before.before.before.before.before.before.before.before.before.before.before.before.before.before.before.before.before.before in
-    let kept = c.before.before.before.before.before.before.before.reach.auto.1.1.1.1.1.1.1.1.0 in
+reach_back-requires : tie.Need-reach_back-requires
+reach_back-requires c κs =
+    let a = c in
+    let kept = c.reach.auto.queue in
     let g = a.args in
-    let w = a.pre.0.0 in
+    let w = a.requires.0.0 in
     let r = w.rows in
-    let l = a.pre.1.0 in (
-      (r.turned, omega (arith, a.pre.0.1, r.states)),
+    let l = a.requires.1.0 in (
+      (r.turned, omega (arith, a.requires.0.1, r.states)),
       (
         (l.1 ∙ sym r.states, omega (arith, l.2, r.states, kept)),
-        part_starts g.back-source.now g.back.m g.table.m g.back-label.now w.back_starts,
+        part_starts g.back_source.now g.back.m g.table.m g.back_label.now w.back_starts,
       ),
     )
 
 give-requires : tie.Need-give-requires
-give-requires c κs = let a = c.before.before.before.before.before.before.before.before.before.before.before.before.before.before.before.before.before.before.before.before.before.before.before.before.before.before.before.before.before.before in
-    let l = a.pre.1.0 in
-    let n = ap length a.pre.1.1.0.0 ∙ length-numbered (L a) a.args.s in (
+give-requires c κs = let a = c.before.before.before.before.before.before.before.before.before.before.before.before.before.before.before.before.before.before.before.before.before.before.before.before.before.before.before.before in
+    let l = a.requires.1.0 in
+    let n = ap length a.requires.1.1.0.0 ∙ length-numbered (L a) a.args.s in (
       omega (
         arith,
         n,
         l.0,
-        c.before.before.before.before.before.before.before.before.before.before.before.before.before.before.before.reach.auto.1.1.1.1.1.1.1.0,
+        c.reach.auto.marks,
       ),
-      omega (arith, n, l.1, c.before.before.before.before.before.before.before.reach-back.auto.1.1.1.1.1.1.1.0),
+      omega (arith, n, l.1, c.reach_back.auto.marks),
     )
 
-same_length : tie.Need-same-length
-same_length c = c.before.before.give.auto.1.1.1.0
+shape_of-numbers : tie.Need-shape_of-numbers
+shape_of-numbers c = c.give.auto.numbers
 
-same-length-2 : tie.Need-same-length-2
-same-length-2 c = c.before.before.before.before.before.before.before.before.before.before.before.before.before.before.before.before.before.before.reach.auto.1.1.1.1.1.1.1.0
+shape_of-forward : tie.Need-shape_of-forward
+shape_of-forward c = c.reach.auto.marks
 
-same-length-3 : tie.Need-same-length-3
-same-length-3 c = c.before.before.before.before.before.before.before.before.before.before.reach-back.auto.1.1.1.1.1.1.1.0
+shape_of-backward : tie.Need-shape_of-backward
+shape_of-backward c = c.reach_back.auto.marks
 
-same-length-4 : tie.Need-same-length-4
-same-length-4 c = c.before.before.before.before.before.before.before.before.before.before.reach-back.auto.1.1.1.1.1.1.1.1.0 ∙ c.before.before.before.before.before.before.before.before.before.before.before.before.before.before.before.before.before.before.reach.auto.1.1.1.1.1.1.1.1.0
+shape_of-queue : tie.Need-shape_of-queue
+shape_of-queue c = c.reach_back.auto.queue ∙ c.reach.auto.queue
 
 returns : tie.Need-returns
-returns c = let a = c.before.before.before.before.before.before.before.before.before.before.before.before.before.before.before.before.before.before.before.before.before.before.before.before.before.before.before.before.before.before.before.before.before in
-    let v = a.pre.0.0.rows.given in
+returns c = let a = c.before.before.before.before.before.before.before.before.before.before.before.before.before.before.before.before.before.before.before.before.before.before.before.before.before.before.before.before.before.before.before in
+    let v = a.requires.0.0.rows.given in
     let s = a.args.s in
-    let h = a.pre.1.1.0 in
-    number_more (L a) v s a.args.x (fresh_leads (L a) v s a.pre.0.1 a.args.numbers.now h.0 _ refl h.1)
-    a.pre.1.1.1 c.before.before.before.before.before.before.before.before.before.before.before.before.before.before.before.before.before.before.reach.new.1.1.1.1.1.1.1.0 c.before.before.before.before.before.before.before.before.before.before.reach-back.new.1.1.1.1.1.1.1.0 a.args.numbers.now
-    c.before.before.give.new.1.1.1.0 c.before.before.before.before.before.before.before.before.before.before.before.before.before.before.before.before.before.before.reach.ensures.1 (c.before.before.before.before.before.before.before.before.before.before.reach-back.ensures.1 (L a) a.pre.0.0.rows) h.0 c.before.before.give.ensures
+    let h = a.requires.1.1.0 in
+    number_more (L a) v s a.args.x (fresh_leads (L a) v s a.requires.0.1 a.args.numbers.now h.0 _ refl h.1)
+    a.requires.1.1.1 c.reach.new.marks c.reach_back.new.marks a.args.numbers.now
+    c.give.new.numbers c.reach.ensures.1 (c.reach_back.ensures.1 (L a) a.requires.0.0.rows) h.0 c.give.ensures
 
-pub number-one-spec : {M : Type 1} → statement M
-number-one-spec =
+pub number_one_spec : {M : Type 1} → statement M
+number_one_spec =
     tie.close
     (tie.spec
-    cast-m
-    mul-reach
-    sub-reach
-    part-reach-start
-    part-reach-end
+    overflow_cast-m
+    offset_bounds-back_target-m
+    slice_bounds-reach-count
+    slice_bounds-reach-start
+    slice_bounds-reach-end
     reach-requires
-    mul-reach-back
-    sub-reach-back
-    part-reach-back-start
-    part-reach-back-end
-    reach-back-requires
+    offset_bounds-back_label-m
+    slice_bounds-reach_back-count
+    slice_bounds-reach_back-start
+    slice_bounds-reach_back-end
+    reach_back-requires
     give-requires
-    same_length
-    same-length-2
-    same-length-3
-    same-length-4
+    shape_of-numbers
+    shape_of-forward
+    shape_of-backward
+    shape_of-queue
     returns)

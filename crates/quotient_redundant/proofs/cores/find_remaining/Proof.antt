@@ -6,83 +6,83 @@ use lib.Seq.{length-take-le}
 use Rattle.quotient_redundant.proofs.cores.find_remaining.Statement.{statement}
 use Rattle.quotient_redundant.proofs.cores.find_remaining.Tie as tie
 
-cast-n : tie.Need-overflow-cast-n
-cast-n c = search rules
+overflow_cast-n : tie.Need-overflow_cast-n
+overflow_cast-n c = search rules
 
-turn-rows-requires : tie.Need-turn-rows-requires
-turn-rows-requires c κs = let a = c.before.before.before.before.before.before.before.before.before.before.before.before.before.before.before.before in (a.pre.0.0, (a.pre.1.0, (a.pre.1.1.0.0, a.pre.0.1, a.pre.1.1.1.1)))
+turn_rows-back-requires : tie.Need-turn_rows-back-requires
+turn_rows-back-requires c κs = let a = c in (a.requires.0.0, (a.requires.1.0, (a.requires.1.1.0.0, a.requires.0.1, a.requires.1.1.1.1)))
 
-slice-relend-prefix-list-remaining : tie.Need-slice-relend-prefix-list-remaining
-slice-relend-prefix-list-remaining c = let h = c.before.before.before.before.before.before.before.before.before.before.before.before.before.before.before.before.before.before.before.before.before.before.before.before.before.before.before.before.before.before.before.requires.1.1.0.1 in omega (arith, h)
+slice_bounds-list_remaining-end : tie.Need-slice_bounds-list_remaining-end
+slice_bounds-list_remaining-end c = let h = c.requires.1.1.0.1 in omega (arith, h)
 
-slice-aggregate-list-remaining : tie.Need-slice-aggregate-list-remaining
-slice-aggregate-list-remaining c = let a = c.before.before.before.before.before.before.before.before.before.before.before.before.before.before.before.before.before.before.before.before.before.before.before.before.before.before.before.before.before.before.before.before in
-    sym (length-take-le a.args.table.n a.args.forward.now a.pre.1.1.0.1)
+slice_bounds-list_remaining-end-2 : tie.Need-slice_bounds-list_remaining-end-2
+slice_bounds-list_remaining-end-2 c = let a = c in
+    sym (length-take-le a.args.table.n a.args.forward.now a.requires.1.1.0.1)
 
-slice-relend-prefix-list-remaining-2 : tie.Need-slice-relend-prefix-list-remaining-2
-slice-relend-prefix-list-remaining-2 c = let h = c.before.before.before.before.before.before.before.before.before.before.before.before.before.before.before.before.before.before.before.before.before.before.before.before.before.before.before.before.before.before.before.before.requires.1.1.0.2 in omega (arith, h)
+slice_bounds-list_remaining-end-3 : tie.Need-slice_bounds-list_remaining-end-3
+slice_bounds-list_remaining-end-3 c = let h = c.requires.1.1.0.2 in omega (arith, h)
 
-slice-aggregate-list-remaining-2 : tie.Need-slice-aggregate-list-remaining-2
-slice-aggregate-list-remaining-2 c = let a = c.before.before.before.before.before.before.before.before.before.before.before.before.before.before.before.before.before.before.before.before.before.before.before.before.before.before.before.before.before.before.before.before.before in
-    sym (length-take-le a.args.table.n a.args.backward.now a.pre.1.1.0.2)
+slice_bounds-list_remaining-end-4 : tie.Need-slice_bounds-list_remaining-end-4
+slice_bounds-list_remaining-end-4 c = let a = c in
+    sym (length-take-le a.args.table.n a.args.backward.now a.requires.1.1.0.2)
 
-list-remaining-requires : tie.Need-list-remaining-requires
-list-remaining-requires c κs = let a = c.before.before.before.before.before.before.before.before.before.before.before.before.before.before.before.before.before.before.before.before.before.before.before.before.before.before.before.before.before.before.before.before.before.before in
-    let q = c.before.before.before.before.before.before.before.before.before.before.before.before.before.before.before.before.before.turn_rows in (
+list_remaining-requires : tie.Need-list_remaining-requires
+list_remaining-requires c κs = let a = c in
+    let q = c.turn_rows-back in (
       q.ensures.0,
       (
         (
-          omega (arith, a.pre.0.1, q.kept.1.1.1.1.1.1.1.0),
-          length-take-le a.args.table.n a.args.forward.now a.pre.1.1.0.1,
+          omega (arith, a.requires.0.1, q.auto.order),
+          length-take-le a.args.table.n a.args.forward.now a.requires.1.1.0.1,
         ),
         (
-          length-take-le a.args.table.n a.args.backward.now a.pre.1.1.0.2,
-          omega (arith, a.pre.1.1.1.0, q.kept.1.1.1.1.1.1.1.1.0),
+          length-take-le a.args.table.n a.args.backward.now a.requires.1.1.0.2,
+          omega (arith, a.requires.1.1.1.0, q.auto.spare),
         ),
       ),
     )
 
-same_length : tie.Need-same-length
-same_length c = c.before.before.before.before.before.before.before.before.list-remaining.auto.1.1.1.1.1.1.1.1.0 ∙ c.before.before.before.before.before.before.before.before.before.before.before.before.before.before.before.before.before.before.before.before.before.before.before.before.before.before.turn_rows.auto.1.1.1.1.1.1.1.0
+shape_of-order : tie.Need-shape_of-order
+shape_of-order c = c.list_remaining.auto.order ∙ c.turn_rows-back.auto.order
 
-same-length-2 : tie.Need-same-length-2
-same-length-2 c = c.before.before.before.before.before.before.before.before.before.before.before.before.before.before.before.before.before.before.before.before.before.before.before.before.before.before.turn_rows.auto.1.1.1.1.0
+shape_of-back_source : tie.Need-shape_of-back_source
+shape_of-back_source c = c.turn_rows-back.auto.back_source
 
-same-length-3 : tie.Need-same-length-3
-same-length-3 c = c.before.before.before.before.before.before.before.before.before.before.before.before.before.before.before.before.before.before.before.before.before.before.before.before.before.before.turn_rows.auto.1.1.1.1.1.0
+shape_of-back_label : tie.Need-shape_of-back_label
+shape_of-back_label c = c.turn_rows-back.auto.back_label
 
-same-length-4 : tie.Need-same-length-4
-same-length-4 c = c.before.before.before.before.before.before.before.before.before.before.before.before.before.before.before.before.before.before.before.before.before.before.before.before.before.before.turn_rows.auto.1.1.1.1.1.1.0
+shape_of-back_target : tie.Need-shape_of-back_target
+shape_of-back_target c = c.turn_rows-back.auto.back_target
 
-same-length-5 : tie.Need-same-length-5
-same-length-5 c = search rules
+shape_of-forward : tie.Need-shape_of-forward
+shape_of-forward c = search rules
 
-same-length-6 : tie.Need-same-length-6
-same-length-6 c = search rules
+shape_of-backward : tie.Need-shape_of-backward
+shape_of-backward c = search rules
 
-same-length-7 : tie.Need-same-length-7
-same-length-7 c = c.before.before.before.before.before.before.before.before.list-remaining.auto.1.1.1.1.1.1.1.1.1.1.1.0
-    ∙ c.before.before.before.before.before.before.before.before.before.before.before.before.before.before.before.before.before.before.before.before.before.before.before.before.before.before.turn_rows.auto.1.1.1.1.1.1.1.1.0
+shape_of-queue : tie.Need-shape_of-queue
+shape_of-queue c = c.list_remaining.auto.queue
+    ∙ c.turn_rows-back.auto.spare
 
 returns : tie.Need-returns
-returns c = c.before.before.before.before.before.before.before.before.list-remaining.ensures
+returns c = c.list_remaining.ensures
 
-pub find-remaining-spec : {M : Type 1} → statement M
-find-remaining-spec =
+pub find_remaining_spec : {M : Type 1} → statement M
+find_remaining_spec =
     tie.close
     (tie.spec
-    cast-n
-    turn-rows-requires
-    slice-relend-prefix-list-remaining
-    slice-aggregate-list-remaining
-    slice-relend-prefix-list-remaining-2
-    slice-aggregate-list-remaining-2
-    list-remaining-requires
-    same_length
-    same-length-2
-    same-length-3
-    same-length-4
-    same-length-5
-    same-length-6
-    same-length-7
+    overflow_cast-n
+    turn_rows-back-requires
+    slice_bounds-list_remaining-end
+    slice_bounds-list_remaining-end-2
+    slice_bounds-list_remaining-end-3
+    slice_bounds-list_remaining-end-4
+    list_remaining-requires
+    shape_of-order
+    shape_of-back_source
+    shape_of-back_label
+    shape_of-back_target
+    shape_of-forward
+    shape_of-backward
+    shape_of-queue
     returns)

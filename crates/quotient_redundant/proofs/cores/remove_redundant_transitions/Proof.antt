@@ -17,142 +17,142 @@ abbrev L : tie.Start → Lts
 L a = lts a.args.table a.args.source.now a.args.label.now a.args.target.now
 
 -- the rows that stay are listed
-module _ (q : tie.After-find-remaining) where
+module _ (q : tie.After-find_remaining-r) where
   abbrev count : ℕ
-  count = q.find-remaining.result
+  count = q.find_remaining-r.result
 
   abbrev order : List ℕ
-  order = q.find-remaining.last.1.1.1.1.0
+  order = q.find_remaining-r.new.order
 
-  few : count ≤ q.before.before.before.before.before.before.before.before.before.before.before.before.before.before.before.before.before.before.before.before.before.args.table.m
+  few : count ≤ q.args.table.m
   few = omega (
     arith,
-    q.find-remaining.ensures.1,
-    many-le q.before.before.before.before.before.before.before.before.before.before.before.before.before.before.before.before.before.before.before.before.before.args.table.m (remains (L q.before.before.before.before.before.before.before.before.before.before.before.before.before.before.before.before.before.before.before.before.before)),
+    q.find_remaining-r.ensures.1,
+    many-le q.args.table.m (remains (L q.before.before.before.before.before.before.before.before.before.before.before.before.before.before.before.before.before.before.before.before.before)),
   )
 
   long : count ≤ length order
   long = omega (
     arith,
     few,
-    q.before.before.before.before.before.before.before.before.before.before.before.before.before.before.before.before.before.before.before.before.before.pre.1.1.0.0,
-    q.find-remaining.kept.1.1.1.1.0,
+    q.requires.1.1.0.0,
+    q.find_remaining-r.auto.order,
   )
 
   listed : length (take count order) ≡ count
   listed = length-take-le count order long
 
-find-remaining-requires : tie.Need-find-remaining-requires
-find-remaining-requires c κs = let p = c.before.before.before.before.before.before.before.before.before.before.before.before.before.before.before.before.before.before.before.before.requires in (
+find_remaining-r-requires : tie.Need-find_remaining-r-requires
+find_remaining-r-requires c κs = let p = c.requires in (
   (p.0, p.1.1.0.0),
   ((p.1.1.0.1, p.1.1.1.0.0), ((p.1.1.1.0.1, p.1.1.1.1.0.0, p.1.1.1.1.0.1), p.1.1.1.1.1)),
 )
 
-slice-reshare-prefix-write-rows : tie.Need-slice-reshare-prefix-write-rows
-slice-reshare-prefix-write-rows c = long c.before.before.before.before.before.before.before.before.before.before.before.before.before.before
+slice_bounds-write_rows-end : tie.Need-slice_bounds-write_rows-end
+slice_bounds-write_rows-end c = long c.before.before.before.before.before.before.before.before.before.before.before.before.before.before
 
-slice-aggregate-write-rows : tie.Need-slice-aggregate-write-rows
-slice-aggregate-write-rows c = sym (listed c.before.before.before.before.before.before.before.before.before.before.before.before.before.before.before)
+slice_bounds-write_rows-end-2 : tie.Need-slice_bounds-write_rows-end-2
+slice_bounds-write_rows-end-2 c = sym (listed c.before.before.before.before.before.before.before.before.before.before.before.before.before.before)
 
-write-rows-requires : tie.Need-write-rows-requires
-write-rows-requires c κs = let p = c.before.before.before.before.before.before.before.before.before.before.before.before.before.before.before.before.before.before.before.before.before.before.before.before.before.before.before.before.before.before.before.before.before.before.before.before.before.before.before.requires.1.0 in (
+write_rows-requires : tie.Need-write_rows-requires
+write_rows-requires c κs = let p = c.requires.1.0 in (
   omega (
     arith,
-    listed c.before.before.before.before.before.before.before.before.before.before.before.before.before.before.before.before.before.before,
-    few c.before.before.before.before.before.before.before.before.before.before.before.before.before.before.before.before.before.before,
+    listed c.before.before.before.before.before.before.before.before.before.before.before.before.before.before.before.before.before,
+    few c.before.before.before.before.before.before.before.before.before.before.before.before.before.before.before.before.before,
     p.0,
   ),
   omega (
     arith,
-    listed c.before.before.before.before.before.before.before.before.before.before.before.before.before.before.before.before.before.before,
-    few c.before.before.before.before.before.before.before.before.before.before.before.before.before.before.before.before.before.before,
+    listed c.before.before.before.before.before.before.before.before.before.before.before.before.before.before.before.before.before,
+    few c.before.before.before.before.before.before.before.before.before.before.before.before.before.before.before.before.before,
     p.1,
   ),
   omega (
     arith,
-    listed c.before.before.before.before.before.before.before.before.before.before.before.before.before.before.before.before.before.before,
-    few c.before.before.before.before.before.before.before.before.before.before.before.before.before.before.before.before.before.before,
+    listed c.before.before.before.before.before.before.before.before.before.before.before.before.before.before.before.before.before,
+    few c.before.before.before.before.before.before.before.before.before.before.before.before.before.before.before.before.before,
     p.2,
   ),
 )
 
-clear-seven-requires : tie.Need-clear-seven-requires
-clear-seven-requires c κs = search rules
+clear_seven-requires : tie.Need-clear_seven-requires
+clear_seven-requires c κs = search rules
 
-same_length : tie.Need-same-length
-same_length c = c.before.before.before.before.before.before.before.before.before.before.before.before.before.before.before.before.before.before.before.before.before.before.before.before.before.before.before.before.write-rows.auto.1.1.1.1.0
+shape_of-result_source : tie.Need-shape_of-result_source
+shape_of-result_source c = c.write_rows.auto.x
 
-same-length-2 : tie.Need-same-length-2
-same-length-2 c = c.before.before.before.before.before.before.before.before.before.before.before.before.before.before.before.before.before.before.before.before.before.before.before.before.before.before.before.before.write-rows.auto.1.1.1.1.1.0
+shape_of-result_label : tie.Need-shape_of-result_label
+shape_of-result_label c = c.write_rows.auto.y
 
-same-length-3 : tie.Need-same-length-3
-same-length-3 c = c.before.before.before.before.before.before.before.before.before.before.before.before.before.before.before.before.before.before.before.before.before.before.before.before.before.before.before.before.write-rows.auto.1.1.1.1.1.1.0
+shape_of-result_target : tie.Need-shape_of-result_target
+shape_of-result_target c = c.write_rows.auto.z
 
-same-length-4 : tie.Need-same-length-4
-same-length-4 c = c.before.before.before.before.before.before.before.before.before.before.before.before.before.before.clear-seven.auto.0 ∙ c.before.before.before.before.before.before.before.before.before.before.before.before.before.before.before.before.before.before.before.before.before.before.before.before.before.before.before.before.before.before.before.before.before.before.before.before.before.before.before.before.before.before.before.before.before.before.before.find-remaining.auto.1.1.1.1.0
+shape_of-order : tie.Need-shape_of-order
+shape_of-order c = c.clear_seven.auto.a ∙ c.find_remaining-r.auto.order
 
-same-length-5 : tie.Need-same-length-5
-same-length-5 c = c.before.before.before.before.before.before.before.before.before.before.before.before.before.before.clear-seven.auto.1.0 ∙ c.before.before.before.before.before.before.before.before.before.before.before.before.before.before.before.before.before.before.before.before.before.before.before.before.before.before.before.before.before.before.before.before.before.before.before.before.before.before.before.before.before.before.before.before.before.before.before.find-remaining.auto.1.1.1.1.1.0
+shape_of-back_source : tie.Need-shape_of-back_source
+shape_of-back_source c = c.clear_seven.auto.b ∙ c.find_remaining-r.auto.back_source
 
-same-length-6 : tie.Need-same-length-6
-same-length-6 c = c.before.before.before.before.before.before.before.before.before.before.before.before.before.before.clear-seven.auto.1.1.0 ∙ c.before.before.before.before.before.before.before.before.before.before.before.before.before.before.before.before.before.before.before.before.before.before.before.before.before.before.before.before.before.before.before.before.before.before.before.before.before.before.before.before.before.before.before.before.before.before.before.find-remaining.auto.1.1.1.1.1.1.0
+shape_of-back_label : tie.Need-shape_of-back_label
+shape_of-back_label c = c.clear_seven.auto.c ∙ c.find_remaining-r.auto.back_label
 
-same-length-7 : tie.Need-same-length-7
-same-length-7 c = c.before.before.before.before.before.before.before.before.before.before.before.before.before.before.clear-seven.auto.1.1.1.0 ∙ c.before.before.before.before.before.before.before.before.before.before.before.before.before.before.before.before.before.before.before.before.before.before.before.before.before.before.before.before.before.before.before.before.before.before.before.before.before.before.before.before.before.before.before.before.before.before.before.find-remaining.auto.1.1.1.1.1.1.1.0
+shape_of-back_target : tie.Need-shape_of-back_target
+shape_of-back_target c = c.clear_seven.auto.d ∙ c.find_remaining-r.auto.back_target
 
-same-length-8 : tie.Need-same-length-8
-same-length-8 c = c.before.before.before.before.before.before.before.before.before.before.before.before.before.before.clear-seven.auto.1.1.1.1.0 ∙ c.before.before.before.before.before.before.before.before.before.before.before.before.before.before.before.before.before.before.before.before.before.before.before.before.before.before.before.before.before.before.before.before.before.before.before.before.before.before.before.before.before.before.before.before.before.before.before.find-remaining.auto.1.1.1.1.1.1.1.1.0
+shape_of-forward : tie.Need-shape_of-forward
+shape_of-forward c = c.clear_seven.auto.e ∙ c.find_remaining-r.auto.forward
 
-same-length-9 : tie.Need-same-length-9
-same-length-9 c = c.before.before.before.before.before.before.before.before.before.before.before.before.before.before.clear-seven.auto.1.1.1.1.1.0 ∙ c.before.before.before.before.before.before.before.before.before.before.before.before.before.before.before.before.before.before.before.before.before.before.before.before.before.before.before.before.before.before.before.before.before.before.before.before.before.before.before.before.before.before.before.before.before.before.before.find-remaining.auto.1.1.1.1.1.1.1.1.1.0
+shape_of-backward : tie.Need-shape_of-backward
+shape_of-backward c = c.clear_seven.auto.f ∙ c.find_remaining-r.auto.backward
 
-same-length-10 : tie.Need-same-length-10
-same-length-10 c = c.before.before.before.before.before.before.before.before.before.before.before.before.before.before.clear-seven.auto.1.1.1.1.1.1.0 ∙ c.before.before.before.before.before.before.before.before.before.before.before.before.before.before.before.before.before.before.before.before.before.before.before.before.before.before.before.before.before.before.before.before.before.before.before.before.before.before.before.before.before.before.before.before.before.before.before.find-remaining.auto.1.1.1.1.1.1.1.1.1.1.0
+shape_of-queue : tie.Need-shape_of-queue
+shape_of-queue c = c.clear_seven.auto.g ∙ c.find_remaining-r.auto.queue
 
 returns : tie.Need-returns
-returns c = let a = c.before.before.before.before.before.before.before.before.before.before.before.before.before.before.before.before.before.before.before.before.before.before.before.before.before.before.before.before.before.before.before.before.before.before.before.before.before.before.before.before.before.before.before.before.before.before.before.before.before.before.before.before.before.before.before.before.before.before.before.before.before.before.before.before.before.before.before.before in
-    let q = c.before.before.before.before.before.before.before.before.before.before.before.before.before.before.before.before.before.before.before.before.before.before.before.before.before.before.before.before.before.before.before.before.before.before.before.before.before.before.before.before.before.before.before.before.before.before.before.find-remaining in
-    let k = q.kept.1.1.1.1 in
-    let w = c.before.before.before.before.before.before.before.before.before.before.before.before.before.before.before.before.before.before.before.before.before.before.before.before.before.before.before.before.write-rows.ensures in
-    let z = c.before.before.before.before.before.before.before.before.before.before.before.before.before.before.clear-seven.ensures in (
+returns c = let a = c.before.before.before.before.before.before.before.before.before.before.before.before.before.before.before.before.before.before.before.before.before.before.before.before.before.before.before.before.before.before.before.before.before.before.before.before.before.before.before.before.before.before.before.before.before.before.before.before.before.before.before.before.before.before.before.before.before.before.before.before.before.before.before.before.before.before.before in
+    let q = c.find_remaining-r in
+    let k = q.auto.order in
+    let w = c.write_rows.ensures in
+    let z = c.clear_seven.ensures in (
       q.ensures.1 ∙ sym (remaining_count (L a)),
       (
-        remaining_over (L a) a.pre.0 _ a.args.result-source.now a.args.result-label.now a.args.result-target.now _ _ _
+        remaining_over (L a) a.requires.0 _ a.args.result_source.now a.args.result_label.now a.args.result_target.now _ _ _
             q.ensures.0 w.0 w.1.0
             w.1.1,
         (
           (
-            z.0.0 ∙ ap zeros k.0,
-            z.0.1 ∙ ap zeros k.1.0,
-            z.0.2 ∙ ap zeros k.1.1.0,
-            z.0.3 ∙ ap zeros k.1.1.1.0,
+            z.0.0 ∙ ap zeros k,
+            z.0.1 ∙ ap zeros c.find_remaining-r.auto.back_source,
+            z.0.2 ∙ ap zeros c.find_remaining-r.auto.back_label,
+            z.0.3 ∙ ap zeros c.find_remaining-r.auto.back_target,
           ),
           (
-            z.1.0 ∙ ap zeros k.1.1.1.1.0,
-            z.1.1 ∙ ap zeros k.1.1.1.1.1.0,
-            z.1.2 ∙ ap zeros k.1.1.1.1.1.1.0,
+            z.1.0 ∙ ap zeros c.find_remaining-r.auto.forward,
+            z.1.1 ∙ ap zeros c.find_remaining-r.auto.backward,
+            z.1.2 ∙ ap zeros c.find_remaining-r.auto.queue,
           ),
         ),
       ),
     )
 
-pub remove-redundant-transitions-spec : {M : Type 1} → statement M
-remove-redundant-transitions-spec =
+pub remove_redundant_transitions_spec : {M : Type 1} → statement M
+remove_redundant_transitions_spec =
     tie.close
     (tie.spec
-    find-remaining-requires
-    slice-reshare-prefix-write-rows
-    slice-aggregate-write-rows
-    write-rows-requires
-    clear-seven-requires
-    same_length
-    same-length-2
-    same-length-3
-    same-length-4
-    same-length-5
-    same-length-6
-    same-length-7
-    same-length-8
-    same-length-9
-    same-length-10
+    find_remaining-r-requires
+    slice_bounds-write_rows-end
+    slice_bounds-write_rows-end-2
+    write_rows-requires
+    clear_seven-requires
+    shape_of-result_source
+    shape_of-result_label
+    shape_of-result_target
+    shape_of-order
+    shape_of-back_source
+    shape_of-back_label
+    shape_of-back_target
+    shape_of-forward
+    shape_of-backward
+    shape_of-queue
     returns)

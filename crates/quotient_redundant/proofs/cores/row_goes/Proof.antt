@@ -13,106 +13,106 @@ use Rattle.quotient_redundant.proofs.cores.row_goes.Tie as tie
 abbrev L : tie.Start → Lts
 L a = lts a.args.table a.args.source.now a.args.label.now a.args.target.now
 
-cast-m : tie.Need-overflow-cast-m
-cast-m c = search rules
+overflow_cast-m : tie.Need-overflow_cast-m
+overflow_cast-m c = search rules
 
-mul-mark-from : tie.Need-overflow-mul-mark-from
-mul-mark-from c = search rules
+offset_bounds-back_target-m : tie.Need-offset_bounds-back_target-m
+offset_bounds-back_target-m c = search rules
 
-sub-mark-from : tie.Need-overflow-sub-mark-from
-sub-mark-from c = omega (arith, c.before.before.before.before.before.before.before.before.before.before.requires.1.0.target_room)
+slice_bounds-mark_from-count : tie.Need-slice_bounds-mark_from-count
+slice_bounds-mark_from-count c = omega (arith, c.requires.1.0.target_room)
 
-part-mark-from-start : tie.Need-slice-bounds-mark-from-start
-part-mark-from-start c = c.before.before.before.before.before.before.before.before.before.before.requires.1.0.target_room
+slice_bounds-mark_from-start : tie.Need-slice_bounds-mark_from-start
+slice_bounds-mark_from-start c = c.requires.1.0.target_room
 
-part-mark-from-end : tie.Need-slice-bounds-mark-from-end
-part-mark-from-end c = search rules
+slice_bounds-mark_from-end : tie.Need-slice_bounds-mark_from-end
+slice_bounds-mark_from-end c = search rules
 
-mark-from-requires : tie.Need-mark-from-requires
-mark-from-requires c κs = let a = c.before.before.before.before.before.before.before.before.before.before.before.before.before in
-    let l = a.pre.1.1.0 in
+mark_from-requires : tie.Need-mark_from-requires
+mark_from-requires c κs = let a = c in
+    let l = a.requires.1.1.0 in
     let g = a.args in
-    let r = a.pre.1.0 in (
-      (r.rows.given, a.pre.0, part_starts g.source.now g.table.m g.table.m g.back_target.now r.starts),
-      ((l.0, l.2), a.pre.1.1.1),
+    let r = a.requires.1.0 in (
+      (r.rows.given, a.requires.0, part_starts g.source.now g.table.m g.table.m g.back_target.now r.starts),
+      ((l.0, l.2), a.requires.1.1.1),
     )
 
-at-requires : tie.Need-at-requires
-at-requires c κs = let a = c.before.before.before.before.before.before.before.before.before.before.before.before.before.before.before.before.before.before in omega (arith, a.pre.0, a.pre.1.0.rows.given.long.target)
+at-u-requires : tie.Need-at-u-requires
+at-u-requires c κs = let a = c in omega (arith, a.requires.0, a.requires.1.0.rows.given.long.target)
 
-mul-reach-back : tie.Need-overflow-mul-reach-back
-mul-reach-back c = search rules
+offset_bounds-back_label-m : tie.Need-offset_bounds-back_label-m
+offset_bounds-back_label-m c = search rules
 
-sub-reach-back : tie.Need-overflow-sub-reach-back
-sub-reach-back c =
-    let a = c.before.before.before.before.before.before.before.before.before.before.before.before.before.before.before.before.before.before.before in
-    omega (arith, a.pre.1.0.label_room)
+slice_bounds-reach_back-count : tie.Need-slice_bounds-reach_back-count
+slice_bounds-reach_back-count c =
+    let a = c in
+    omega (arith, a.requires.1.0.label_room)
 
-part-reach-back-start : tie.Need-slice-bounds-reach-back-start
-part-reach-back-start c =
-    let a = c.before.before.before.before.before.before.before.before.before.before.before.before.before.before.before.before.before.before.before in
-    a.pre.1.0.label_room
+slice_bounds-reach_back-start : tie.Need-slice_bounds-reach_back-start
+slice_bounds-reach_back-start c =
+    let a = c in
+    a.requires.1.0.label_room
 
-part-reach-back-end : tie.Need-slice-bounds-reach-back-end
-part-reach-back-end c = search rules
+slice_bounds-reach_back-end : tie.Need-slice_bounds-reach_back-end
+slice_bounds-reach_back-end c = search rules
 
-reach-back-requires : tie.Need-reach-back-requires
-reach-back-requires c κs = let a = c.before.before.before.before.before.before.before.before.before.before.before.before.before.before.before.before.before.before.before.before.before.before in
+reach_back-requires : tie.Need-reach_back-requires
+reach_back-requires c κs = let a = c in
     let g = a.args in
-    let w = a.pre.1.0 in
+    let w = a.requires.1.0 in
     let r = w.rows in
-    let kept = c.before.before.before.before.before.before.before.before.mark-from.auto.1.1.1.1.1.1.1.0 in
-    let l = a.pre.1.1.0 in (
-      (r.turned, omega (arith, c.before.before.before.at.ensures.0, (r.given.fields a.args.i a.pre.0).target, r.states)),
+    let kept = c.mark_from.auto.queue in
+    let l = a.requires.1.1.0 in (
+      (r.turned, omega (arith, c.at-u.ensures.0, (r.given.fields a.args.i a.requires.0).target, r.states)),
       (
         (l.1 ∙ sym r.states, omega (arith, l.2, r.states, kept)),
-        part_starts g.back-source.now g.back.m g.table.m g.back-label.now w.back_starts,
+        part_starts g.back_source.now g.back.m g.table.m g.back_label.now w.back_starts,
       ),
     )
 
-is-redundant-transition-requires : tie.Need-is-redundant-transition-requires
-is-redundant-transition-requires c κs = let a = c.before.before.before.before.before.before.before.before.before.before.before.before.before.before.before.before.before.before.before.before.before.before.before.before.before.before.before.before.before in (
-  (a.pre.1.0.rows.given, a.pre.0),
+is_redundant_transition-requires : tie.Need-is_redundant_transition-requires
+is_redundant_transition-requires c κs = let a = c.before.before.before.before.before.before.before.before.before.before.before.before.before.before.before.before.before.before.before.before.before.before.before.before.before.before.before in (
+  (a.requires.1.0.rows.given, a.requires.0),
   (
-    c.before.before.before.before.before.before.before.before.before.before.before.before.before.before.before.mark-from.ensures,
-    c.before.before.before.before.before.before.reach-back.ensures.1 (L a) a.pre.1.0.rows ∙ ap (λ (x : ℕ). marks_into (L a) x)
-        c.before.before.before.before.before.before.before.before.before.before.at.ensures.0,
+    c.mark_from.ensures,
+    c.reach_back.ensures.1 (L a) a.requires.1.0.rows ∙ ap (λ (x : ℕ). marks_into (L a) x)
+        c.at-u.ensures.0,
   ),
 )
 
-same_length : tie.Need-same-length
-same_length c = c.before.before.before.before.before.before.before.before.before.before.before.before.before.before.before.before.mark-from.auto.1.1.1.1.1.1.0
+shape_of-forward : tie.Need-shape_of-forward
+shape_of-forward c = c.mark_from.auto.forward
 
-same-length-2 : tie.Need-same-length-2
-same-length-2 c = c.before.before.before.before.before.before.before.reach-back.auto.1.1.1.1.1.1.1.0
+shape_of-backward : tie.Need-shape_of-backward
+shape_of-backward c = c.reach_back.auto.marks
 
-same-length-3 : tie.Need-same-length-3
-same-length-3 c = c.before.before.before.before.before.before.before.reach-back.auto.1.1.1.1.1.1.1.1.0 ∙ c.before.before.before.before.before.before.before.before.before.before.before.before.before.before.before.before.mark-from.auto.1.1.1.1.1.1.1.0
+shape_of-queue : tie.Need-shape_of-queue
+shape_of-queue c = c.reach_back.auto.queue ∙ c.mark_from.auto.queue
 
 returns : tie.Need-returns
 returns c = (
-  c.is-redundant-transition.ensures,
-  c.before.before.before.before.before.before.before.before.before.before.before.before.before.before.before.before.mark-from.ensures,
+  c.is_redundant_transition.ensures,
+  c.mark_from.ensures,
 )
 
-pub row-goes-spec : {M : Type 1} → statement M
-row-goes-spec =
+pub row_goes_spec : {M : Type 1} → statement M
+row_goes_spec =
     tie.close
     (tie.spec
-    cast-m
-    mul-mark-from
-    sub-mark-from
-    part-mark-from-start
-    part-mark-from-end
-    mark-from-requires
-    at-requires
-    mul-reach-back
-    sub-reach-back
-    part-reach-back-start
-    part-reach-back-end
-    reach-back-requires
-    is-redundant-transition-requires
-    same_length
-    same-length-2
-    same-length-3
+    overflow_cast-m
+    offset_bounds-back_target-m
+    slice_bounds-mark_from-count
+    slice_bounds-mark_from-start
+    slice_bounds-mark_from-end
+    mark_from-requires
+    at-u-requires
+    offset_bounds-back_label-m
+    slice_bounds-reach_back-count
+    slice_bounds-reach_back-start
+    slice_bounds-reach_back-end
+    reach_back-requires
+    is_redundant_transition-requires
+    shape_of-forward
+    shape_of-backward
+    shape_of-queue
     returns)

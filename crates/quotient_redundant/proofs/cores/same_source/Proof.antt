@@ -5,11 +5,11 @@ use Rattle.columns.proofs.Bools.{contra}
 use Rattle.quotient_redundant.proofs.cores.same_source.Statement.{statement}
 use Rattle.quotient_redundant.proofs.cores.same_source.Tie as tie
 
-returns : tie.Need-returns
-returns c = λ e. absurd (contra e refl)
+returns-then-i-eq0 : tie.Need-returns-then-i-eq0
+returns-then-i-eq0 c = λ e. absurd (contra e refl)
 
-sub_at : tie.Need-overflow-sub-at
-sub_at c = search rules
+overflow_sub-i : tie.Need-overflow_sub-i
+overflow_sub-i c = search rules
 
 at-requires : tie.Need-at-requires
 at-requires c κs = search rules
@@ -17,11 +17,11 @@ at-requires c κs = search rules
 at-requires-2 : tie.Need-at-requires-2
 at-requires-2 c κs = search rules
 
-returns-2 : tie.Need-returns-2
-returns-2 c = search rules
+returns-then-at : tie.Need-returns-then-at
+returns-then-at c = search rules
 
-returns-3 : tie.Need-returns-3
-returns-3 c = λ e. absurd (contra e refl)
+returns-else-at : tie.Need-returns-else-at
+returns-else-at c = λ e. absurd (contra e refl)
 
-pub same-source-spec : {M : Type 1} → statement M
-same-source-spec = tie.close (tie.spec returns sub_at at-requires at-requires-2 returns-2 returns-3)
+pub same_source_spec : {M : Type 1} → statement M
+same_source_spec = tie.close (tie.spec returns-then-i-eq0 overflow_sub-i at-requires at-requires-2 returns-then-at returns-else-at)

@@ -11,34 +11,34 @@ use Rattle.signatures.proofs.cores.marked.Tie as tie
 at-requires : tie.Need-at-requires
 at-requires c κs = search rules
 
+at-split-requires : tie.Need-at-split-requires
+at-split-requires c κs = search rules
+
 at-requires-2 : tie.Need-at-requires-2
 at-requires-2 c κs = search rules
 
-at-requires-3 : tie.Need-at-requires-3
-at-requires-3 c κs = search rules
-
 -- the block's marked_split as it is read
-split : (q : tie.After-at3) → q.before.at2.result ≡ get_or q.before.before.before.before.before.before.args.marked_split_lem.now
-    (get_or q.before.before.before.before.before.before.args.element_to_block.now
-    q.before.before.before.before.before.before.args.u 0) 0
-split q = q.before.at2.ensures.0 ∙ ap (λ (b : ℕ). get_or q.before.before.before.before.before.before.args.marked_split_lem.now b 0)
-    q.before.before.at.ensures.0
+split : (q : tie.After-at-2) → q.at-split.result ≡ get_or q.args.marked_split.now
+    (get_or q.args.element_to_block.now
+    q.args.u 0) 0
+split q = q.at-split.ensures.0 ∙ ap (λ (b : ℕ). get_or q.args.marked_split.now b 0)
+    q.at.ensures.0
 
-returns : tie.Need-returns
+returns-then-at-split : tie.Need-returns-then-at-split
 unfolding marked_by
-returns c =
-    let a = c.before.before.before.before.before.before.before.args in
+returns-then-at-split c =
+    let a = c.args in
     simp
-    (lt-ltb (get_or a.element_offset.now a.u 0) (get_or a.marked_split_lem.now (get_or a.element_to_block.now a.u 0) 0)
-    (omega (arith, c.if1.true, c.before.at3.ensures.0, split c.before)))
+    (lt-ltb (get_or a.element_offset.now a.u 0) (get_or a.marked_split.now (get_or a.element_to_block.now a.u 0) 0)
+    (omega (arith, c.if-at-split.true, c.at-2.ensures.0, split c.before)))
 
-returns-2 : tie.Need-returns-2
+returns-else-at-split : tie.Need-returns-else-at-split
 unfolding marked_by
-returns-2 c =
-    let a = c.before.before.before.before.before.before.before.args in
+returns-else-at-split c =
+    let a = c.args in
     simp
-    (le-ltb (get_or a.element_offset.now a.u 0) (get_or a.marked_split_lem.now (get_or a.element_to_block.now a.u 0) 0)
-    (omega (arith, c.if1.false, c.before.at3.ensures.0, split c.before)))
+    (le-ltb (get_or a.element_offset.now a.u 0) (get_or a.marked_split.now (get_or a.element_to_block.now a.u 0) 0)
+    (omega (arith, c.if-at-split.false, c.at-2.ensures.0, split c.before)))
 
-pub marked-spec : {M : Type 1} → statement M
-marked-spec = tie.close (tie.spec at-requires at-requires-2 at-requires-3 returns returns-2)
+pub marked_spec : {M : Type 1} → statement M
+marked_spec = tie.close (tie.spec at-requires at-split-requires at-requires-2 returns-then-at-split returns-else-at-split)

@@ -15,8 +15,8 @@ use Rattle.signatures.proofs.cores.push_inductive.Tie as tie
 use Rattle.table.specs.Lts.{Lts, lts, Valid}
 use Rattle.table.proofs.Stretches.{rising}
 
-abbrev invariant-loop : tie.invariant-loop
-invariant-loop source label target element_offset element_to_block marked_split_lem state state-to-key pushed-labels₀ pushed-blocks₀ m tau_hat_lem b i₀
+abbrev invariant-loop-i : tie.invariant-loop-i
+invariant-loop-i source label target element_offset element_to_block marked_split_lem state state-to-key pushed-labels₀ pushed-blocks₀ m tau_hat_lem b i₀
     end d₀ pushed-labels pushed-blocks i d =
     Pushing []
     (λ k.
@@ -24,74 +24,74 @@ invariant-loop source label target element_offset element_to_block marked_split_
     (tau_hat_lem, get_or state-to-key (get_or target k 0) 0) (get_or label k 0, get_or element_to_block (get_or target k 0) 0))
     (λ k. eqb (get_or source k 0) state) i₀ end pushed-labels₀ pushed-blocks₀ i d pushed-labels pushed-blocks
 
-abbrev decreases-loop : tie.decreases-loop
-decreases-loop source label target element_offset element_to_block marked_split_lem state state-to-key pushed-labels₀ pushed-blocks₀ m tau_hat_lem b i₀ end
+abbrev decreases-loop-i : tie.decreases-loop-i
+decreases-loop-i source label target element_offset element_to_block marked_split_lem state state-to-key pushed-labels₀ pushed-blocks₀ m tau_hat_lem b i₀ end
     d₀ pushed-labels pushed-blocks i d =
     end - i
 
 -- the table that is lent
-abbrev L : tie.Start invariant-loop decreases-loop → Lts
+abbrev L : tie.Start invariant-loop-i decreases-loop-i → Lts
 L a = lts a.args.table a.args.source.now a.args.label.now a.args.target.now
 
-valid : (a : tie.Start invariant-loop decreases-loop) → Valid (L a)
+valid : (a : tie.Start invariant-loop-i decreases-loop-i) → Valid (L a)
 valid a = a.requires.0.0
 
-cast-m : tie.Need-overflow-cast-m invariant-loop decreases-loop
-cast-m c = search rules
+overflow_cast-m : tie.Need-overflow_cast-m invariant-loop-i decreases-loop-i
+overflow_cast-m c = search rules
 
-at-requires : tie.Need-at-requires invariant-loop decreases-loop
-at-requires c κs = search rules
+at-b-requires : tie.Need-at-b-requires invariant-loop-i decreases-loop-i
+at-b-requires c κs = search rules
 
-rows-of-requires : tie.Need-rows-of-requires invariant-loop decreases-loop
-rows-of-requires c κs = (
+rows_of-rows-requires : tie.Need-rows_of-rows-requires invariant-loop-i decreases-loop-i
+rows_of-rows-requires c κs = (
   (valid c.before.before.before.before.before.before.before.before.before.before.before).long.source,
   rising (L c.before.before.before.before.before.before.before.before.before.before.before)
       (valid c.before.before.before.before.before.before.before.before.before.before.before),
   omega (
     arith,
-    c.before.before.before.before.before.before.before.before.before.before.before.requires.0.1,
+    c.requires.0.1,
     (valid c.before.before.before.before.before.before.before.before.before.before.before).few_states,
   ),
 )
 
 -- the rows of the state
-from : (q : tie.After-rows-of invariant-loop decreases-loop) → RowsFrom
+from : (q : tie.After-rows_of-rows invariant-loop-i decreases-loop-i) → RowsFrom
     (L q.before.before.before.before.before.before.before.before.before.before.before.before)
-    q.before.before.before.before.before.before.before.before.before.before.before.before.args.state
-    q.rows_of_lem.result.first q.rows_of_lem.result.end
+    q.args.state
+    q.rows_of-rows.result.first q.rows_of-rows.result.end
 from q = rows_from (L q.before.before.before.before.before.before.before.before.before.before.before.before)
     (valid q.before.before.before.before.before.before.before.before.before.before.before.before)
-    q.before.before.before.before.before.before.before.before.before.before.before.before.args.state _ _
-    q.rows_of_lem.ensures.0 q.rows_of_lem.ensures.1
+    q.args.state _ _
+    q.rows_of-rows.ensures.0 q.rows_of-rows.ensures.1
 
-loop-holds : tie.Need-loop-init invariant-loop decreases-loop
-loop-holds c = push_start _ _ _ _ _ _ _ 0 (pairs-none _ _) (from c).up (from c).before
+loop-i-init : tie.Need-loop-i-init invariant-loop-i decreases-loop-i
+loop-i-init c = push_start _ _ _ _ _ _ _ 0 (pairs-none _ _) (from c).up (from c).before
 
 -- a row of the state, and its target
-below : (q : tie.In-loop invariant-loop decreases-loop) → q.before.loop.i
-    < q.before.before.before.before.before.before.before.before.before.before.before.before.before.before.args.table.m
-below q = omega (arith, (from q.before.before).most, q.loop-test)
+below : (q : tie.In-loop-i invariant-loop-i decreases-loop-i) → q.loop-i.i
+    < q.args.table.m
+below q = omega (arith, (from q.before.before).most, q.loop-i-test)
 
-at-requires-2 : tie.Need-at-requires-2 invariant-loop decreases-loop
-at-requires-2 c κs = omega (
+at-u-requires : tie.Need-at-u-requires invariant-loop-i decreases-loop-i
+at-u-requires c κs = omega (
   arith,
   below c,
   (valid
       c.before.before.before.before.before.before.before.before.before.before.before.before.before.before).long.target,
 )
 
-known : (q : tie.After-at2 invariant-loop decreases-loop) → q.at2.result
-    < q.before.before.before.before.before.before.before.before.before.before.before.before.before.before.before.args.table.n
+known : (q : tie.After-at-u invariant-loop-i decreases-loop-i) → q.at-u.result
+    < q.args.table.n
 known q = omega (
   arith,
-  q.at2.ensures.0,
+  q.at-u.ensures.0,
   ((valid
       q.before.before.before.before.before.before.before.before.before.before.before.before.before.before.before).fields
-      q.before.before.loop.i (below q.before)).target,
+      q.loop-i.i (below q.before)).target,
 )
 
-hidden-in-requires : tie.Need-hidden-in-requires invariant-loop decreases-loop
-hidden-in-requires c κs =
+hidden_in-stays-requires : tie.Need-hidden_in-stays-requires invariant-loop-i decreases-loop-i
+hidden_in-stays-requires c κs =
     let v = valid
     c.before.before.before.before.before.before.before.before.before.before.before.before.before.before.before in (
       omega (arith, below c.before, v.long.label),
@@ -99,203 +99,203 @@ hidden-in-requires c κs =
       omega (
         arith,
         known c,
-        c.at2.ensures.0,
-        c.before.before.before.before.before.before.before.before.before.before.before.before.before.before.before.requires.1.0.1,
+        c.at-u.ensures.0,
+        c.requires.1.0.1,
       ),
     )
 
-marked-requires : tie.Need-marked-requires invariant-loop decreases-loop
+marked-requires : tie.Need-marked-requires invariant-loop-i decreases-loop-i
 marked-requires c κs =
-    let p = c.before.before.before.before.before.before.before.before.before.before.before.before.before.before.before.before.requires.1 in (
+    let p = c.requires.1 in (
       omega (arith, known c.before, p.0.0),
       omega (arith, known c.before, p.0.1),
-      p.1.0 c.before.at2.result (known c.before),
+      p.1.0 c.at-u.result (known c.before),
     )
 
-mul-either : tie.Need-overflow-mul-either invariant-loop decreases-loop
-mul-either c = omega (
+offset_bounds-label-i : tie.Need-offset_bounds-label-i invariant-loop-i decreases-loop-i
+offset_bounds-label-i c = omega (
   arith,
   below c.before.before.before,
   (valid c.before.before.before.before.before.before.before.before.before.before.before.before.before.before.before.before.before).few_rows,
 )
 
-shared-slice-read-either : tie.Need-shared-slice-read-either invariant-loop decreases-loop
-shared-slice-read-either c = omega (
+bounds-label-i : tie.Need-bounds-label-i invariant-loop-i decreases-loop-i
+bounds-label-i c = omega (
   arith,
   below c.before.before.before.before,
   (valid c.before.before.before.before.before.before.before.before.before.before.before.before.before.before.before.before.before.before).long.label,
 )
 
-either-requires : tie.Need-either-requires invariant-loop decreases-loop
+either-requires : tie.Need-either-requires invariant-loop-i decreases-loop-i
 either-requires c κs = search rules
 
-mul-pushed-labels : tie.Need-overflow-mul-pushed-labels invariant-loop decreases-loop
-mul-pushed-labels c = omega (
+offset_bounds-pushed_labels-d : tie.Need-offset_bounds-pushed_labels-d invariant-loop-i decreases-loop-i
+offset_bounds-pushed_labels-d c = omega (
   arith,
   below c.before.before.before.before.before,
   (valid c.before.before.before.before.before.before.before.before.before.before.before.before.before.before.before.before.before.before.before).few_rows,
-  c.before.before.before.before.before.before.loop.invariant.count,
+  c.loop-i.invariant.count,
 )
 
-slice-write-pushed-labels : tie.Need-slice-write-pushed-labels invariant-loop decreases-loop
-slice-write-pushed-labels c = omega (
+bounds-pushed_labels-d : tie.Need-bounds-pushed_labels-d invariant-loop-i decreases-loop-i
+bounds-pushed_labels-d c = omega (
   arith,
   below c.before.before.before.before.before,
-  c.before.before.before.before.before.before.loop.invariant.count,
-  c.before.before.before.before.before.before.loop.invariant.left,
-  c.before.before.before.before.before.before.before.before.before.before.before.before.before.before.before.before.before.before.before.requires.1.1.1.0,
+  c.loop-i.invariant.count,
+  c.loop-i.invariant.left,
+  c.requires.1.1.1.0,
 )
 
-mul-either-2 : tie.Need-overflow-mul-either-2 invariant-loop decreases-loop
-mul-either-2 c = omega (
+offset_bounds-state_to_key-u : tie.Need-offset_bounds-state_to_key-u invariant-loop-i decreases-loop-i
+offset_bounds-state_to_key-u c = omega (
   arith,
   known c.before.before.before.before,
   (valid c.before.before.before.before.before.before.before.before.before.before.before.before.before.before.before.before.before.before.before).few_states,
 )
 
-shared-slice-read-either-2 : tie.Need-shared-slice-read-either-2 invariant-loop decreases-loop
-shared-slice-read-either-2 c = omega (
+bounds-state_to_key-u : tie.Need-bounds-state_to_key-u invariant-loop-i decreases-loop-i
+bounds-state_to_key-u c = omega (
   arith,
   known c.before.before.before.before.before,
-  c.before.before.before.before.before.before.before.before.before.before.before.before.before.before.before.before.before.before.before.before.requires.0.2,
+  c.requires.0.2,
 )
 
-mul-either-3 : tie.Need-overflow-mul-either-3 invariant-loop decreases-loop
-mul-either-3 c = omega (
+offset_bounds-element_to_block-u : tie.Need-offset_bounds-element_to_block-u invariant-loop-i decreases-loop-i
+offset_bounds-element_to_block-u c = omega (
   arith,
   known c.before.before.before.before.before,
   (valid c.before.before.before.before.before.before.before.before.before.before.before.before.before.before.before.before.before.before.before.before).few_states,
 )
 
-shared-slice-read-either-3 : tie.Need-shared-slice-read-either-3 invariant-loop decreases-loop
-shared-slice-read-either-3 c = omega (
+bounds-element_to_block-u : tie.Need-bounds-element_to_block-u invariant-loop-i decreases-loop-i
+bounds-element_to_block-u c = omega (
   arith,
   known c.before.before.before.before.before.before,
-  c.before.before.before.before.before.before.before.before.before.before.before.before.before.before.before.before.before.before.before.before.before.requires.1.0.1,
+  c.requires.1.0.1,
 )
 
-either-requires-2 : tie.Need-either-requires-2 invariant-loop decreases-loop
-either-requires-2 c κs = search rules
+either-requires-in-loop-i : tie.Need-either-requires-in-loop-i invariant-loop-i decreases-loop-i
+either-requires-in-loop-i c κs = search rules
 
-mul-pushed-blocks : tie.Need-overflow-mul-pushed-blocks invariant-loop decreases-loop
-mul-pushed-blocks c = omega (
+offset_bounds-pushed_blocks-d : tie.Need-offset_bounds-pushed_blocks-d invariant-loop-i decreases-loop-i
+offset_bounds-pushed_blocks-d c = omega (
   arith,
   below c.before.before.before.before.before.before.before.before,
   (valid c.before.before.before.before.before.before.before.before.before.before.before.before.before.before.before.before.before.before.before.before.before.before).few_rows,
-  c.before.before.before.before.before.before.before.before.before.loop.invariant.count,
+  c.loop-i.invariant.count,
 )
 
-slice-write-pushed-blocks : tie.Need-slice-write-pushed-blocks invariant-loop decreases-loop
-slice-write-pushed-blocks c = omega (
+bounds-pushed_blocks-d : tie.Need-bounds-pushed_blocks-d invariant-loop-i decreases-loop-i
+bounds-pushed_blocks-d c = omega (
   arith,
   below c.before.before.before.before.before.before.before.before,
-  c.before.before.before.before.before.before.before.before.before.loop.invariant.count,
-  c.before.before.before.before.before.before.before.before.before.loop.invariant.right,
-  c.before.before.before.before.before.before.before.before.before.before.before.before.before.before.before.before.before.before.before.before.before.before.requires.1.1.1.1,
+  c.loop-i.invariant.count,
+  c.loop-i.invariant.right,
+  c.requires.1.1.1.1,
 )
 
-add-d : tie.Need-overflow-add-d invariant-loop decreases-loop
-add-d c = omega (
-  arith,
-  below c.before.before.before.before.before.before.before.before,
-  (valid c.before.before.before.before.before.before.before.before.before.before.before.before.before.before.before.before.before.before.before.before.before.before).few_rows,
-  c.before.before.before.before.before.before.before.before.before.loop.invariant.count,
-)
-
-add-i : tie.Need-overflow-add-i invariant-loop decreases-loop
-add-i c = omega (
+overflow_add-d : tie.Need-overflow_add-d invariant-loop-i decreases-loop-i
+overflow_add-d c = omega (
   arith,
   below c.before.before.before.before.before.before.before.before,
   (valid c.before.before.before.before.before.before.before.before.before.before.before.before.before.before.before.before.before.before.before.before.before.before).few_rows,
+  c.loop-i.invariant.count,
 )
 
-loop-less : tie.Need-loop-smaller invariant-loop decreases-loop
-loop-less c = omega (arith, c.before.before.before.before.before.before.before.before.loop-test)
+overflow_add-i : tie.Need-overflow_add-i invariant-loop-i decreases-loop-i
+overflow_add-i c = omega (
+  arith,
+  below c.before.before.before.before.before.before.before.before,
+  (valid c.before.before.before.before.before.before.before.before.before.before.before.before.before.before.before.before.before.before.before.before.before.before).few_rows,
+)
 
-loop-again : tie.Need-loop-preserved invariant-loop decreases-loop
-loop-again c =
-    let a = c.before.before.before.before.before.before.before.before.before.before.before.before.before.before.before.before.before.before.before.before.before.before.args in
-    let l = c.before.before.before.before.before.before.before.before.before.loop in
-    let e = c.before.before.before.before.before.before.before.at2.ensures.0 in
-    push_more _ _ _ _ _ _ _ _ _ _ _ l.invariant (omega (arith, c.before.before.before.before.before.before.before.before.loop-test))
-    c.before.before.before.either.result c.either2.result
+loop-i-smaller : tie.Need-loop-i-smaller invariant-loop-i decreases-loop-i
+loop-i-smaller c = omega (arith, c.loop-i-test)
+
+loop-i-preserved : tie.Need-loop-i-preserved invariant-loop-i decreases-loop-i
+loop-i-preserved c =
+    let a = c.args in
+    let l = c.loop-i in
+    let e = c.at-u.ensures.0 in
+    push_more _ _ _ _ _ _ _ _ _ _ _ l.invariant (omega (arith, c.loop-i-test))
+    c.either.result c.either-in-loop-i.result
     ((from c.before.before.before.before.before.before.before.before.before.before).own l.i l.invariant.low
-    (omega (arith, c.before.before.before.before.before.before.before.before.loop-test)))
-    (keyed_either a.state-to-key.now a.element_to_block.now _ _
-    c.before.before.before.before.before.before.before.at2.result _ _ _
-    (c.before.before.before.before.before.before.hidden-in.result && c.before.before.before.before.before.marked.result) _ e
-    (ap₂ ◌&&◌ c.before.before.before.before.before.before.hidden-in.ensures
-    (c.before.before.before.before.before.marked.ensures ∙
-    ap (marked_by a.element_offset.now a.element_to_block.now a.marked_split_lem.now) e))
-    c.before.before.before.either.ensures c.either2.ensures)
+    (omega (arith, c.loop-i-test)))
+    (keyed_either a.state_to_key.now a.element_to_block.now _ _
+    c.at-u.result _ _ _
+    (c.hidden_in-stays.result && c.marked.result) _ e
+    (ap₂ ◌&&◌ c.hidden_in-stays.ensures
+    (c.marked.ensures ∙
+    ap (marked_by a.element_offset.now a.element_to_block.now a.marked_split.now) e))
+    c.either.ensures c.either-in-loop-i.ensures)
     (omega (
       arith,
       below c.before.before.before.before.before.before.before.before,
       l.invariant.count,
       l.invariant.left,
-      c.before.before.before.before.before.before.before.before.before.before.before.before.before.before.before.before.before.before.before.before.before.before.requires.1.1.1.0,
+      c.requires.1.1.1.0,
     ))
     (omega (
       arith,
       below c.before.before.before.before.before.before.before.before,
       l.invariant.count,
       l.invariant.right,
-      c.before.before.before.before.before.before.before.before.before.before.before.before.before.before.before.before.before.before.before.before.before.before.requires.1.1.1.1,
+      c.requires.1.1.1.1,
     ))
 
-same_length : tie.Need-same-length invariant-loop decreases-loop
-same_length c = c.before.loop.invariant.left
+shape_of-pushed_labels : tie.Need-shape_of-pushed_labels invariant-loop-i decreases-loop-i
+shape_of-pushed_labels c = c.loop-i.invariant.left
 
-same-length-2 : tie.Need-same-length-2 invariant-loop decreases-loop
-same-length-2 c = c.before.loop.invariant.right
+shape_of-pushed_blocks : tie.Need-shape_of-pushed_blocks invariant-loop-i decreases-loop-i
+shape_of-pushed_blocks c = c.loop-i.invariant.right
 
-returns : tie.Need-returns invariant-loop decreases-loop
+returns : tie.Need-returns invariant-loop-i decreases-loop-i
 unfolding inductive_pushed own_rows keyed_at row_pair
 returns c =
-    let a = c.before.before.before.before.before.before.before.before.before.before.before.before.before.before.args in
+    let a = c.args in
     let f = from c.before.before in (
-      push_done _ _ _ _ _ _ _ _ _ _ _ c.before.loop.invariant a.table.m (omega (arith, c.loop-test)) f.most f.after
+      push_done _ _ _ _ _ _ _ _ _ _ _ c.loop-i.invariant a.table.m (omega (arith, c.loop-i-test)) f.most f.after
           ∙ ap (λ (b : ℕ).
           map
           (keyed_at (L c.before.before.before.before.before.before.before.before.before.before.before.before.before.before)
-          a.element_to_block.now (marked_by a.element_offset.now a.element_to_block.now a.marked_split_lem.now)
-          a.state-to-key.now b)
+          a.element_to_block.now (marked_by a.element_offset.now a.element_to_block.now a.marked_split.now)
+          a.state_to_key.now b)
           (own_rows (L c.before.before.before.before.before.before.before.before.before.before.before.before.before.before)
           a.state))
-          c.before.before.before.at.ensures.0,
-      omega (arith, f.most, c.before.loop.invariant.high, c.before.loop.invariant.count),
-      push_behind _ _ _ _ _ _ _ _ _ _ _ c.before.loop.invariant,
+          c.at-b.ensures.0,
+      omega (arith, f.most, c.loop-i.invariant.high, c.loop-i.invariant.count),
+      push_behind _ _ _ _ _ _ _ _ _ _ _ c.loop-i.invariant,
     )
 
-pub push-inductive-spec : {M : Type 1} → statement M
-push-inductive-spec =
+pub push_inductive_spec : {M : Type 1} → statement M
+push_inductive_spec =
     tie.close
     (tie.spec
-    invariant-loop
-    decreases-loop
-    cast-m
-    at-requires
-    rows-of-requires
-    loop-holds
-    at-requires-2
-    hidden-in-requires
+    invariant-loop-i
+    decreases-loop-i
+    overflow_cast-m
+    at-b-requires
+    rows_of-rows-requires
+    loop-i-init
+    at-u-requires
+    hidden_in-stays-requires
     marked-requires
-    mul-either
-    shared-slice-read-either
+    offset_bounds-label-i
+    bounds-label-i
     either-requires
-    mul-pushed-labels
-    slice-write-pushed-labels
-    mul-either-2
-    shared-slice-read-either-2
-    mul-either-3
-    shared-slice-read-either-3
-    either-requires-2
-    mul-pushed-blocks
-    slice-write-pushed-blocks
-    add-d
-    add-i
-    loop-less
-    loop-again
-    same_length
-    same-length-2
+    offset_bounds-pushed_labels-d
+    bounds-pushed_labels-d
+    offset_bounds-state_to_key-u
+    bounds-state_to_key-u
+    offset_bounds-element_to_block-u
+    bounds-element_to_block-u
+    either-requires-in-loop-i
+    offset_bounds-pushed_blocks-d
+    bounds-pushed_blocks-d
+    overflow_add-d
+    overflow_add-i
+    loop-i-smaller
+    loop-i-preserved
+    shape_of-pushed_labels
+    shape_of-pushed_blocks
     returns)

@@ -12,157 +12,157 @@ use Rattle.signatures.proofs.cores.push_strong.Tie as tie
 use Rattle.table.specs.Lts.{Lts, lts}
 use Rattle.table.proofs.Stretches.{rising}
 
-abbrev invariant-loop : tie.invariant-loop
-invariant-loop source label target element_to_block state pushed-labels₀ pushed-blocks₀ m i₀ end d₀ pushed-labels pushed-blocks i d =
+abbrev invariant-loop-i : tie.invariant-loop-i
+invariant-loop-i source label target element_to_block state pushed-labels₀ pushed-blocks₀ m i₀ end d₀ pushed-labels pushed-blocks i d =
     Pushing [] (λ k. (get_or label k 0, get_or element_to_block (get_or target k 0) 0)) (λ k. eqb (get_or source k 0) state) i₀ end pushed-labels₀
     pushed-blocks₀ i d pushed-labels pushed-blocks
 
-abbrev decreases-loop : tie.decreases-loop
-decreases-loop source label target element_to_block state pushed-labels₀ pushed-blocks₀ m i₀ end d₀ pushed-labels pushed-blocks i d =
+abbrev decreases-loop-i : tie.decreases-loop-i
+decreases-loop-i source label target element_to_block state pushed-labels₀ pushed-blocks₀ m i₀ end d₀ pushed-labels pushed-blocks i d =
     end - i
 
 -- the table that is lent
-abbrev L : tie.Start invariant-loop decreases-loop → Lts
+abbrev L : tie.Start invariant-loop-i decreases-loop-i → Lts
 L a = lts a.args.table a.args.source.now a.args.label.now a.args.target.now
 
-cast-m : tie.Need-overflow-cast-m invariant-loop decreases-loop
-cast-m c = search rules
+overflow_cast-m : tie.Need-overflow_cast-m invariant-loop-i decreases-loop-i
+overflow_cast-m c = search rules
 
-rows-of-requires : tie.Need-rows-of-requires invariant-loop decreases-loop
-rows-of-requires c κs = (
-  c.before.before.before.before.before.before.before.requires.0.0.long.source,
+rows_of-rows-requires : tie.Need-rows_of-rows-requires invariant-loop-i decreases-loop-i
+rows_of-rows-requires c κs = (
+  c.requires.0.0.long.source,
   rising (L c.before.before.before.before.before.before.before)
-      c.before.before.before.before.before.before.before.requires.0.0,
+      c.requires.0.0,
   omega (
     arith,
-    c.before.before.before.before.before.before.before.requires.0.1,
-    c.before.before.before.before.before.before.before.requires.0.0.few_states,
+    c.requires.0.1,
+    c.requires.0.0.few_states,
   ),
 )
 
 -- the rows of the state
-from : (q : tie.After-rows-of invariant-loop decreases-loop) → RowsFrom (L q.before.before.before.before.before.before.before.before)
-    q.before.before.before.before.before.before.before.before.args.state q.rows_of_lem.result.first q.rows_of_lem.result.end
+from : (q : tie.After-rows_of-rows invariant-loop-i decreases-loop-i) → RowsFrom (L q.before.before.before.before.before.before.before.before)
+    q.args.state q.rows_of-rows.result.first q.rows_of-rows.result.end
 from q = rows_from (L q.before.before.before.before.before.before.before.before)
-    q.before.before.before.before.before.before.before.before.requires.0.0
-    q.before.before.before.before.before.before.before.before.args.state _ _ q.rows_of_lem.ensures.0 q.rows_of_lem.ensures.1
+    q.requires.0.0
+    q.args.state _ _ q.rows_of-rows.ensures.0 q.rows_of-rows.ensures.1
 
-loop-holds : tie.Need-loop-init invariant-loop decreases-loop
-loop-holds c = push_start _ _ _ _ _ _ _ 0 (pairs-none _ _) (from c).up (from c).before
+loop-i-init : tie.Need-loop-i-init invariant-loop-i decreases-loop-i
+loop-i-init c = push_start _ _ _ _ _ _ _ 0 (pairs-none _ _) (from c).up (from c).before
 
-at-requires : tie.Need-at-requires invariant-loop decreases-loop
-at-requires c κs = omega (
+at-u-requires : tie.Need-at-u-requires invariant-loop-i decreases-loop-i
+at-u-requires c κs = omega (
   arith,
   (from c.before.before).most,
-  c.before.before.before.before.before.before.before.before.before.before.requires.0.0.long.target,
+  c.requires.0.0.long.target,
 )
 
-mul-pushed-labels : tie.Need-overflow-mul-pushed-labels invariant-loop decreases-loop
-mul-pushed-labels c = omega (
+offset_bounds-label-i : tie.Need-offset_bounds-label-i invariant-loop-i decreases-loop-i
+offset_bounds-label-i c = omega (
   arith,
   (from c.before.before.before).most,
-  c.before.before.before.before.before.before.before.before.before.before.before.requires.0.0.few_rows,
+  c.requires.0.0.few_rows,
 )
 
-shared-slice-read-pushed-labels : tie.Need-shared-slice-read-pushed-labels invariant-loop decreases-loop
-shared-slice-read-pushed-labels c = omega (
+bounds-label-i : tie.Need-bounds-label-i invariant-loop-i decreases-loop-i
+bounds-label-i c = omega (
   arith,
   (from c.before.before.before.before).most,
-  c.before.before.before.before.before.before.before.before.before.before.before.before.requires.0.0.long.label,
+  c.requires.0.0.long.label,
 )
 
-mul-pushed-labels-2 : tie.Need-overflow-mul-pushed-labels-2 invariant-loop decreases-loop
-mul-pushed-labels-2 c = omega (
+offset_bounds-pushed_labels-d : tie.Need-offset_bounds-pushed_labels-d invariant-loop-i decreases-loop-i
+offset_bounds-pushed_labels-d c = omega (
   arith,
   (from c.before.before.before.before).most,
-  c.before.before.before.before.before.before.before.before.before.before.before.before.requires.0.0.few_rows,
+  c.requires.0.0.few_rows,
 )
 
-slice-write-pushed-labels : tie.Need-slice-write-pushed-labels invariant-loop decreases-loop
-slice-write-pushed-labels c = omega (arith, (from c.before.before.before.before).most)
+bounds-pushed_labels-d : tie.Need-bounds-pushed_labels-d invariant-loop-i decreases-loop-i
+bounds-pushed_labels-d c = omega (arith, (from c.before.before.before.before).most)
 
-mul-pushed-blocks : tie.Need-overflow-mul-pushed-blocks invariant-loop decreases-loop
-mul-pushed-blocks c = omega (arith, c.before.at.ensures.1)
+offset_bounds-element_to_block-u : tie.Need-offset_bounds-element_to_block-u invariant-loop-i decreases-loop-i
+offset_bounds-element_to_block-u c = omega (arith, c.at-u.ensures.1)
 
-shared-slice-read-pushed-blocks : tie.Need-shared-slice-read-pushed-blocks invariant-loop decreases-loop
-shared-slice-read-pushed-blocks c =
+bounds-element_to_block-u : tie.Need-bounds-element_to_block-u invariant-loop-i decreases-loop-i
+bounds-element_to_block-u c =
     omega (
       arith,
       (from c.before.before.before.before.before).most,
-      c.before.before.at.ensures.0,
-      (c.before.before.before.before.before.before.before.before.before.before.before.before.before.requires.0.0.fields
-          c.before.before.before.before.loop.i (omega (arith, (from c.before.before.before.before.before).most))).target,
+      c.at-u.ensures.0,
+      (c.requires.0.0.fields
+          c.loop-i.i (omega (arith, (from c.before.before.before.before.before).most))).target,
     )
 
-mul-pushed-blocks-2 : tie.Need-overflow-mul-pushed-blocks-2 invariant-loop decreases-loop
-mul-pushed-blocks-2 c = omega (
+offset_bounds-pushed_blocks-d : tie.Need-offset_bounds-pushed_blocks-d invariant-loop-i decreases-loop-i
+offset_bounds-pushed_blocks-d c = omega (
   arith,
   (from c.before.before.before.before.before).most,
-  c.before.before.before.before.before.before.before.before.before.before.before.before.before.requires.0.0.few_rows,
+  c.requires.0.0.few_rows,
 )
 
-slice-write-pushed-blocks : tie.Need-slice-write-pushed-blocks invariant-loop decreases-loop
-slice-write-pushed-blocks c = omega (arith, (from c.before.before.before.before.before).most)
+bounds-pushed_blocks-d : tie.Need-bounds-pushed_blocks-d invariant-loop-i decreases-loop-i
+bounds-pushed_blocks-d c = omega (arith, (from c.before.before.before.before.before).most)
 
-add-d : tie.Need-overflow-add-d invariant-loop decreases-loop
-add-d c = search rules
+overflow_add-d : tie.Need-overflow_add-d invariant-loop-i decreases-loop-i
+overflow_add-d c = search rules
 
-add-i : tie.Need-overflow-add-i invariant-loop decreases-loop
-add-i c = search rules
+overflow_add-i : tie.Need-overflow_add-i invariant-loop-i decreases-loop-i
+overflow_add-i c = search rules
 
-loop-less : tie.Need-loop-smaller invariant-loop decreases-loop
-loop-less c = search rules
+loop-i-smaller : tie.Need-loop-i-smaller invariant-loop-i decreases-loop-i
+loop-i-smaller c = search rules
 
-loop-again : tie.Need-loop-preserved invariant-loop decreases-loop
-loop-again c =
-    let a = c.before.before.before.before.before.before.before.before.before.before.before.before.before.args in
-    let l = c.before.before.before.before.loop in
+loop-i-preserved : tie.Need-loop-i-preserved invariant-loop-i decreases-loop-i
+loop-i-preserved c =
+    let a = c.args in
+    let l = c.loop-i in
     push_more _ _ _ _ _ _ _ _ _ _ _ l.invariant (omega arith) (get_or a.label.now l.i 0)
-    (get_or a.element_to_block.now c.before.before.at.result 0)
+    (get_or a.element_to_block.now c.at-u.result 0)
     ((from c.before.before.before.before.before).own l.i l.invariant.low (omega arith))
-    (ap (λ (u : ℕ). (get_or a.label.now l.i 0, get_or a.element_to_block.now u 0)) (sym c.before.before.at.ensures.0))
+    (ap (λ (u : ℕ). (get_or a.label.now l.i 0, get_or a.element_to_block.now u 0)) (sym c.at-u.ensures.0))
     (omega (arith, (from c.before.before.before.before.before).most))
     (omega (arith, (from c.before.before.before.before.before).most))
 
-same_length : tie.Need-same-length invariant-loop decreases-loop
-same_length c = c.before.loop.invariant.left
+shape_of-pushed_labels : tie.Need-shape_of-pushed_labels invariant-loop-i decreases-loop-i
+shape_of-pushed_labels c = c.loop-i.invariant.left
 
-same-length-2 : tie.Need-same-length-2 invariant-loop decreases-loop
-same-length-2 c = c.before.loop.invariant.right
+shape_of-pushed_blocks : tie.Need-shape_of-pushed_blocks invariant-loop-i decreases-loop-i
+shape_of-pushed_blocks c = c.loop-i.invariant.right
 
-returns : tie.Need-returns invariant-loop decreases-loop
+returns : tie.Need-returns invariant-loop-i decreases-loop-i
 unfolding strong_pushed own_rows row_pair
 returns c =
     let f = from c.before.before in (
-      push_done _ _ _ _ _ _ _ _ _ _ _ c.before.loop.invariant
-          c.before.before.before.before.before.before.before.before.before.before.args.table.m (omega arith) f.most
+      push_done _ _ _ _ _ _ _ _ _ _ _ c.loop-i.invariant
+          c.args.table.m (omega arith) f.most
           f.after,
       omega (arith, f.most),
-      push_behind _ _ _ _ _ _ _ _ _ _ _ c.before.loop.invariant,
+      push_behind _ _ _ _ _ _ _ _ _ _ _ c.loop-i.invariant,
     )
 
-pub push-strong-spec : {M : Type 1} → statement M
-push-strong-spec =
+pub push_strong_spec : {M : Type 1} → statement M
+push_strong_spec =
     tie.close
     (tie.spec
-    invariant-loop
-    decreases-loop
-    cast-m
-    rows-of-requires
-    loop-holds
-    at-requires
-    mul-pushed-labels
-    shared-slice-read-pushed-labels
-    mul-pushed-labels-2
-    slice-write-pushed-labels
-    mul-pushed-blocks
-    shared-slice-read-pushed-blocks
-    mul-pushed-blocks-2
-    slice-write-pushed-blocks
-    add-d
-    add-i
-    loop-less
-    loop-again
-    same_length
-    same-length-2
+    invariant-loop-i
+    decreases-loop-i
+    overflow_cast-m
+    rows_of-rows-requires
+    loop-i-init
+    at-u-requires
+    offset_bounds-label-i
+    bounds-label-i
+    offset_bounds-pushed_labels-d
+    bounds-pushed_labels-d
+    offset_bounds-element_to_block-u
+    bounds-element_to_block-u
+    offset_bounds-pushed_blocks-d
+    bounds-pushed_blocks-d
+    overflow_add-d
+    overflow_add-i
+    loop-i-smaller
+    loop-i-preserved
+    shape_of-pushed_labels
+    shape_of-pushed_blocks
     returns)

@@ -8,19 +8,19 @@ use Rattle.table_closure.specs.Closure.{going_on}
 use Rattle.table_closure.proofs.cores.going_on.Statement.{statement}
 use Rattle.table_closure.proofs.cores.going_on.Tie as tie
 
-returns : tie.Need-returns
+returns-then-it-marked_split : tie.Need-returns-then-it-marked_split
 unfolding going_on
-returns c = let a = c.before in sym (and_no_left _ _ (le-ltb a.args.marked_split_lem a.args.it (omega arith)))
+returns-then-it-marked_split c = let a = c in sym (and_no_left _ _ (le-ltb a.args.marked_split a.args.it (omega arith)))
 
-returns-2 : tie.Need-returns-2
+returns-then-marked_split-begin : tie.Need-returns-then-marked_split-begin
 unfolding going_on
-returns-2 c = let a = c.before.before in sym (and_no_right (ltb a.args.marked_split_lem a.args.it) _
-    (le-ltb a.args.begin a.args.marked_split_lem (omega arith)))
+returns-then-marked_split-begin c = let a = c in sym (and_no_right (ltb a.args.marked_split a.args.it) _
+    (le-ltb a.args.begin a.args.marked_split (omega arith)))
 
-returns-3 : tie.Need-returns-3
+returns-else-marked_split-begin : tie.Need-returns-else-marked_split-begin
 unfolding going_on
-returns-3 c = let a = c.before.before in sym (and_both (lt-ltb a.args.marked_split_lem a.args.it (omega arith))
-    (lt-ltb a.args.begin a.args.marked_split_lem (omega arith)))
+returns-else-marked_split-begin c = let a = c in sym (and_both (lt-ltb a.args.marked_split a.args.it (omega arith))
+    (lt-ltb a.args.begin a.args.marked_split (omega arith)))
 
-pub going-on-spec : {M : Type 1} → statement M
-going-on-spec = tie.close (tie.spec returns returns-2 returns-3)
+pub going_on_spec : {M : Type 1} → statement M
+going_on_spec = tie.close (tie.spec returns-then-it-marked_split returns-then-marked_split-begin returns-else-marked_split-begin)

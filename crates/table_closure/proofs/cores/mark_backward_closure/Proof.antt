@@ -21,46 +21,46 @@ L a = lts a.args.table a.args.source.now a.args.label.now a.args.target.now
 abbrev P : tie.Start → Partition
 P a =
     parts a.args.elements.now a.args.element_offset.now a.args.element_to_block.now a.args.begin.now
-    a.args.marked_split_lem.now a.args.end.now a.args.table.n a.args.count
+    a.args.marked_split.now a.args.end.now a.args.table.n a.args.count
+
+at-x-requires : tie.Need-at-x-requires
+at-x-requires c κs = search rules
+
+at-z-requires : tie.Need-at-z-requires
+at-z-requires c κs = search rules
 
 at-requires : tie.Need-at-requires
 at-requires c κs = search rules
 
-at-requires-2 : tie.Need-at-requires-2
-at-requires-2 c κs = search rules
+going_on-requires : tie.Need-going_on-requires
+going_on-requires c κs = search rules
 
-at-requires-3 : tie.Need-at-requires-3
-at-requires-3 c κs = search rules
-
-going-on-requires : tie.Need-going-on-requires
-going-on-requires c κs = search rules
-
-list-inner-requires : tie.Need-list-inner-requires
-list-inner-requires c κs =
-    let a = c.before.before.before.before.before.before.before.before.before.before.before.before.before.before.before.before.before.before.before.before in
-    let g = a.pre.1.1.0 in (
+list_inner-h-requires : tie.Need-list_inner-h-requires
+list_inner-h-requires c κs =
+    let a = c.before.before.before.before.before.before.before.before.before.before.before.before.before.before.before.before.before.before in
+    let g = a.requires.1.1.0 in (
       (
-        a.pre.0.0,
+        a.requires.0.0,
         g.long.element_to_block,
-        block_stands (P a) g a.args.b a.pre.1.1.1 c.before.before.before.before.before.before.before.before.at.result
-            c.before.before.before.before.before.before.before.at2.result
-            c.before.before.before.before.before.before.before.before.at.ensures.0
-            c.before.before.before.before.before.before.before.at2.ensures.0,
+        block_stands (P a) g a.args.b a.requires.1.1.1 c.at-x.result
+            c.at-z.result
+            c.at-x.ensures.0
+            c.at-z.ensures.0,
       ),
-      ((a.pre.0.1, a.pre.0.2), a.pre.1.0),
+      ((a.requires.0.1, a.requires.0.2), a.requires.1.0),
     )
 
-cast-close-marks : tie.Need-overflow-cast-close-marks
-cast-close-marks c = search rules
+overflow_cast-table : tie.Need-overflow_cast-table
+overflow_cast-table c = search rules
 
-close-marks-requires : tie.Need-close-marks-requires
-close-marks-requires c κs =
-    let a = c.before.before.before.before.before.before.before.before.before.before.before.before.before.before.before.before.before.before.before.before.before.before.before.before.before.before.before.before.before.before in
-    let g = a.pre.1.1.0 in
-    let w = a.pre.1.1.1 in
+close_marks-requires : tie.Need-close_marks-requires
+close_marks-requires c κs =
+    let a = c.before.before.before.before.before.before.before.before.before.before.before.before.before.before.before.before.before.before.before.before.before.before.before.before.before.before.before in
+    let g = a.requires.1.1.0 in
+    let w = a.requires.1.1.1 in
     let m = g.consistent.most in (
-      listed (L a) a.pre.0.0 a.args.element_to_block.now a.args.b _ _
-          c.before.before.before.before.before.before.before.before.before.list-inner.ensures.0.0,
+      listed (L a) a.requires.0.0 a.args.element_to_block.now a.args.b _ _
+          c.list_inner-h.ensures.0.0,
       (
         fits (P a) g,
         (
@@ -72,78 +72,78 @@ close-marks-requires c κs =
       ),
     )
 
-slice-relend-prefix-clear : tie.Need-slice-relend-prefix-clear
-slice-relend-prefix-clear c =
-    c.before.before.before.before.before.before.before.before.before.before.before.before.before.before.before.before.list-inner.ensures.0.0.room
+slice_bounds-clear-end : tie.Need-slice_bounds-clear-end
+slice_bounds-clear-end c =
+    c.list_inner-h.ensures.0.0.room
 
-slice-aggregate-clear : tie.Need-slice-aggregate-clear
-slice-aggregate-clear c =
-    let q = c.before.before.before.before.before.before.before.before.before.before.before.before.before.before.before.before.before.list-inner in sym (length-take-le q.result q.last.1.1.1.1.1.1.1.1.1.0 q.ensures.0.0.room)
+slice_bounds-clear-end-then-going_on : tie.Need-slice_bounds-clear-end-then-going_on
+slice_bounds-clear-end-then-going_on c =
+    let q = c.list_inner-h in sym (length-take-le q.result q.new.order q.ensures.0.0.room)
 
 clear-requires : tie.Need-clear-requires
 clear-requires c κs = search rules
 
-same_length : tie.Need-same-length
-same_length c = search rules
+shape_of-elements : tie.Need-shape_of-elements
+shape_of-elements c = search rules
 
-same-length-2 : tie.Need-same-length-2
-same-length-2 c = search rules
+shape_of-element_offset : tie.Need-shape_of-element_offset
+shape_of-element_offset c = search rules
 
-same-length-3 : tie.Need-same-length-3
-same-length-3 c = search rules
+shape_of-marked_split-then-going_on : tie.Need-shape_of-marked_split-then-going_on
+shape_of-marked_split-then-going_on c = search rules
 
-same-length-4 : tie.Need-same-length-4
-same-length-4 c = search rules
+shape_of-order : tie.Need-shape_of-order
+shape_of-order c = search rules
 
-same-length-5 : tie.Need-same-length-5
-same-length-5 c = search rules
+shape_of-spare : tie.Need-shape_of-spare
+shape_of-spare c = search rules
 
-returns : tie.Need-returns
-returns c =
-    let a = c.before.before.before.before.before.before.before.before.before.before.before.before.before.before.before.before.before.before.before.before.before.before.before.before.before.before.before.before.before.before.before.before.before.before.before.before.before.before.before.before.before in
-    let q = c.before.before.before.before.before.before.before.before.before.before.before.before.before.before.before.before.before.before.before.before.list-inner in
-    let order : List ℕ = q.last.1.1.1.1.1.1.1.1.1.0 in (
-      listed-close (L a) a.pre.0.0 a.args.b (P a) refl order q.result q.ensures.0.0 a.pre.1.1.1 a.pre.1.1.0 _
-          c.before.before.before.before.before.before.before.before.before.before.close-marks.ensures,
+returns-then-going_on : tie.Need-returns-then-going_on
+returns-then-going_on c =
+    let a = c.before.before.before.before.before.before.before.before.before.before.before.before.before.before.before.before.before.before.before.before.before.before.before.before.before.before.before.before.before.before.before.before.before.before.before.before.before.before in
+    let q = c.list_inner-h in
+    let order : List ℕ = q.new.order in (
+      listed-close (L a) a.requires.0.0 a.args.b (P a) refl order q.result q.ensures.0.0 a.requires.1.1.1 a.requires.1.1.0 _
+          c.close_marks.ensures,
       (
-        front_zeros q.result order c.before.before.clear.new.0 q.ensures.0.0.room c.before.before.clear.ensures
+        front_zeros q.result order c.clear.new.a q.ensures.0.0.room c.clear.ensures
             q.ensures.0.1
-            ∙ ap zeros q.kept.1.1.1.1.1.1.1.1.1.0,
+            ∙ ap zeros q.auto.order,
         q.ensures.1,
       ),
     )
 
-same-length-6 : tie.Need-same-length-6
-same-length-6 c = search rules
+shape_of-marked_split-else-going_on : tie.Need-shape_of-marked_split-else-going_on
+shape_of-marked_split-else-going_on c = search rules
 
-returns-2 : tie.Need-returns-2
-returns-2 c =
-    let a = c.before.before.before.before.before.before.before.before.before.before.before.before.before.before.before.before.before in (
-      close_idle (L a) a.args.b (P a) _ c.before.before.before.before.at2.ensures.0
-          (goes _ _ _ _ _ c.before.before.before.before.before.at.ensures.0 c.before.before.at3.ensures.0 false
-          (sym c.before.Going-on.ensures ∙ c.if1.false)),
-      a.pre.1.0,
+returns-else-going_on : tie.Need-returns-else-going_on
+returns-else-going_on c =
+    let a = c.before.before.before.before.before.before.before.before.before.before.before.before.before.before.before.before in (
+      close_idle (L a) a.args.b (P a) _ c.at-z.ensures.0
+          (goes _ _ _ _ _ c.at-x.ensures.0 c.at.ensures.0 false
+          (sym c.going_on.ensures ∙ c.if-going_on.false)),
+      a.requires.1.0,
     )
 
-pub mark-backward-closure-spec : {M : Type 1} → statement M
-mark-backward-closure-spec =
+pub mark_backward_closure_spec : {M : Type 1} → statement M
+mark_backward_closure_spec =
     tie.close
     (tie.spec
+    at-x-requires
+    at-z-requires
     at-requires
-    at-requires-2
-    at-requires-3
-    going-on-requires
-    list-inner-requires
-    cast-close-marks
-    close-marks-requires
-    slice-relend-prefix-clear
-    slice-aggregate-clear
+    going_on-requires
+    list_inner-h-requires
+    overflow_cast-table
+    close_marks-requires
+    slice_bounds-clear-end
+    slice_bounds-clear-end-then-going_on
     clear-requires
-    same_length
-    same-length-2
-    same-length-3
-    same-length-4
-    same-length-5
-    returns
-    same-length-6
-    returns-2)
+    shape_of-elements
+    shape_of-element_offset
+    shape_of-marked_split-then-going_on
+    shape_of-order
+    shape_of-spare
+    returns-then-going_on
+    shape_of-marked_split-else-going_on
+    returns-else-going_on)
