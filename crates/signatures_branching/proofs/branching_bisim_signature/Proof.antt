@@ -85,7 +85,7 @@ module _ (q : tie.After-clear-2) where
 
   room : Wide (L (start q.before.before.before.before.before.before.before))
       (Works (start q.before.before.before.before.before.before.before))
-  room = wide q.before.before.before.before.before.before.before q.if-number-ne0.left
+  room = wide q.before.before.before.before.before.before.before q.if-number-ne0.false
 
   fits : N ≤ length marks
   fits = omega (arith, room.1.1.1.1.0, q.clear.auto.a)

@@ -1,5 +1,6 @@
 -- `below_at` meets its contract.
-use mathlib.Core.Path.{refl}
+use mathlib.Core.Bool.{not}
+use mathlib.Core.Path.{ap, refl}
 use Rattle.std.specs.Prelude.{get_or}
 use Rattle.partition_division.proofs.Noting.{below_free, below_yes, below_no}
 use borrow.Author.Tests.{not-true, not-false}

@@ -7,6 +7,7 @@ use Rattle.partition.specs.Marked.{marked_from}
 use Rattle.partition_passes.specs.Invariants.{tallied}
 use Rattle.partition_division.proofs.Noting.{noted_none, noted_pass, noted_more}
 use Rattle.partition_division.proofs.checks.note.Statement.{statement}
+use Rattle.partition_division.proofs.checks.note.Lts.{then-is_marked, else-is_marked}
 use Rattle.partition_division.proofs.checks.note.Tie as tie
 
 abbrev invariant-loop-s : tie.invariant-loop-s
@@ -53,26 +54,24 @@ loop-s-preserved c =
     let s = c.loop-s.s in
     let F = marked_from a.args.element_offset.now a.args.element_to_block.now a.args.b a.args.m in
     let W : ℕ → ℕ = λ s. get_or a.args.numbers.now s 0 in
-    ⊎_elim
-    (λ w.
-    let y : F s ≡ true = sym c.is_marked.ensures ∙ w.0.taken in (
+    elim c.if-is_marked.branch [ then-is_marked w ↦
+    let y : F s ≡ true = sym c.is_marked.ensures ∙ w.if-is_marked.true in (
       omega arith,
       (
-        ap length w.6 ∙ w.3.kept.1.1.0 ∙ i.1.0,
-        noted_more F W s a.args.n c.loop-s.seen c.if-is_marked.seen i.1.1 w.1.result y w.1.ensures.0
-            (omega (arith, i.1.0, a.requires.0)) (w.6 ∙ w.3.ensures),
+        ap length w.seen-is ∙ w.note_one.auto.seen ∙ i.1.0,
+        noted_more F W s a.args.n c.loop-s.seen c.if-is_marked.seen i.1.1 w.at.result y w.at.ensures.0
+            (omega (arith, i.1.0, a.requires.0)) (w.seen-is ∙ w.note_one.ensures),
       ),
-    ))
-    (λ w.
-    let y : F s ≡ false = sym c.is_marked.ensures ∙ w.0.left in (
+    )
+    | else-is_marked w ↦
+    let y : F s ≡ false = sym c.is_marked.ensures ∙ w.if-is_marked.false in (
       omega arith,
       (
-        ap length w.1 ∙ i.1.0,
+        ap length w.seen-is ∙ i.1.0,
         noted_pass F W s a.args.n c.loop-s.seen c.if-is_marked.seen
-            i.1.1 y w.1,
+            i.1.1 y w.seen-is,
       ),
-    ))
-    c.if-is_marked.branch
+    ) ]
 
 shape_of-seen : tie.Need-shape_of-seen invariant-loop-s decreases-loop-s
 shape_of-seen c = c.loop-s.invariant.1.0

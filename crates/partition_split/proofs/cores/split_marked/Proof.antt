@@ -1,4 +1,5 @@
 -- `cores.split_marked` meets its contract.
+use borrow.Author.Tests.{eq-eqb, ne_eqb}
 use borrow.Author.Rules.{rules}
 use native.Mathlib.Omega.{arith}
 use Rattle.partition.specs.Partition.{Partition, parts}
@@ -93,7 +94,7 @@ returns-then-all c = let a = c.before.before.before.before.before.before.before.
     c.at-x.ensures.0
     c.at-m.ensures.0
     c.at-z.ensures.0 _ _ _
-    c.sift-e.ensures _ c.marks_then.ensures.0 c.if-all.true
+    c.sift-e.ensures _ c.marks_then.ensures.0 (eq-eqb _ _ c.if-all.true)
 
 cut-requires : tie.Need-cut-requires
 cut-requires c κs = let a = c.before.before.before.before.before.before.before.before.before.before.before.before.before.before.before.before.before.before.before.before.before.before.before in
@@ -102,7 +103,7 @@ cut-requires c κs = let a = c.before.before.before.before.before.before.before.
     c.at-m.ensures.0
     c.at-z.ensures.0 _ _ _
     c.sift-e.ensures
-    c.if-e-z.false c.if-all.false in (
+    c.if-e-z.false (ne_eqb _ _ c.if-all.false) in (
       (omega arith, omega arith, omega arith),
       (
         omega arith,
@@ -119,7 +120,7 @@ renumber-requires c κs = let a = c.before.before.before.before.before.before.be
     c.at-z.ensures.0 _ _ _
     c.sift-e.ensures
     c.if-e-z.false
-    c.if-all.false in
+    (ne_eqb _ _ c.if-all.false) in
     ((omega arith, q.long, omega arith), q.known)
 
 overflow_add-result : tie.Need-overflow_add-result
@@ -152,7 +153,7 @@ returns c = let a = c.before.before.before.before.before.before.before.before.be
     c.at-z.ensures.0 _ _ _
     c.sift-e.ensures
     c.if-e-z.false
-    c.if-all.false _ _ _ _ _
+    (ne_eqb _ _ c.if-all.false) _ _ _ _ _
     c.marks_then.ensures.0
     c.cut.ensures.0
     c.cut.ensures.1

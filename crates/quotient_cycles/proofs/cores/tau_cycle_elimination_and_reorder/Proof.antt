@@ -139,7 +139,6 @@ shape_of-spare c = c.quotient_rows-m.auto.spare ∙ c.find_numbers-n.auto.spare
 returns : tie.Need-returns
 returns c = let a = c.before.before.before.before.before.before.before.before.before.before.before.before.before.before.before.before.before.before.before.before.before.before.before.before.before.before.before.before.before.before.before.before.before.before.before.before.before.before.before.before.before.before.before.before.before.before.before.before.before.before.before.before.before.before.before.before.before.before.before.before.before.before.before.before.before.before.before.before.before.before.before.before.before.before.before.before.before.before.before.before.before.before.before.before.before.before.before in
     let f = c.find_numbers-n in
-    let k = f.kept in
     let q = c.quotient_rows-m.ensures in
     let z = q.1 in (
       (
