@@ -13,13 +13,13 @@ use Rattle.partition_records.proofs.records.apart.Statement.{statement}
 use Rattle.partition_records.proofs.records.apart.Tie as tie
 
 abbrev invariant-loop-i : tie.invariant-loop-i
-invariant-loop-i begin₀ marked-split₀ end₀ table i₀ begin marked_split_lem end i =
+invariant-loop-i begin₀ marked-split₀ end₀ table i₀ begin marked_split end i =
     Painted (λ k. (get_or table k no_block).begin) max_states begin₀ i begin
-    × (Painted (λ k. (get_or table k no_block).marked_split) max_states marked-split₀ i marked_split_lem
+    × (Painted (λ k. (get_or table k no_block).marked_split) max_states marked-split₀ i marked_split
     × Painted (λ k. (get_or table k no_block).end) max_states end₀ i end)
 
 abbrev decreases-loop-i : tie.decreases-loop-i
-decreases-loop-i begin₀ marked-split₀ end₀ table i₀ begin marked_split_lem end i = max_states - i
+decreases-loop-i begin₀ marked-split₀ end₀ table i₀ begin marked_split end i = max_states - i
 
 loop-i-init : tie.Need-loop-i-init invariant-loop-i decreases-loop-i
 loop-i-init c = (painted_none _ _ _, (painted_none _ _ _, painted_none _ _ _))

@@ -2,12 +2,12 @@
 use borrow.Author.Rules.{rules}
 use mathlib.Core.List.{[]}
 use Rattle.replay_lines.proofs.Putting.{puts_as, puts_then, puts_none}
-use Rattle.replay_lines.proofs.Showing.{text-none, text_one, text_equal, text_ascending}
+use Rattle.replay_lines.proofs.Showing.{text_none, text_one, text_equal, text_ascending}
 use Rattle.replay_lines.proofs.slices.show_run.Statement.{statement}
 use Rattle.replay_lines.proofs.slices.show_run.Tie as tie
 
 returns : tie.Need-returns
-returns c = puts_as [] _ _ puts_none (text-none _ c.if1.true)
+returns c = puts_as [] _ _ puts_none (text_none _ c.if1.true)
 
 number-requires : tie.Need-number-requires
 number-requires c κs = search rules
