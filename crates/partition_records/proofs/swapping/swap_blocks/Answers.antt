@@ -27,7 +27,6 @@ loop-i-preserved c =
     let m = c.at_most-m.ensures in
     record {
       in_range = omega arith;
-      long = length-set c.loop-i.table c.loop-i.i _ ∙ v.long;
       laid = rw v.laid (laid_more c.args.blocks.now blank c.loop-i.i (omega arith) (omega (arith, length-blank)));
     }
 

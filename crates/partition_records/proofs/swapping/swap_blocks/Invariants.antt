@@ -1,6 +1,5 @@
 -- The first i records of the lent list are laid over an empty table.
-use Rattle.std.proofs.Common.{◌-◌, ◌≡◌, ◌≤◌, length}
-use Rattle.columns.specs.Limits.{max_states}
+use Rattle.std.proofs.Common.{◌-◌, ◌≡◌, ◌≤◌}
 use Rattle.partition_records.specs.Tables.{blank}
 use Rattle.partition_records.proofs.Fields.{laid_records}
 use Rattle.partition_records.proofs.swapping.swap_blocks.Given as goal
@@ -9,7 +8,6 @@ abbrev pub invariant-loop-i : goal.invariant-loop-i
 invariant-loop-i l =
     record {
       in_range : l.i ≤ l.m;
-      long : length l.table ≡ max_states;
       laid : l.table ≡ laid_records l.blocks blank l.i;
     }
 
