@@ -1,5 +1,7 @@
 // From file to file: the table of an input file is reduced strongly, and written as an output file. All memory is the call's own: no work
 // is lent.
+#![tactic(auto)]
+
 ghost use Rattle.std.specs.Prelude.{◌≡◌, ◌<◌, [], ◌∷◌, length};
 ghost use Rattle.columns.specs.Columns.{EachLong};
 ghost use Rattle.file.specs.Input.{table_in, named_end};

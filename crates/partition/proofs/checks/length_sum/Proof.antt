@@ -40,8 +40,8 @@ loop-b-preserved c =
     let x = c.at-x.ensures in
     let z = c.at-z.ensures in
     elim c.if-x-z.branch [
-      then-x-z w ↦ (omega arith, (lengths_more _ _ _ _ _ _ _ x.0 z.0 i.1.0 w.sum-is, omega (arith, w.sum-is)))
-    | else-x-z w ↦ (omega arith, (lengths_more _ _ _ _ _ _ _ x.0 z.0 i.1.0 (omega (arith, w.sum-is)), omega (arith, w.sum-is)))
+      | then-x-z w ↦ (omega arith, (lengths_more _ _ _ _ _ _ _ x.0 z.0 i.1.0 w.sum-is, omega (arith, w.sum-is)))
+      | else-x-z w ↦ (omega arith, (lengths_more _ _ _ _ _ _ _ x.0 z.0 i.1.0 (omega (arith, w.sum-is)), omega (arith, w.sum-is)))
     ]
 
 returns : tie.Need-returns invariant-loop-b decreases-loop-b

@@ -55,14 +55,14 @@ returns-then-e-z c = let a = c.before.before.before.before.before.before.before.
 
 marks_then-requires : tie.Need-marks_then-requires
 marks_then-requires c κs = let a = c.before.before.before.before.before.before.before.before.before.before.before.before.before.before.before.before.before.before in (
-      omega arith,
-      place_small (P a) a.requires.0 _ a.requires.1.0 a.args.choice.now
-          a.requires.1.1 _ _ _
-          c.at-x.ensures.0
-          c.at-m.ensures.0
-          c.at-z.ensures.0 _ _ _
-          c.sift-e.ensures,
-    )
+  omega arith,
+  place_small (P a) a.requires.0 _ a.requires.1.0 a.args.choice.now
+      a.requires.1.1 _ _ _
+      c.at-x.ensures.0
+      c.at-m.ensures.0
+      c.at-z.ensures.0 _ _ _
+      c.sift-e.ensures,
+)
 
 overflow_cast-marked_split : tie.Need-overflow_cast-marked_split
 overflow_cast-marked_split c = search rules
