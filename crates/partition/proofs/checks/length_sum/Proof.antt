@@ -1,7 +1,6 @@
 -- `length_sum` meets its contract.
 use Rattle.partition.specs.Partition.{lengths}
 use Rattle.partition.proofs.Lengths.{lengths_more}
-use mathlib.Core.Logic.{⊎_elim}
 use mathlib.Core.Path.{◌≡◌, refl, ap, ◌∙◌}
 use native.Mathlib.Omega.{arith}
 use Prim.Native.Nat.{◌≤◌, ◌-◌, ◌*◌}
