@@ -9,12 +9,12 @@ READ = {'bytes': FILE_IN, 'table': 'held',
         **{column: f'{result}[..m]' for column, result in zip(('source', 'label', 'target'), RESULT_COLUMNS)}}
 # The blocks are those of the signatures.
 WRITTEN = {'bytes': FILE_OUT, 'states': 'n', 'blocks': 'signed_element_to_block[..n]'}
-READ_CORE = ('held', 'file::core::header'), ('', 'file::core::read_rows')
+READ_CORE = ('held', 'file::cores::header'), ('', 'file::cores::read_rows')
 
 # Besides the answer the last target counts: the last cell that is read, or its low byte as it is written.
 FILES = (
     *both('read_file', one('file::reading::read_file'), READ_CORE, rust='', values=READ, counted='result_2[m - 1]'),
-    *both('write_file', one('file::writing::write_file'), one('file::core::write'), rust='', values=WRITTEN,
+    *both('write_file', one('file::writing::write_file'), one('file::cores::write'), rust='', values=WRITTEN,
           counted='file_out[38 + 6 * m]'),
 )
 

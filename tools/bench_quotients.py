@@ -25,19 +25,19 @@ TEN = 'elements element_offset element_to_block begin marked_split end numbers l
 REDUCED = {**lent(TEN), 'block': 'block_of[..n]'}
 
 QUOTIENTS = (
-    *both('quotient_lts_naive', one('quotient::quotient_lts_naive'), one('quotient::core::quotient_rows'),
+    *both('quotient_lts_naive', one('quotient::quotient_lts_naive'), one('quotient::cores::quotient_rows'),
           partition='signed', values=NAIVE),
-    *both('quotient_lts_block', one('quotient_block::quotient_lts_block'), one('quotient_block::core::quotient_block'),
+    *both('quotient_lts_block', one('quotient_block::quotient_lts_block'), one('quotient_block::cores::quotient_block'),
           partition='signed', values=BY_CHOSEN),
     *both('remove_redundant_transitions', one('quotient_redundant::remove_redundant_transitions'),
-          one('quotient_redundant::core::remove_redundant_transitions'), values=lent(SEARCHES)),
+          one('quotient_redundant::cores::remove_redundant_transitions'), values=lent(SEARCHES)),
     *both('tau_scc_decomposition', one('quotient_components::tau_scc_decomposition'),
-          one('quotient_components::core::tau_scc_decomposition'), values=COMPONENTS),
+          one('quotient_components::cores::tau_scc_decomposition'), values=COMPONENTS),
     *both('tau_cycle_elimination_and_reorder', one('quotient_cycles::tau_cycle_elimination_and_reorder'),
-          one('quotient_cycles::core::tau_cycle_elimination_and_reorder'), values=CYCLES),
+          one('quotient_cycles::cores::tau_cycle_elimination_and_reorder'), values=CYCLES),
 )
 REDUCTION = (
-    Line('strong_reduction', 'core', one('reduction::core::reduce'), values=REDUCED),
+    Line('strong_reduction', 'core', one('reduction::cores::reduce'), values=REDUCED),
     Line('strong_reduction', 'public', one('reduction::strong_reduction'), values=REDUCED),
     Line('reduce_file', 'public', one('file_reduction::reduce_file'), values={'input': FILE_IN, 'output': FILE_OUT}),
 )

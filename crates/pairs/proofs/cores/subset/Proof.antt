@@ -1,7 +1,6 @@
 -- `cores.subset` meets its contract.
 use mathlib.Core.Bool.{not}
 use borrow.Author.Rules.{rules}
-use borrow.Author.Tests.{not-true, not-false}
 use native.Mathlib.Omega.{arith}
 use Rattle.std.specs.Prelude.{◌-◌, length}
 use mathlib.Core.Path.{ap, sym, ◌∙◌}
