@@ -1,5 +1,6 @@
 #!/usr/bin/env python3
-"""modules.py FOLDER: the modules `core` of the crates below FOLDER are called `cores`, since `core` is the name of a library of the kit.
+"""modules.py FOLDER: the modules `core` of the crates below FOLDER are called `cores`, since `core` is the name of a library of the kit,
+and what the crates use of the library's prelude comes from `std`.
 
 It turns the sources, the paths in specs/ and proofs/, the folders of proofs and the files that must-fail edits name.
 """
@@ -29,6 +30,7 @@ def main(words):
                 new = re.sub(r'(?<![\w:])core(?=::)', 'cores', new)
             new = re.sub(r'\.(proofs|contracts|declared)\.core\.', r'.\1.cores.', new)
             new = re.sub(r'src/core\.rt', 'src/cores.rt', new)
+            new = new.replace('Rattle.core.specs.Prelude', 'Rattle.std.specs.Prelude')
             if path.suffix == '.antt':
                 new = re.sub(r'(?m)^(-- `)core\.', r'\1cores.', new)
             if new != old:

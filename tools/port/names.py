@@ -128,7 +128,10 @@ def tokens(path):
 
 
 def clashes(root, names, turned):
+    """Names that would fall together, but for those of the table, which were looked at when it was made."""
     bad = []
+    kept = table()
+    turned = {old: new for old, new in turned.items() if old not in kept}
     back = {}
     for old, new in turned.items():
         back.setdefault(new, []).append(old)

@@ -4,7 +4,6 @@ use native.Mathlib.Omega.{arith}
 use borrow.Author.Tests.{leb-true, leb-false}
 use mathlib.Core.Path.{refl, ap}
 use mathlib.Core.Logic.{inl, inr, ⊎_elim}
-use Rattle.columns.specs.Counting.{first}
 use Rattle.columns.proofs.All.{top_or-below}
 use Rattle.partition_passes.specs.Passes.{largest_in}
 use Rattle.partition_division.specs.Divide.{largest}

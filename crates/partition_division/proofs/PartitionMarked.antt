@@ -5,7 +5,6 @@ use borrow.Author.Tests.{eq-eqb, ne_eqb}
 use mathlib.Core.Path.{refl, ap, sym, subst, ◌∙◌}
 use mathlib.Core.Logic.{inl, inr, ⊎_elim}
 use Rattle.columns.proofs.Lists.{set_here}
-use Rattle.columns.specs.Counting.{first}
 use Rattle.columns.proofs.All.{same_or_not}
 use Rattle.columns.proofs.Bools.{cases, contra}
 use Rattle.columns.specs.Columns.{length_in}

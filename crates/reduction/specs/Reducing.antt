@@ -43,7 +43,7 @@ reduction_left t lent =
 unfoldable pub strong_reduction : Lts → Slices → Said × Slices
 unfolding leaving reduction_refusal reduction_left strong_rounds strong_blocks block_count quotient rows_of
 strong_reduction t lent =
-    let refusal = reduction_refusal t (result_lengths lent) (length lent.1.0) (work_lengths lent) in
+    let refusal = reduction_refusal t (lengths_of lent.0) (length lent.1.0) (map (λ l. length l) lent.1.1) in
     leaving refusal lent (reduction_numbers t) (reduction_left t lent)
 
 -- the table that an answer's numbers and the result columns make

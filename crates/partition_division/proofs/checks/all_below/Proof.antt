@@ -1,12 +1,10 @@
 -- `all_below` meets its contract.
-use mathlib.Core.Bool.{not}
 use Rattle.std.specs.Prelude.{◌≡◌, ◌-◌, ◌≤◌, true, cond, ltb, get_or}
 use native.Mathlib.Omega.{arith}
-use mathlib.Core.Path.{ap, sym, ◌∙◌}
+use mathlib.Core.Path.{sym, ◌∙◌}
 use Rattle.columns.proofs.All.{all_none, all_more, all_fails, all_done}
 use Rattle.columns.specs.Counting.{all}
 use Rattle.partition.specs.Marked.{marked_from}
-use borrow.Author.Tests.{not-true, not-false}
 use Rattle.partition_division.proofs.checks.all_below.Statement.{statement}
 use Rattle.partition_division.proofs.checks.all_below.Tie as tie
 

@@ -1,9 +1,7 @@
 -- `below_at` meets its contract.
-use mathlib.Core.Bool.{not}
-use mathlib.Core.Path.{ap, refl}
+use mathlib.Core.Path.{refl}
 use Rattle.std.specs.Prelude.{get_or}
 use Rattle.partition_division.proofs.Noting.{below_free, below_yes, below_no}
-use borrow.Author.Tests.{not-true, not-false}
 use borrow.Author.Rules.{rules}
 use Rattle.partition_division.proofs.checks.below_at.Statement.{statement}
 use Rattle.partition_division.proofs.checks.below_at.Tie as tie

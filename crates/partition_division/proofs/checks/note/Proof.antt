@@ -1,8 +1,7 @@
 -- `note` meets its contract.
-use Rattle.std.specs.Prelude.{◌≡◌, ℕ, ◌-◌, ◌<◌, ◌≤◌, true, false, eqb, ◌⊎◌, length, get_or}
+use Rattle.std.specs.Prelude.{◌≡◌, ℕ, ◌-◌, ◌<◌, ◌≤◌, true, false, eqb, length, get_or}
 use native.Mathlib.Omega.{arith}
 use mathlib.Core.Path.{refl, ap, sym, ◌∙◌}
-use mathlib.Core.Logic.{⊎_elim}
 use Rattle.partition.specs.Marked.{marked_from}
 use Rattle.partition_passes.specs.Invariants.{tallied}
 use Rattle.partition_division.proofs.Noting.{noted_none, noted_pass, noted_more}

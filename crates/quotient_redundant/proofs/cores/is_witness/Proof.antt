@@ -1,6 +1,5 @@
 -- `cores.is_witness` meets its contract.
 use borrow.Author.Rules.{rules}
-use borrow.Author.Tests.{not-true, not-false}
 use mathlib.Core.Path.{sym, ap, ap₂, ◌∙◌}
 use Rattle.std.specs.Prelude.{ℕ, not, ◌&&◌, eqb, length, get_or}
 use native.Mathlib.Omega.{arith}

@@ -1,6 +1,6 @@
 -- `inner.is_inner` meets its contract.
 use borrow.Author.Rules.{rules}
-use borrow.Author.Tests.{eq-eqb, ne_eqb, not-true, not-false}
+use borrow.Author.Tests.{eq-eqb, ne_eqb}
 use mathlib.Core.Path.{sym, ap, ◌∙◌}
 use Rattle.std.specs.Prelude.{ℕ, get_or}
 use Rattle.columns.proofs.Bools.{and_both, and_no_left, and_no_right}

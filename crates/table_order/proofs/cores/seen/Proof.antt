@@ -1,6 +1,5 @@
 -- `cores.seen` meets its contract.
 use borrow.Author.Rules.{rules}
-use borrow.Author.Tests.{not-true, not-false}
 use mathlib.Core.Path.{sym, ◌∙◌}
 use Rattle.table_order.proofs.Rows.{seen_skipped, seen_loop, seen_mark}
 use Rattle.table_order.proofs.cores.seen.Statement.{statement}

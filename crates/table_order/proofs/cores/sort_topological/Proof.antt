@@ -1,7 +1,6 @@
 -- `cores.sort_topological` meets its contract.
 use borrow.Author.Rules.{rules}
 use mathlib.Core.Path.{ap, ◌∙◌}
-use mathlib.Core.Logic.{⊎_elim}
 use native.Mathlib.Omega.{arith}
 use Rattle.std.specs.Prelude.{length}
 use Rattle.columns.specs.Columns.{zeros}
