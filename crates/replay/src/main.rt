@@ -6,8 +6,8 @@ use crate::answer::answer;
 use crate::line::next_line;
 use libc::STDERR_FILENO;
 use replay_lines::input;
-use replay_lines::input::{Buffer, Input};
-use replay_lines::output::flush;
+use replay_lines::input::{Input, Source};
+use replay_lines::output::{Sink, flush};
 use replay_slots::case::{Bytes, Narrow, Wide};
 use replay_slots::slots::{Slot, Text};
 
@@ -32,8 +32,8 @@ fn written(out: &[u8], used: usize) -> Output {
 
 // All lines, as long as the answers can be written; whether they are.
 fn replay_all(
-    buffer: &mut Buffer,
-    out: &mut Buffer,
+    buffer: &mut Source,
+    out: &mut Sink,
     narrow: &mut Narrow,
     wide: &mut Wide,
     bytes: &mut Bytes,

@@ -5,11 +5,11 @@ mod reading;
 mod reducing;
 mod writing;
 
+use replay_lines::output::Sink;
 use crate::reading::read;
 use crate::reducing::reduce;
 use crate::writing::write;
 use replay_calls::operations::{READ_FILE, WRITE_FILE};
-use replay_lines::input::Buffer;
 use replay_slots::case::Case;
 
 // The answer to a case, and what may have changed, at return.
@@ -18,7 +18,7 @@ pub fn filing(
     case: Case,
     cells: &[u16],
     bytes: &[u8],
-    out: &mut Buffer,
+    out: &mut Sink,
     used: usize,
 ) -> usize {
     match operation {

@@ -7,6 +7,7 @@ mod quotients;
 mod redundant;
 mod strong;
 
+use replay_lines::output::Sink;
 use crate::components::components;
 use crate::cycles::cycles;
 use crate::quotients::{block, naive};
@@ -16,7 +17,6 @@ use replay_calls::operations::{
     QUOTIENT_LTS_BLOCK, QUOTIENT_LTS_NAIVE, REMOVE_REDUNDANT_TRANSITIONS,
     TAU_CYCLE_ELIMINATION_AND_REORDER, TAU_SCC_DECOMPOSITION,
 };
-use replay_lines::input::Buffer;
 use replay_slots::case::Case;
 
 // The answer to a case, and what may have changed, at return.
@@ -24,7 +24,7 @@ pub fn reducing(
     operation: usize,
     case: Case,
     cells: &[u16],
-    out: &mut Buffer,
+    out: &mut Sink,
     used: usize,
 ) -> usize {
     match operation {

@@ -1,3 +1,4 @@
 pub mod Spelled
+pub mod Writing
 pub mod Putting
 pub mod Theorems
