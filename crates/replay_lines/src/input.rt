@@ -47,7 +47,7 @@ pub const NEWLINE: u16 = 10;
 
 // A place in the input: its byte, and the bytes after it, which are the source's cells at..end. `good` says whether the
 // line is a case's as far as it is read; once it is not, no more of it is read.
-#[derive(Drop)]
+#[derive(Clone, Copy)]
 pub struct Input {
     pub at: usize,
     pub end: usize,

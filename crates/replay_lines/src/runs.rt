@@ -9,7 +9,7 @@ const STAR: u16 = 42;
 const PLUS: u16 = 43;
 
 // The first cell, how many there are, and by how much each is more than the one before: 0 or 1, and 0 for one cell.
-#[derive(Drop)]
+#[derive(Clone, Copy)]
 pub struct Run {
     pub first: u64,
     pub count: u64,
