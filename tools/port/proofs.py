@@ -102,11 +102,11 @@ class Proof:
         last_step = None
         while rest:
             f = rest.pop(0)
-            if out and (out[-1] in ('args', 'initial') or (len(out) == 1 and last_step in self.kinds.values())):
+            if out and (out[-1] in ('args', 'initial', 'new', 'auto') or (len(out) == 1 and last_step in self.kinds.values())):
                 if f not in ('invariant', 'inv', 'initial', 'auto', 'kept'):
                     f = re.sub(r'_lem$', '', f.replace('-', '_'))
             if not out and f not in self.steps and f not in self.steps.values():
-                for step in (re.sub(r'_lem$', '', f), re.sub(r'_lem$', '', f).replace('-', '_'), re.sub(r'_lem(?=\d*$)', '', f).replace('-', '_'), (f[0].lower() + f[1:]).replace('-', '_')):
+                for step in [x for x in list(self.steps) + list(self.steps.values()) if x.lower().replace('-', '_') == f.lower().replace('-', '_')] + list((re.sub(r'_lem$', '', f), re.sub(r'_lem$', '', f).replace('-', '_'), re.sub(r'_lem(?=\d*$)', '', f).replace('-', '_'), (f[0].lower() + f[1:]).replace('-', '_'))):
                     if step in self.steps or step in self.steps.values():
                         f = step
                         break
@@ -384,13 +384,18 @@ class Proof:
 
         chunk = re.sub(rf'let ({WORD}) =\s*({WORD})((?:\.before)+)\s+in\b', fix_let, chunk)
 
-        alias = {}
+        alias, origin = {}, {}
+        places = set(where) | {'c', 'q'}
+        for m in re.finditer(rf'let ({WORD}) =\s*({WORD})((?:\.(?:before|KEPT))*)\s+in\b', chunk):
+            if m.group(2) in places:
+                places.add(m.group(1))
         for m in re.finditer(rf'let ({WORD})(?: : [^=]*?)? =\s*({WORD})((?:\.{WORD})+)\s+in\b', chunk):
             fields = [f for f in m.group(3).split('.')[1:] if f not in ('before', 'KEPT')]
             if m.group(2) in alias:
                 fields = alias[m.group(2)] + fields
-            if fields and m.group(2) not in ('tie', 'goal'):
+            if fields and m.group(2) not in ('tie', 'goal') and (m.group(2) in places or m.group(2) in alias):
                 alias[m.group(1)] = fields
+                origin[m.group(1)] = origin.get(m.group(2), m.group(2))
 
         def fix_path(m):
             root, fields = m.group(1), m.group(2).split('.')[1:]
@@ -403,6 +408,15 @@ class Proof:
                 whole = self.turn_fields(alias[root] + fields)
                 if whole[:len(start)] == start:
                     return root + ''.join('.' + f for f in whole[len(start):])
+                return origin[root] + ''.join('.' + f for f in whole)
+            if root != ')' and root not in places and not kept:
+                # no place: a record of ours, or what a step brought
+                plain, last = [], None
+                for f in fields:
+                    f = f.replace('-', '_') if last in ('args', 'new', 'auto', 'initial') else f
+                    last = {'ptr': 'ref_ptr', 'inv': 'invariant', 'pre': 'requires', 'well-formed': 'well_formed'}.get(f, f)
+                    plain.append(last)
+                return root + ''.join('.' + f for f in plain)
             fields = self.turn_fields(fields)
             return root + '.before' * len(kept) + ''.join('.' + f for f in fields)
 

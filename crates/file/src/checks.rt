@@ -5,7 +5,7 @@ ghost use Rattle.table.specs.Checks.{table_tests};
 ghost use Rattle.file.specs.Input.{with_rows, field_test, field_tests, length_tests, sized_tests, file_refusal, long_refusal};
 ghost use Rattle.file.specs.Layout.{row_size, input_rows, largest_input};
 
-use crate::core::{header, read_rows};
+use crate::cores::{header, read_rows};
 use crate::layout::{
     ENTRIES_AT, HEADER_KIND, HEADER_KIND_AT, HEADER_LENGTH_AT, HEADER_OFFSET_AT, HEADER_SIZE,
     INPUT_ENTRIES, INPUT_HEADER, INPUT_ROWS, ROW_COUNT_AT, ROW_SIZE, ROWS_KIND, ROWS_KIND_AT,

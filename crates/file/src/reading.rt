@@ -4,7 +4,7 @@ ghost use Rattle.table.specs.Tables.{Three, said_table};
 ghost use Rattle.file.specs.Input.{read_file};
 
 use crate::checks::file_refusal;
-use crate::core::{header, read_rows};
+use crate::cores::{header, read_rows};
 use table::answers::{TableAnswer, refusing_table, table_of};
 
 // Reads an input file: its rows over the first m cells of the columns. Answers its header.

@@ -5,7 +5,7 @@ ghost use Rattle.columns.specs.Due.{due};
 ghost use Rattle.file.specs.Output.{blocks_test, write_refusal, write_file};
 ghost use Rattle.table.specs.Lts.{lts};
 
-use crate::core::{output_size, write};
+use crate::cores::{output_size, write};
 use columns::answers::{NumberAnswer, Refusal, number, refuse, refusing_number};
 use columns::checks::{or_else, refuse_unless, states_refusal};
 use columns::limits::{NO_ROOM, NONE, OUT_OF_RANGE};

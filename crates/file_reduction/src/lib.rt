@@ -7,7 +7,7 @@ ghost use Rattle.file_reduction.specs.Answers.{said_file};
 ghost use Rattle.file_reduction.specs.Reducing.{put_file, reduce_table, reduce_file};
 ghost use Rattle.refinement_strong.specs.Reduction.{strong_blocks, strong_rounds, strong_count, strong_rows};
 ghost use Rattle.table.specs.Lts.{RowsLong, Valid, lts};
-ghost use Rattle.table.specs.Tables.{rows_over};
+ghost use Rattle.table.specs.Tables.{Three, rows_over};
 
 pub mod answers;
 
@@ -16,9 +16,9 @@ use columns::answers::refuse;
 use columns::cells::at;
 use columns::limits::{MAX_ROWS, MAX_STATES, NO_ROOM};
 use file::checks::file_refusal;
-use file::core::{header, output_size, read_rows, write};
-use quotient::core::quotient_rows;
-use reduction::core::strong_blocks;
+use file::cores::{header, output_size, read_rows, write};
+use quotient::cores::quotient_rows;
+use reduction::cores::strong_blocks;
 use refinement_rounds::running::RunEnd;
 use table::Table;
 
@@ -83,8 +83,8 @@ fn rows_between(
         Valid system × (block.now ≡ strong_blocks system) }
     requires each_long { EachLong table.m (result_source.old ∷ result_label.old ∷ result_target.old ∷ []) }
     ensures { let between = strong_rows (lts table source.now label.now target.now) in
-        let out = (result_source.old, (result_label.old, result_target.old)) in
-        let out_left = (result_source.new, (result_label.new, result_target.new)) in
+        let out : Three = (result_source.old, (result_label.old, result_target.old)) in
+        let out_left : Three = (result_source.new, (result_label.new, result_target.new)) in
         (result ≡ length between) × (out_left ≡ rows_over between out) }
 {
     let mut a = [0u16; MAX_ROWS];

@@ -1,6 +1,6 @@
 // Whether one signature is in another, and 15 for lists of pairs.
 pub mod checks;
-pub mod core;
+pub mod cores;
 pub mod lists;
 pub mod pairs;
 
@@ -9,7 +9,7 @@ ghost use Rattle.columns.specs.Answers.{said_flag};
 ghost use Rattle.pairs.specs.Subset.{is_subset_of};
 
 use crate::checks::subset_refusal;
-use crate::core::subset;
+use crate::cores::subset;
 use columns::answers::{FlagAnswer, flag, refusing_flag};
 
 // Whether every pair of other, apart from (label, block), is in self. Each list lies in two columns and ends with the

@@ -3,4 +3,4 @@
 // marked_split..end are marked. Here: one block, the check of the columns, and the work of the calls.
 pub mod block;
 pub mod checks;
-pub mod core;
+pub mod cores;

@@ -10,7 +10,7 @@ ghost use Rattle.partition.specs.Partition.{parts};
 use crate::{BlockPartition, PartitionAnswer, PartitionOutcome};
 use columns::answers::{Answer, finished, refusing};
 use partition::checks::{argument_refusal, blocks_refusal, size_refusal};
-use partition::core;
+use partition::cores;
 
 impl BlockPartition {
     // One block 0 of all n states, in order, all marked.
@@ -44,7 +44,7 @@ impl BlockPartition {
                 outcome: PartitionOutcome::Refused(t),
             };
         }
-        core::new(
+        cores::new(
             k,
             &mut *elements,
             &mut *element_offset,
@@ -93,7 +93,7 @@ impl BlockPartition {
         if number != 0 {
             return refusing(t);
         }
-        core::mark_element(
+        cores::mark_element(
             &mut *elements,
             &mut *element_offset,
             element_to_block,
@@ -139,7 +139,7 @@ impl BlockPartition {
         if number != 0 {
             return refusing(t);
         }
-        core::swap_blocks(
+        cores::swap_blocks(
             elements,
             &mut *element_to_block,
             &mut *begin,

@@ -14,7 +14,7 @@ use columns::answers::{
 use columns::cells::at;
 use partition::block::{BlockAnswer, BlockOutcome};
 use partition::checks::{argument_refusal, check};
-use partition::core;
+use partition::cores;
 
 impl BlockPartition {
     // The number of blocks.
@@ -197,7 +197,7 @@ impl BlockPartition {
             };
         }
         BlockAnswer {
-            outcome: BlockOutcome::Done(core::read_block(begin, marked_split, end, b)),
+            outcome: BlockOutcome::Done(cores::read_block(begin, marked_split, end, b)),
         }
     }
 

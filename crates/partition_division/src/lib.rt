@@ -5,7 +5,7 @@ ghost use Rattle.partition_calls.specs.Saying.{count_said};
 ghost use Rattle.partition.specs.Partition.{parts};
 
 pub mod checks;
-pub mod core;
+pub mod cores;
 
 use crate::checks::division_refusal;
 use columns::answers::Refusal;
@@ -70,7 +70,7 @@ pub fn partition_marked_with(
         };
     }
     clear_three(&mut *old_elements, &mut *block_sizes, &mut *spare);
-    let c = core::partition_marked_with(
+    let c = cores::partition_marked_with(
         n,
         count,
         &mut *elements,

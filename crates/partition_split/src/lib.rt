@@ -5,7 +5,7 @@ ghost use Rattle.partition_split.specs.Split.{split_marked};
 ghost use Rattle.partition_calls.specs.Saying.{count_said};
 ghost use Rattle.partition.specs.Partition.{parts};
 
-pub mod core;
+pub mod cores;
 
 use columns::answers::{NumberAnswer, number, refusing_number};
 use partition::checks::argument_refusal;
@@ -49,7 +49,7 @@ pub fn split_marked(
     if refused != 0 {
         return refusing_number(t);
     }
-    let after = core::split_marked(
+    let after = cores::split_marked(
         n,
         count,
         &mut *elements,

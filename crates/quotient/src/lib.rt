@@ -1,11 +1,11 @@
 // The naive quotient of a table by the blocks of a partition (quotient.rs).
 ghost use Rattle.std.specs.Prelude.{◌≡◌, [], ◌∷◌};
 ghost use Rattle.quotient.specs.Call.{quotient_lts_naive};
-ghost use Rattle.table.specs.Tables.{said_table};
+ghost use Rattle.table.specs.Tables.{Three, said_table};
 ghost use Rattle.partition.specs.Partition.{parts};
 ghost use Rattle.table.specs.Lts.{lts};
 
-pub mod core;
+pub mod cores;
 
 use columns::cells::at;
 use table::Table;
@@ -43,8 +43,8 @@ pub fn quotient_lts_naive(
         let given = parts elements.now element_offset.now element_to_block.now begin.now marked_split.now end.now table.n count in
         let work = a.old ∷ b.old ∷ c.old ∷ order.old ∷ spare.old ∷ [] in
         let work_left = a.new ∷ b.new ∷ c.new ∷ order.new ∷ spare.new ∷ [] in
-        let out = (result_source.old, (result_label.old, result_target.old)) in
-        let out_left = (result_source.new, (result_label.new, result_target.new)) in
+        let out : Three = (result_source.old, (result_label.old, result_target.old)) in
+        let out_left : Three = (result_source.new, (result_label.new, result_target.new)) in
         (said_table result, (out_left, work_left))
         ≡ quotient_lts_naive eliminate_inert_taus eliminate_tau_loops system given out work }
 {
@@ -73,7 +73,7 @@ pub fn quotient_lts_naive(
         return refusing_table(t);
     }
     let initial = at(element_to_block, table.initial as usize);
-    let m = core::quotient_rows(
+    let m = cores::quotient_rows(
         table,
         source,
         label,

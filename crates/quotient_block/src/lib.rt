@@ -1,11 +1,11 @@
 // The quotient of a table by one state of each block of a partition (quotient.rs).
 ghost use Rattle.std.specs.Prelude.{◌≡◌, [], ◌∷◌};
 ghost use Rattle.quotient_block.specs.Call.{quotient_lts_block};
-ghost use Rattle.table.specs.Tables.{said_table};
+ghost use Rattle.table.specs.Tables.{Three, said_table};
 ghost use Rattle.partition.specs.Partition.{parts};
 ghost use Rattle.table.specs.Lts.{lts};
 
-pub mod core;
+pub mod cores;
 
 use table::Table;
 use table::answers::{TableAnswer, refusing_table};
@@ -44,8 +44,8 @@ pub fn quotient_lts_block(
         let given = parts elements.now element_offset.now element_to_block.now begin.now marked_split.now end.now table.n count in
         let work = a.old ∷ b.old ∷ c.old ∷ order.old ∷ spare.old ∷ chosen.old ∷ [] in
         let work_left = a.new ∷ b.new ∷ c.new ∷ order.new ∷ spare.new ∷ chosen.new ∷ [] in
-        let out = (result_source.old, (result_label.old, result_target.old)) in
-        let out_left = (result_source.new, (result_label.new, result_target.new)) in
+        let out : Three = (result_source.old, (result_label.old, result_target.old)) in
+        let out_left : Three = (result_source.new, (result_label.new, result_target.new)) in
         (said_table result, (out_left, work_left)) ≡ quotient_lts_block branching eliminate_tau_loops system given out work }
 {
     let room = room_for(
@@ -79,7 +79,7 @@ pub fn quotient_lts_block(
     if number != 0 {
         return refusing_table(t);
     }
-    core::quotient_block(
+    cores::quotient_block(
         table,
         source,
         label,

@@ -4,7 +4,7 @@ ghost use Rattle.columns.specs.Answers.{said_number};
 ghost use Rattle.quotient_components.specs.Call.{tau_scc_decomposition};
 ghost use Rattle.table.specs.Lts.{lts};
 
-pub mod core;
+pub mod cores;
 
 use columns::answers::{NumberAnswer, number, refusing_number};
 use table::Table;
@@ -50,7 +50,7 @@ pub fn tau_scc_decomposition(
     if refused != 0 {
         return refusing_number(t);
     }
-    let count = core::tau_scc_decomposition(
+    let count = cores::tau_scc_decomposition(
         table,
         source,
         label,

@@ -1,9 +1,10 @@
 // `tau_cycle_elimination_and_reorder` (signatures.rs): hidden cycles taken out, and the states renumbered in the reversed hidden order.
+ghost use Rattle.table.specs.Tables.{Three};
 ghost use Rattle.std.specs.Prelude.{◌≡◌, [], ◌∷◌};
 ghost use Rattle.quotient_cycles.specs.Call.{said_reordered, tau_cycle_elimination_and_reorder};
 ghost use Rattle.table.specs.Lts.{lts};
 
-pub mod core;
+pub mod cores;
 
 use columns::answers::Refusal;
 use table::Table;
@@ -55,8 +56,8 @@ pub fn tau_cycle_elimination_and_reorder(
         let left = numbers.new ∷ mid_source.new ∷ mid_label.new ∷ mid_target.new ∷ a.new ∷ b.new ∷ c.new ∷ order.new ∷ spare.new ∷ [] in
         let rest = a.old ∷ b.old ∷ c.old ∷ order.old ∷ spare.old ∷ [] in
         let work = numbers.old ∷ mid_source.old ∷ mid_label.old ∷ mid_target.old ∷ rest in
-        let out = (result_source.old, (result_label.old, result_target.old)) in
-        let out_left = (result_source.new, (result_label.new, result_target.new)) in
+        let out : Three = (result_source.old, (result_label.old, result_target.old)) in
+        let out_left : Three = (result_source.new, (result_label.new, result_target.new)) in
         (said_reordered result, (out_left, left)) ≡ tau_cycle_elimination_and_reorder system state eliminate_tau_selfloops out work }
 {
     let s = state as usize;
@@ -83,7 +84,7 @@ pub fn tau_cycle_elimination_and_reorder(
             outcome: ReorderedOutcome::Refused(t),
         };
     }
-    let r = core::tau_cycle_elimination_and_reorder(
+    let r = cores::tau_cycle_elimination_and_reorder(
         table,
         source,
         label,

@@ -2,10 +2,10 @@
 // source to its target.
 ghost use Rattle.std.specs.Prelude.{◌≡◌, [], ◌∷◌};
 ghost use Rattle.quotient_redundant.specs.Call.{remove_redundant_transitions};
-ghost use Rattle.table.specs.Tables.{said_table};
+ghost use Rattle.table.specs.Tables.{Three, said_table};
 ghost use Rattle.table.specs.Lts.{lts};
 
-pub mod core;
+pub mod cores;
 
 use table::Table;
 use table::answers::{TableAnswer, refusing_table, table_of};
@@ -33,8 +33,8 @@ pub fn remove_redundant_transitions(
     ensures { let system = lts table source.now label.now target.now in
         let left = order.new ∷ back_source.new ∷ back_label.new ∷ back_target.new ∷ forward.new ∷ backward.new ∷ queue.new ∷ [] in
         let work = order.old ∷ back_source.old ∷ back_label.old ∷ back_target.old ∷ forward.old ∷ backward.old ∷ queue.old ∷ [] in
-        let out = (result_source.old, (result_label.old, result_target.old)) in
-        let out_left = (result_source.new, (result_label.new, result_target.new)) in
+        let out : Three = (result_source.old, (result_label.old, result_target.old)) in
+        let out_left : Three = (result_source.new, (result_label.new, result_target.new)) in
         (said_table result, (out_left, left)) ≡ remove_redundant_transitions system out work }
 {
     let room = room_for(
@@ -56,7 +56,7 @@ pub fn remove_redundant_transitions(
     if refused != 0 {
         return refusing_table(t);
     }
-    let m = core::remove_redundant_transitions(
+    let m = cores::remove_redundant_transitions(
         table,
         source,
         label,

@@ -5,10 +5,10 @@ ghost use Rattle.reduction.specs.Reducing.{Slices, reduction_refusal, strong_red
 ghost use Rattle.table.specs.Lts.{lts};
 
 pub mod answers;
-pub mod core;
+pub mod cores;
 
 use crate::answers::{ReductionAnswer, reduced, refusing_reduction};
-use crate::core::reduce;
+use crate::cores::reduce;
 use columns::answers::Refusal;
 use columns::cells::at;
 use columns::checks::long;

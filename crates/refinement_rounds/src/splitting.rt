@@ -7,7 +7,7 @@ ghost use Rattle.refinement_rounds.specs.Splitting.{stored_signature, Split, Rou
 ghost use Rattle.refinement_signing.specs.Stored.{Held};
 
 use columns::cells::at;
-use partition_division::core::partition_marked_with;
+use partition_division::cores::partition_marked_with;
 use refinement_signing::numbering::number_block;
 
 // Block b is wholly marked.

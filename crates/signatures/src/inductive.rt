@@ -5,7 +5,7 @@ ghost use Rattle.signatures.specs.Inductive.{branching_bisim_signature_inductive
 ghost use Rattle.partition.specs.Partition.{parts};
 ghost use Rattle.table.specs.Lts.{lts};
 
-use crate::core::push_inductive;
+use crate::cores::push_inductive;
 use crate::flat::sign;
 use columns::answers::{NumberAnswer, refusing_number};
 use table::Table;

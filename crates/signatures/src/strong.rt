@@ -5,7 +5,7 @@ ghost use Rattle.signatures.specs.Strong.{strong_bisim_signature};
 ghost use Rattle.partition.specs.Partition.{parts};
 ghost use Rattle.table.specs.Lts.{lts};
 
-use crate::core::push_strong;
+use crate::cores::push_strong;
 use crate::flat::sign;
 use columns::answers::{NumberAnswer, refusing_number};
 use table::Table;

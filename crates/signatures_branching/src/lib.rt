@@ -6,7 +6,7 @@ ghost use Rattle.columns.specs.Answers.{said_number};
 ghost use Rattle.partition.specs.Partition.{parts};
 ghost use Rattle.table.specs.Lts.{lts};
 
-pub mod core;
+pub mod cores;
 
 use columns::answers::{NumberAnswer, refusing_number};
 use columns::cells::clear;
@@ -80,7 +80,7 @@ pub fn branching_bisim_signature(
     }
     clear(&mut *marks);
     clear(&mut *queue);
-    let d = core::push_branching(
+    let d = cores::push_branching(
         table,
         source,
         label,

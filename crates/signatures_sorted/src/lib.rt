@@ -7,7 +7,7 @@ ghost use Rattle.partition.specs.Partition.{parts};
 ghost use Rattle.table.specs.Lts.{lts};
 
 pub mod checks;
-pub mod core;
+pub mod cores;
 pub mod opening;
 
 use crate::checks::sorted_refusal;
@@ -95,7 +95,7 @@ pub fn branching_bisim_signature_sorted(
     clear(&mut *end_high);
     clear(&mut *end_low);
     clear(&mut *tree);
-    core::branching_bisim_signature_sorted(
+    cores::branching_bisim_signature_sorted(
         table,
         source,
         label,

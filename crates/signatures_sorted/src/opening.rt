@@ -12,7 +12,7 @@ ghost use Rattle.columns.specs.Columns.{EachLong};
 use columns::cells::at;
 use pairs::lists::start;
 use table::Table;
-use table::core::{hidden_in, rows_of};
+use table::cores::{hidden_in, rows_of};
 
 // A place in the flat pairs, over cells j.
 fn set_place(place: usize, high: &mut [u16], low: &mut [u16], j: usize)

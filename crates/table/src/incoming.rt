@@ -6,7 +6,7 @@ ghost use Rattle.table.specs.Lts.{lts};
 
 use crate::Table;
 use crate::checks::{check, works_long};
-use crate::core::sort_incoming;
+use crate::cores::sort_incoming;
 use columns::answers::{NumberAnswer, Refusal, number_of, refusing_number};
 use columns::cells::clear;
 

@@ -2,7 +2,7 @@
 // ascending in this order of fields.
 pub mod answers;
 pub mod checks;
-pub mod core;
+pub mod cores;
 pub mod incoming;
 pub mod reach;
 pub mod transitions;

@@ -6,7 +6,7 @@ ghost use Rattle.table.specs.Lts.{lts};
 
 use crate::Table;
 use crate::checks::{argument_refusal, works_long};
-use crate::core::reach;
+use crate::cores::reach;
 use columns::answers::{NumberAnswer, Refusal, number, refusing_number};
 use columns::cells::clear;
 

@@ -6,7 +6,7 @@ ghost use Rattle.table.specs.Lts.{lts};
 
 use crate::Table;
 use crate::checks::argument_refusal;
-use crate::core::rows_of;
+use crate::cores::rows_of;
 use columns::answers::{NumberAnswer, Refusal, number, refusing_number};
 use columns::checks::{index_refusal, or_else};
 
@@ -86,6 +86,6 @@ pub fn next_incoming(
     if refused != 0 {
         return refusing_number(t);
     }
-    let row = crate::core::next_incoming(target, table.m as usize, s, i);
+    let row = crate::cores::next_incoming(target, table.m as usize, s, i);
     number(row as u64)
 }

@@ -9,7 +9,7 @@ ghost use Rattle.columns.specs.Lent.{Clear, Cleared};
 use columns::cells::at;
 use columns::sorting::sort;
 use table::Table;
-use table::core::{hidden_in, rows_of};
+use table::cores::{hidden_in, rows_of};
 
 // Whether row i is hidden, comes from a state of block b and leads to one.
 fn is_inner(

@@ -6,7 +6,7 @@ ghost use Rattle.table_closure.specs.Closure.{mark_backward_closure};
 ghost use Rattle.partition.specs.Partition.{parts};
 ghost use Rattle.table.specs.Lts.{lts};
 
-pub mod core;
+pub mod cores;
 pub mod inner;
 
 use columns::answers::{Answer, finished, refusing};
@@ -62,7 +62,7 @@ pub fn mark_backward_closure(
     }
     clear(&mut *order);
     clear(&mut *spare);
-    core::mark_backward_closure(
+    cores::mark_backward_closure(
         table,
         source,
         label,

@@ -4,7 +4,7 @@ ghost use Rattle.columns.specs.Answers.{said};
 ghost use Rattle.table_order.specs.Call.{sort_refusal, sort_topological};
 ghost use Rattle.table.specs.Lts.{lts};
 
-pub mod core;
+pub mod cores;
 
 use columns::answers::{Answer, Refusal, finished, refuse, refusing};
 use columns::limits::CYCLIC;
@@ -58,7 +58,7 @@ pub fn sort_topological(
     if refused != 0 {
         return refusing(t);
     }
-    let free = core::sort_topological(
+    let free = cores::sort_topological(
         table,
         source,
         label,

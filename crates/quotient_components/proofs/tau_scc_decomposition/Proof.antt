@@ -25,8 +25,8 @@ out a = a.args.numbers.now
 abbrev work : tie.Start → List (List ℕ)
 work a =
     a.args.order.now
-    ∷ a.args.back-source.now
-    ∷ a.args.back-label.now
+    ∷ a.args.back_source.now
+    ∷ a.args.back_label.now
     ∷ a.args.back_target.now
     ∷ a.args.forward.now
     ∷ a.args.backward.now
@@ -38,46 +38,46 @@ abbrev after : tie.Start → List ℕ × List (List ℕ)
 after a = (written a.args.table.n (component (L a)) (out a), zeroed (work a))
 
 -- the check
-module _ (q : tie.After-check) where
-  agrees : q.check.result ≡ decomposition_refusal (L q.before.before.before.before.before.before.before.before.before.before.before.before.before.before.before.before) (out q.before.before.before.before.before.before.before.before.before.before.before.before.before.before.before.before) (work q.before.before.before.before.before.before.before.before.before.before.before.before.before.before.before.before)
+module _ (q : tie.After-check-t) where
+  agrees : q.check-t.result ≡ decomposition_refusal (L q.before.before.before.before.before.before.before.before.before.before.before.before.before.before.before.before) (out q.before.before.before.before.before.before.before.before.before.before.before.before.before.before.before.before) (work q.before.before.before.before.before.before.before.before.before.before.before.before.before.before.before.before)
   unfolding decomposition_refusal
-  agrees = q.check.ensures ∙ ap (λ (b : Bool). due (table_tests (L q.before.before.before.before.before.before.before.before.before.before.before.before.before.before.before.before) b)) q.before.room_for.ensures
+  agrees = q.check-t.ensures ∙ ap (λ (b : Bool). due (table_tests (L q.before.before.before.before.before.before.before.before.before.before.before.before.before.before.before.before) b)) q.room_for-room.ensures
 
-  ready : q.check.result.number ≡ 0
-      → ReadyCall (L q.before.before.before.before.before.before.before.before.before.before.before.before.before.before.before.before) q.before.before.before.before.before.before.before.before.before.before.before.before.before.before.before.before.args.table.n (length (out q.before.before.before.before.before.before.before.before.before.before.before.before.before.before.before.before) ∷ []) (map length (work q.before.before.before.before.before.before.before.before.before.before.before.before.before.before.before.before))
+  ready : q.check-t.result.number ≡ 0
+      → ReadyCall (L q.before.before.before.before.before.before.before.before.before.before.before.before.before.before.before.before) q.args.table.n (length (out q.before.before.before.before.before.before.before.before.before.before.before.before.before.before.before.before) ∷ []) (map length (work q.before.before.before.before.before.before.before.before.before.before.before.before.before.before.before.before))
   unfolding decomposition_refusal
   ready z =
-      ready_call (L q.before.before.before.before.before.before.before.before.before.before.before.before.before.before.before.before) q.before.before.before.before.before.before.before.before.before.before.before.before.before.before.before.before.args.table.n (length (out q.before.before.before.before.before.before.before.before.before.before.before.before.before.before.before.before) ∷ []) (map length (work q.before.before.before.before.before.before.before.before.before.before.before.before.before.before.before.before)) q.check.result agrees z
+      ready_call (L q.before.before.before.before.before.before.before.before.before.before.before.before.before.before.before.before) q.args.table.n (length (out q.before.before.before.before.before.before.before.before.before.before.before.before.before.before.before.before) ∷ []) (map length (work q.before.before.before.before.before.before.before.before.before.before.before.before.before.before.before.before)) q.check-t.result agrees z
 
-cast-room-for : tie.Need-overflow-cast-room-for
-cast-room-for c = search rules
+overflow_cast-table : tie.Need-overflow_cast-table
+overflow_cast-table c = search rules
 
-slice-aggregate-room-for : tie.Need-slice-aggregate-room-for
-slice-aggregate-room-for c = search rules
+slice_bounds-room_for-end : tie.Need-slice_bounds-room_for-end
+slice_bounds-room_for-end c = search rules
 
-slice-aggregate-room-for-2 : tie.Need-slice-aggregate-room-for-2
-slice-aggregate-room-for-2 c = search rules
+slice_bounds-room_for-end-2 : tie.Need-slice_bounds-room_for-end-2
+slice_bounds-room_for-end-2 c = search rules
 
-room-for-requires : tie.Need-room-for-requires
-room-for-requires c κs = search rules
+room_for-room-requires : tie.Need-room_for-room-requires
+room_for-room-requires c κs = search rules
 
-check-requires : tie.Need-check-requires
-check-requires c κs = search rules
+check-t-requires : tie.Need-check-t-requires
+check-t-requires c κs = search rules
 
-refusing-number-requires : tie.Need-refusing-number-requires
-refusing-number-requires c κs = search rules
+refusing_number-requires : tie.Need-refusing_number-requires
+refusing_number-requires c κs = search rules
 
-returns : tie.Need-returns
+returns-then-refused-ne0 : tie.Need-returns-then-refused-ne0
 unfolding tau_scc_decomposition
-returns c = let a = c.before.before.before.before.before.before.before.before.before.before.before.before.before.before.before.before.before.before in
-    left_refused (decomposition_refusal (L a) (out a) (work a)) c.before.before.check.result (agrees c.before.before) (
+returns-then-refused-ne0 c = let a = c.before.before.before.before.before.before.before.before.before.before.before.before.before.before.before.before.before.before in
+    left_refused (decomposition_refusal (L a) (out a) (work a)) c.check-t.result (agrees c.before.before) (
       out a,
       work a,
     ) (after a)
-    (components (L a) ∷ []) _ c.before.if1.true c.refusing-number.ensures
+    (components (L a) ∷ []) _ c.if-refused-ne0.true c.refusing_number.ensures
 
-tau-scc-decomposition-requires : tie.Need-tau-scc-decomposition-requires
-tau-scc-decomposition-requires c κs = let r = ready c.before.before.before.before.before.before.before.before.before c.before.before.before.before.before.before.before.before.if1.false in
+tau_scc_decomposition-count-requires : tie.Need-tau_scc_decomposition-count-requires
+tau_scc_decomposition-count-requires c κs = let r = ready c.before.before.before.before.before.before.before.before.before c.if-refused-ne0.false in
     let w = r.work_room in (
       (r.valid, r.result_room.0, omega (arith, w.0)),
       (
@@ -92,59 +92,59 @@ tau-scc-decomposition-requires c κs = let r = ready c.before.before.before.befo
 number-requires : tie.Need-number-requires
 number-requires c κs = search rules
 
-same_length : tie.Need-same-length
-same_length c = c.before.before.before.before.before.before.before.before.before.before.before.before.before.before.before.before.before.tau_scc_decomposition_lem.auto.1.1.1.1.0
+shape_of-numbers : tie.Need-shape_of-numbers
+shape_of-numbers c = c.tau_scc_decomposition-count.auto.numbers
 
-same-length-2 : tie.Need-same-length-2
-same-length-2 c = c.before.before.before.before.before.before.before.before.before.before.before.before.before.before.before.before.before.tau_scc_decomposition_lem.auto.1.1.1.1.1.0
+shape_of-order : tie.Need-shape_of-order
+shape_of-order c = c.tau_scc_decomposition-count.auto.order
 
-same-length-3 : tie.Need-same-length-3
-same-length-3 c = c.before.before.before.before.before.before.before.before.before.before.before.before.before.before.before.before.before.tau_scc_decomposition_lem.auto.1.1.1.1.1.1.0
+shape_of-back_source : tie.Need-shape_of-back_source
+shape_of-back_source c = c.tau_scc_decomposition-count.auto.back_source
 
-same-length-4 : tie.Need-same-length-4
-same-length-4 c = c.before.before.before.before.before.before.before.before.before.before.before.before.before.before.before.before.before.tau_scc_decomposition_lem.auto.1.1.1.1.1.1.1.0
+shape_of-back_label : tie.Need-shape_of-back_label
+shape_of-back_label c = c.tau_scc_decomposition-count.auto.back_label
 
-same-length-5 : tie.Need-same-length-5
-same-length-5 c = c.before.before.before.before.before.before.before.before.before.before.before.before.before.before.before.before.before.tau_scc_decomposition_lem.auto.1.1.1.1.1.1.1.1.0
+shape_of-back_target : tie.Need-shape_of-back_target
+shape_of-back_target c = c.tau_scc_decomposition-count.auto.back_target
 
-same-length-6 : tie.Need-same-length-6
-same-length-6 c = c.before.before.before.before.before.before.before.before.before.before.before.before.before.before.before.before.before.tau_scc_decomposition_lem.auto.1.1.1.1.1.1.1.1.1.0
+shape_of-forward : tie.Need-shape_of-forward
+shape_of-forward c = c.tau_scc_decomposition-count.auto.forward
 
-same-length-7 : tie.Need-same-length-7
-same-length-7 c = c.before.before.before.before.before.before.before.before.before.before.before.before.before.before.before.before.before.tau_scc_decomposition_lem.auto.1.1.1.1.1.1.1.1.1.1.0
+shape_of-backward : tie.Need-shape_of-backward
+shape_of-backward c = c.tau_scc_decomposition-count.auto.backward
 
-same-length-8 : tie.Need-same-length-8
-same-length-8 c = c.before.before.before.before.before.before.before.before.before.before.before.before.before.before.before.before.before.tau_scc_decomposition_lem.auto.1.1.1.1.1.1.1.1.1.1.1.0
+shape_of-queue : tie.Need-shape_of-queue
+shape_of-queue c = c.tau_scc_decomposition-count.auto.queue
 
-returns-2 : tie.Need-returns-2
+returns : tie.Need-returns
 unfolding tau_scc_decomposition
-returns-2 c = let a = c.before.before.before.before.before.before.before.before.before.before.before.before.before.before.before.before.before.before.before.before.before.before.before.before.before.before.before.before.before.before.before.before.before.before.before.before.before.before.before.before.before.before.before in
-    let e = c.before.before.before.before.before.before.before.before.before.before.before.before.before.before.before.before.before.tau_scc_decomposition_lem.ensures in
+returns c = let a = c.before.before.before.before.before.before.before.before.before.before.before.before.before.before.before.before.before.before.before.before.before.before.before.before.before.before.before.before.before.before.before.before.before.before.before.before.before.before.before.before.before.before.before in
+    let e = c.tau_scc_decomposition-count.ensures in
     let w = e.1.1 in
-    left_done (decomposition_refusal (L a) (out a) (work a)) c.before.before.before.before.before.before.before.before.before.before.before.before.before.before.before.before.before.before.before.before.before.before.before.before.before.before.before.check.result (agrees c.before.before.before.before.before.before.before.before.before.before.before.before.before.before.before.before.before.before.before.before.before.before.before.before.before.before.before)
+    left_done (decomposition_refusal (L a) (out a) (work a)) c.check-t.result (agrees c.before.before.before.before.before.before.before.before.before.before.before.before.before.before.before.before.before.before.before.before.before.before.before.before.before.before.before)
     (out a, work a) (after a)
-    (components (L a) ∷ []) _ _ c.before.before.before.before.before.before.before.before.before.before.before.before.before.before.before.before.before.before.before.before.before.before.before.before.before.before.if1.false (c.number.ensures ∙ ap (λ (k : ℕ). done (k ∷ [])) e.0)
+    (components (L a) ∷ []) _ _ c.if-refused-ne0.false (c.number.ensures ∙ ap (λ (k : ℕ). done (k ∷ [])) e.0)
     (λ i. (e.1.0 i, w.0.0 i ∷ w.0.1 i ∷ w.0.2 i ∷ w.0.3 i ∷ w.1.0 i ∷ w.1.1 i ∷ w.1.2 i ∷ []))
 
-pub tau-scc-decomposition-spec : {M : Type 1} → statement M
-tau-scc-decomposition-spec =
+pub tau_scc_decomposition_spec : {M : Type 1} → statement M
+tau_scc_decomposition_spec =
     tie.close
     (tie.spec
-    cast-room-for
-    slice-aggregate-room-for
-    slice-aggregate-room-for-2
-    room-for-requires
-    check-requires
-    refusing-number-requires
-    returns
-    tau-scc-decomposition-requires
+    overflow_cast-table
+    slice_bounds-room_for-end
+    slice_bounds-room_for-end-2
+    room_for-room-requires
+    check-t-requires
+    refusing_number-requires
+    returns-then-refused-ne0
+    tau_scc_decomposition-count-requires
     number-requires
-    same_length
-    same-length-2
-    same-length-3
-    same-length-4
-    same-length-5
-    same-length-6
-    same-length-7
-    same-length-8
-    returns-2)
+    shape_of-numbers
+    shape_of-order
+    shape_of-back_source
+    shape_of-back_label
+    shape_of-back_target
+    shape_of-forward
+    shape_of-backward
+    shape_of-queue
+    returns)

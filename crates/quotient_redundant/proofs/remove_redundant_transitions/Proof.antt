@@ -21,13 +21,13 @@ abbrev L : tie.Start → Lts
 L a = lts a.args.table a.args.source.now a.args.label.now a.args.target.now
 
 abbrev out : tie.Start → Three
-out a = (a.args.result-source.now, (a.args.result-label.now, a.args.result-target.now))
+out a = (a.args.result_source.now, (a.args.result_label.now, a.args.result_target.now))
 
 abbrev work : tie.Start → List (List ℕ)
 work a =
     a.args.order.now
-    ∷ a.args.back-source.now
-    ∷ a.args.back-label.now
+    ∷ a.args.back_source.now
+    ∷ a.args.back_label.now
     ∷ a.args.back_target.now
     ∷ a.args.forward.now
     ∷ a.args.backward.now
@@ -42,46 +42,46 @@ abbrev after : tie.Start → Three × List (List ℕ)
 after a = (rows_over (remaining_rows (L a)) (out a), zeroed (work a))
 
 -- the check
-module _ (q : tie.After-check) where
-  agrees : q.check.result ≡ remove_refusal (L q.before.before.before.before.before.before.before.before.before.before.before.before.before.before.before.before.before.before) (out q.before.before.before.before.before.before.before.before.before.before.before.before.before.before.before.before.before.before) (work q.before.before.before.before.before.before.before.before.before.before.before.before.before.before.before.before.before.before)
+module _ (q : tie.After-check-t) where
+  agrees : q.check-t.result ≡ remove_refusal (L q.before.before.before.before.before.before.before.before.before.before.before.before.before.before.before.before.before.before) (out q.before.before.before.before.before.before.before.before.before.before.before.before.before.before.before.before.before.before) (work q.before.before.before.before.before.before.before.before.before.before.before.before.before.before.before.before.before.before)
   unfolding remove_refusal
-  agrees = q.check.ensures ∙ ap (λ (b : Bool). due (table_tests (L q.before.before.before.before.before.before.before.before.before.before.before.before.before.before.before.before.before.before) b)) q.before.room_for.ensures
+  agrees = q.check-t.ensures ∙ ap (λ (b : Bool). due (table_tests (L q.before.before.before.before.before.before.before.before.before.before.before.before.before.before.before.before.before.before) b)) q.room_for-room.ensures
 
-  ready : q.check.result.number ≡ 0
-      → ReadyCall (L q.before.before.before.before.before.before.before.before.before.before.before.before.before.before.before.before.before.before) q.before.before.before.before.before.before.before.before.before.before.before.before.before.before.before.before.before.before.args.table.m (lengths_of (out q.before.before.before.before.before.before.before.before.before.before.before.before.before.before.before.before.before.before)) (map length
+  ready : q.check-t.result.number ≡ 0
+      → ReadyCall (L q.before.before.before.before.before.before.before.before.before.before.before.before.before.before.before.before.before.before) q.args.table.m (lengths_of (out q.before.before.before.before.before.before.before.before.before.before.before.before.before.before.before.before.before.before)) (map length
       (work q.before.before.before.before.before.before.before.before.before.before.before.before.before.before.before.before.before.before))
   unfolding remove_refusal
   ready z =
-      ready_call (L q.before.before.before.before.before.before.before.before.before.before.before.before.before.before.before.before.before.before) q.before.before.before.before.before.before.before.before.before.before.before.before.before.before.before.before.before.before.args.table.m (lengths_of (out q.before.before.before.before.before.before.before.before.before.before.before.before.before.before.before.before.before.before)) (map length
-      (work q.before.before.before.before.before.before.before.before.before.before.before.before.before.before.before.before.before.before)) q.check.result agrees z
+      ready_call (L q.before.before.before.before.before.before.before.before.before.before.before.before.before.before.before.before.before.before) q.args.table.m (lengths_of (out q.before.before.before.before.before.before.before.before.before.before.before.before.before.before.before.before.before.before)) (map length
+      (work q.before.before.before.before.before.before.before.before.before.before.before.before.before.before.before.before.before.before)) q.check-t.result agrees z
 
-cast-room-for : tie.Need-overflow-cast-room-for
-cast-room-for c = search rules
+overflow_cast-table : tie.Need-overflow_cast-table
+overflow_cast-table c = search rules
 
-slice-aggregate-room-for : tie.Need-slice-aggregate-room-for
-slice-aggregate-room-for c = search rules
+slice_bounds-room_for-end : tie.Need-slice_bounds-room_for-end
+slice_bounds-room_for-end c = search rules
 
-slice-aggregate-room-for-2 : tie.Need-slice-aggregate-room-for-2
-slice-aggregate-room-for-2 c = search rules
+slice_bounds-room_for-end-2 : tie.Need-slice_bounds-room_for-end-2
+slice_bounds-room_for-end-2 c = search rules
 
-room-for-requires : tie.Need-room-for-requires
-room-for-requires c κs = search rules
+room_for-room-requires : tie.Need-room_for-room-requires
+room_for-room-requires c κs = search rules
 
-check-requires : tie.Need-check-requires
-check-requires c κs = search rules
+check-t-requires : tie.Need-check-t-requires
+check-t-requires c κs = search rules
 
-refusing-table-requires : tie.Need-refusing-table-requires
-refusing-table-requires c κs = search rules
+refusing_table-requires : tie.Need-refusing_table-requires
+refusing_table-requires c κs = search rules
 
-returns : tie.Need-returns
+returns-then-refused-ne0 : tie.Need-returns-then-refused-ne0
 unfolding remove_redundant_transitions
-returns c = let a = c.before.before.before.before.before.before.before.before.before.before.before.before.before.before.before.before.before.before.before.before in
-    left_refused (remove_refusal (L a) (out a) (work a)) c.before.before.check.result (agrees c.before.before) (out a, work a)
+returns-then-refused-ne0 c = let a = c.before.before.before.before.before.before.before.before.before.before.before.before.before.before.before.before.before.before.before.before in
+    left_refused (remove_refusal (L a) (out a) (work a)) c.check-t.result (agrees c.before.before) (out a, work a)
     (after a) (values a) _
-    c.before.if1.true c.refusing-table.ensures
+    c.if-refused-ne0.true c.refusing_table.ensures
 
-remove-redundant-transitions-requires : tie.Need-remove-redundant-transitions-requires
-remove-redundant-transitions-requires c κs = let r = ready c.before.before.before.before.before.before.before.before.before.before.before c.before.before.before.before.before.before.before.before.before.before.if1.false in
+remove_redundant_transitions-m-requires : tie.Need-remove_redundant_transitions-m-requires
+remove_redundant_transitions-m-requires c κs = let r = ready c.before.before.before.before.before.before.before.before.before.before.before c.if-refused-ne0.false in
     let x = r.result_room in
     let w = r.work_room in (
       r.valid,
@@ -100,93 +100,93 @@ remove-redundant-transitions-requires c κs = let r = ready c.before.before.befo
       ),
     )
 
-cast-table-of : tie.Need-overflow-cast-table-of
-cast-table-of c = omega (
+overflow_cast-table-2 : tie.Need-overflow_cast-table-2
+overflow_cast-table-2 c = omega (
   arith,
-  (ready c.before.before.before.before.before.before.before.before.before.before.before.before.before.before.before.before.before.before.before.before.before.before.before.before.before.before.before.before.before.before.before.before.before c.before.before.before.before.before.before.before.before.before.before.before.before.before.before.before.before.before.before.before.before.before.before.before.before.before.before.before.before.before.before.before.before.if1.false).valid.few_states,
+  (ready c.before.before.before.before.before.before.before.before.before.before.before.before.before.before.before.before.before.before.before.before.before.before.before.before.before.before.before.before.before.before.before.before.before c.if-refused-ne0.false).valid.few_states,
 )
 
-cast-table-of-2 : tie.Need-overflow-cast-table-of-2
-cast-table-of-2 c = omega (
+overflow_cast-table-3 : tie.Need-overflow_cast-table-3
+overflow_cast-table-3 c = omega (
   arith,
-  (ready c.before.before.before.before.before.before.before.before.before.before.before.before.before.before.before.before.before.before.before.before.before.before.before.before.before.before.before.before.before.before.before.before.before.before c.before.before.before.before.before.before.before.before.before.before.before.before.before.before.before.before.before.before.before.before.before.before.before.before.before.before.before.before.before.before.before.before.before.if1.false).valid.few_labels,
+  (ready c.before.before.before.before.before.before.before.before.before.before.before.before.before.before.before.before.before.before.before.before.before.before.before.before.before.before.before.before.before.before.before.before.before.before c.if-refused-ne0.false).valid.few_labels,
 )
 
-cast-table-of-3 : tie.Need-overflow-cast-table-of-3
-cast-table-of-3 c = let v = (ready c.before.before.before.before.before.before.before.before.before.before.before.before.before.before.before.before.before.before.before.before.before.before.before.before.before.before.before.before.before.before.before.before.before.before.before c.before.before.before.before.before.before.before.before.before.before.before.before.before.before.before.before.before.before.before.before.before.before.before.before.before.before.before.before.before.before.before.before.before.before.if1.false).valid in omega (
+overflow_cast-table-4 : tie.Need-overflow_cast-table-4
+overflow_cast-table-4 c = let v = (ready c.before.before.before.before.before.before.before.before.before.before.before.before.before.before.before.before.before.before.before.before.before.before.before.before.before.before.before.before.before.before.before.before.before.before.before c.if-refused-ne0.false).valid in omega (
   arith,
   v.initial,
   v.few_states,
 )
 
-table-of-requires : tie.Need-table-of-requires
-table-of-requires c κs = search rules
+table_of-requires : tie.Need-table_of-requires
+table_of-requires c κs = search rules
 
-same_length : tie.Need-same-length
-same_length c = c.before.before.before.before.before.before.before.before.before.before.before.before.before.before.before.before.before.before.before.before.before.before.before.before.remove_redundant_transitions_lem.auto.1.1.1.1.0
+shape_of-result_source : tie.Need-shape_of-result_source
+shape_of-result_source c = c.remove_redundant_transitions-m.auto.result_source
 
-same-length-2 : tie.Need-same-length-2
-same-length-2 c = c.before.before.before.before.before.before.before.before.before.before.before.before.before.before.before.before.before.before.before.before.before.before.before.before.remove_redundant_transitions_lem.auto.1.1.1.1.1.0
+shape_of-result_label : tie.Need-shape_of-result_label
+shape_of-result_label c = c.remove_redundant_transitions-m.auto.result_label
 
-same-length-3 : tie.Need-same-length-3
-same-length-3 c = c.before.before.before.before.before.before.before.before.before.before.before.before.before.before.before.before.before.before.before.before.before.before.before.before.remove_redundant_transitions_lem.auto.1.1.1.1.1.1.0
+shape_of-result_target : tie.Need-shape_of-result_target
+shape_of-result_target c = c.remove_redundant_transitions-m.auto.result_target
 
-same-length-4 : tie.Need-same-length-4
-same-length-4 c = c.before.before.before.before.before.before.before.before.before.before.before.before.before.before.before.before.before.before.before.before.before.before.before.before.remove_redundant_transitions_lem.auto.1.1.1.1.1.1.1.0
+shape_of-order : tie.Need-shape_of-order
+shape_of-order c = c.remove_redundant_transitions-m.auto.order
 
-same-length-5 : tie.Need-same-length-5
-same-length-5 c = c.before.before.before.before.before.before.before.before.before.before.before.before.before.before.before.before.before.before.before.before.before.before.before.before.remove_redundant_transitions_lem.auto.1.1.1.1.1.1.1.1.0
+shape_of-back_source : tie.Need-shape_of-back_source
+shape_of-back_source c = c.remove_redundant_transitions-m.auto.back_source
 
-same-length-6 : tie.Need-same-length-6
-same-length-6 c = c.before.before.before.before.before.before.before.before.before.before.before.before.before.before.before.before.before.before.before.before.before.before.before.before.remove_redundant_transitions_lem.auto.1.1.1.1.1.1.1.1.1.0
+shape_of-back_label : tie.Need-shape_of-back_label
+shape_of-back_label c = c.remove_redundant_transitions-m.auto.back_label
 
-same-length-7 : tie.Need-same-length-7
-same-length-7 c = c.before.before.before.before.before.before.before.before.before.before.before.before.before.before.before.before.before.before.before.before.before.before.before.before.remove_redundant_transitions_lem.auto.1.1.1.1.1.1.1.1.1.1.0
+shape_of-back_target : tie.Need-shape_of-back_target
+shape_of-back_target c = c.remove_redundant_transitions-m.auto.back_target
 
-same-length-8 : tie.Need-same-length-8
-same-length-8 c = c.before.before.before.before.before.before.before.before.before.before.before.before.before.before.before.before.before.before.before.before.before.before.before.before.remove_redundant_transitions_lem.auto.1.1.1.1.1.1.1.1.1.1.1.0
+shape_of-forward : tie.Need-shape_of-forward
+shape_of-forward c = c.remove_redundant_transitions-m.auto.forward
 
-same-length-9 : tie.Need-same-length-9
-same-length-9 c = c.before.before.before.before.before.before.before.before.before.before.before.before.before.before.before.before.before.before.before.before.before.before.before.before.remove_redundant_transitions_lem.auto.1.1.1.1.1.1.1.1.1.1.1.1.0
+shape_of-backward : tie.Need-shape_of-backward
+shape_of-backward c = c.remove_redundant_transitions-m.auto.backward
 
-same-length-10 : tie.Need-same-length-10
-same-length-10 c = c.before.before.before.before.before.before.before.before.before.before.before.before.before.before.before.before.before.before.before.before.before.before.before.before.remove_redundant_transitions_lem.auto.1.1.1.1.1.1.1.1.1.1.1.1.1.0
+shape_of-queue : tie.Need-shape_of-queue
+shape_of-queue c = c.remove_redundant_transitions-m.auto.queue
 
-returns-2 : tie.Need-returns-2
+returns : tie.Need-returns
 unfolding remove_redundant_transitions
-returns-2 c = let a = c.before.before.before.before.before.before.before.before.before.before.before.before.before.before.before.before.before.before.before.before.before.before.before.before.before.before.before.before.before.before.before.before.before.before.before.before.before.before.before.before.before.before.before.before.before.before.before.before.before.before.before.before.before.before in
-    let e = c.before.before.before.before.before.before.before.before.before.before.before.before.before.before.before.before.before.before.before.before.before.before.before.before.remove_redundant_transitions_lem.ensures in
+returns c = let a = c.before.before.before.before.before.before.before.before.before.before.before.before.before.before.before.before.before.before.before.before.before.before.before.before.before.before.before.before.before.before.before.before.before.before.before.before.before.before.before.before.before.before.before.before.before.before.before.before.before.before.before.before.before.before in
+    let e = c.remove_redundant_transitions-m.ensures in
     let w = e.1.1 in
-    left_done (remove_refusal (L a) (out a) (work a)) c.before.before.before.before.before.before.before.before.before.before.before.before.before.before.before.before.before.before.before.before.before.before.before.before.before.before.before.before.before.before.before.before.before.before.before.before.check.result (agrees c.before.before.before.before.before.before.before.before.before.before.before.before.before.before.before.before.before.before.before.before.before.before.before.before.before.before.before.before.before.before.before.before.before.before.before.before) (out a, work a) (after a) (values a) _ _
-    c.before.before.before.before.before.before.before.before.before.before.before.before.before.before.before.before.before.before.before.before.before.before.before.before.before.before.before.before.before.before.before.before.before.before.before.if1.false
+    left_done (remove_refusal (L a) (out a) (work a)) c.check-t.result (agrees c.before.before.before.before.before.before.before.before.before.before.before.before.before.before.before.before.before.before.before.before.before.before.before.before.before.before.before.before.before.before.before.before.before.before.before.before) (out a, work a) (after a) (values a) _ _
+    c.if-refused-ne0.false
     (c.table_of.ensures
     ∙ ap (λ (k : ℕ). done (a.args.table.n ∷ a.args.table.labels ∷ k ∷ a.args.table.initial ∷ [])) e.0)
     (λ i. (e.1.0 i, w.0.0 i ∷ w.0.1 i ∷ w.0.2 i ∷ w.0.3 i ∷ w.1.0 i ∷ w.1.1 i ∷ w.1.2 i ∷ []))
 
-pub remove-redundant-transitions-spec : {M : Type 1} → statement M
-remove-redundant-transitions-spec =
+pub remove_redundant_transitions_spec : {M : Type 1} → statement M
+remove_redundant_transitions_spec =
     tie.close
     (tie.spec
-    cast-room-for
-    slice-aggregate-room-for
-    slice-aggregate-room-for-2
-    room-for-requires
-    check-requires
-    refusing-table-requires
-    returns
-    remove-redundant-transitions-requires
-    cast-table-of
-    cast-table-of-2
-    cast-table-of-3
-    table-of-requires
-    same_length
-    same-length-2
-    same-length-3
-    same-length-4
-    same-length-5
-    same-length-6
-    same-length-7
-    same-length-8
-    same-length-9
-    same-length-10
-    returns-2)
+    overflow_cast-table
+    slice_bounds-room_for-end
+    slice_bounds-room_for-end-2
+    room_for-room-requires
+    check-t-requires
+    refusing_table-requires
+    returns-then-refused-ne0
+    remove_redundant_transitions-m-requires
+    overflow_cast-table-2
+    overflow_cast-table-3
+    overflow_cast-table-4
+    table_of-requires
+    shape_of-result_source
+    shape_of-result_label
+    shape_of-result_target
+    shape_of-order
+    shape_of-back_source
+    shape_of-back_label
+    shape_of-back_target
+    shape_of-forward
+    shape_of-backward
+    shape_of-queue
+    returns)

@@ -19,50 +19,50 @@ L a = lts a.args.table a.args.source.now a.args.label.now a.args.target.now
 abbrev P : tie.Start → Partition
 P a =
     parts a.args.elements.now a.args.element_offset.now a.args.element_to_block.now a.args.begin.now
-    a.args.marked_split_lem.now a.args.end.now a.args.table.n a.args.count
+    a.args.marked_split.now a.args.end.now a.args.table.n a.args.count
 
 -- where the call begins
-abbrev start : tie.After-argument-refusal → tie.Start
+abbrev start : tie.After-argument_refusal-t → tie.Start
 start q =
-    q.before.before.before.before.before.before.before.before.before.before.before.before.before.before.before.before.before
+    q.before.before.before.before.before.before.before.before.before.before.before.before.before.before
 
 -- what the checks have answered
-answered : (q : tie.After-argument-refusal) → q.argument-refusal.result
-    ≡ closure_refusal (L (start q)) (P (start q)) (start q).args.block-index (length (start q).args.order.now)
+answered : (q : tie.After-argument_refusal-t) → q.argument_refusal-t.result
+    ≡ closure_refusal (L (start q)) (P (start q)) (start q).args.block_index (length (start q).args.order.now)
     (length (start q).args.spare.now)
 unfolding closure_refusal
 answered q =
     let a = start q in
-    q.argument-refusal.ensures
-    ∙ ap (both_argument_refusal (L a) (P a) a.args.block-index a.args.count) q.before.before.before.before.works-long.ensures
+    q.argument_refusal-t.ensures
+    ∙ ap (both_argument_refusal (L a) (P a) a.args.block_index a.args.count) q.works_long-room.ensures
 
-slice-aggregate-works-long : tie.Need-slice-aggregate-works-long
-slice-aggregate-works-long c = search rules
+slice_bounds-works_long-end : tie.Need-slice_bounds-works_long-end
+slice_bounds-works_long-end c = search rules
 
-works-long-requires : tie.Need-works-long-requires
-works-long-requires c κs = search rules
+works_long-room-requires : tie.Need-works_long-room-requires
+works_long-room-requires c κs = search rules
 
-argument-refusal-requires : tie.Need-argument-refusal-requires
-argument-refusal-requires c κs = search rules
+argument_refusal-t-requires : tie.Need-argument_refusal-t-requires
+argument_refusal-t-requires c κs = search rules
 
 refusing-requires : tie.Need-refusing-requires
 refusing-requires c κs = search rules
 
-same_length : tie.Need-same-length
-same_length c = refl
+shape_of-elements-then-number-ne0 : tie.Need-shape_of-elements-then-number-ne0
+shape_of-elements-then-number-ne0 c = refl
 
-same-length-2 : tie.Need-same-length-2
-same-length-2 c = refl
+shape_of-element_offset-then-number-ne0 : tie.Need-shape_of-element_offset-then-number-ne0
+shape_of-element_offset-then-number-ne0 c = refl
 
-same-length-3 : tie.Need-same-length-3
-same-length-3 c = refl
+shape_of-marked_split-then-number-ne0 : tie.Need-shape_of-marked_split-then-number-ne0
+shape_of-marked_split-then-number-ne0 c = refl
 
-returns : tie.Need-returns
-returns c =
-    let a = c.before.before.before.before.before.before.before.before.before.before.before.before.before.before.before.before.before.before.before in
-    closure_refused (L a) (P a) a.args.block-index a.args.order.now a.args.spare.now _
+returns-then-number-ne0 : tie.Need-returns-then-number-ne0
+returns-then-number-ne0 c =
+    let a = c.before.before.before.before.before.before.before.before.before.before.before.before.before.before.before.before in
+    closure_refused (L a) (P a) a.args.block_index a.args.order.now a.args.spare.now _
     (answered c.before.before) _
-    c.before.if1.true c.refusing.ensures
+    c.if-number-ne0.true c.refusing.ensures
 
 clear-requires : tie.Need-clear-requires
 clear-requires c κs = search rules
@@ -70,77 +70,77 @@ clear-requires c κs = search rules
 clear-requires-2 : tie.Need-clear-requires-2
 clear-requires-2 c κs = search rules
 
-mark-backward-closure-requires : tie.Need-mark-backward-closure-requires
-mark-backward-closure-requires c κs =
-    let a = c.before.before.before.before.before.before.before.before.before.before.before.before.before.before.before.before.before.before.before.before.before.before.before.before.before.before.before.before.before.before.before in
+mark_backward_closure-requires : tie.Need-mark_backward_closure-requires
+mark_backward_closure-requires c κs =
+    let a = c.before.before.before.before.before.before.before.before.before.before.before.before.before.before.before.before.before.before.before.before.before.before.before.before.before.before.before.before in
     let q =
-    closure_ready (L a) (P a) refl a.args.block-index (length a.args.order.now) (length a.args.spare.now) _
+    closure_ready (L a) (P a) refl a.args.block_index (length a.args.order.now) (length a.args.spare.now) _
     (answered c.before.before.before.before.before.before.before.before.before.before.before.before.before.before)
-    c.before.before.before.before.before.before.before.before.before.before.before.before.before.if1.false
+    c.if-number-ne0.false
     in
-    let x = c.before.before.before.before.before.before.before.before.before.before.before.clear in
-    let y = c.before.before.before.before.before.before.before.clear2 in (
-      (q.valid, omega (arith, q.orders, x.auto.0), omega (arith, q.spares, y.auto.0)),
-      ((x.ensures ∙ ap zeros (sym x.auto.0), y.ensures ∙ ap zeros (sym y.auto.0)), (q.sound, q.known)),
+    let x = c.clear in
+    let y = c.clear-2 in (
+      (q.valid, omega (arith, q.orders, x.auto.a), omega (arith, q.spares, y.auto.a)),
+      ((x.ensures ∙ ap zeros (sym x.auto.a), y.ensures ∙ ap zeros (sym y.auto.a)), (q.sound, q.known)),
     )
 
 finished-requires : tie.Need-finished-requires
 finished-requires c κs = search rules
 
-same-length-4 : tie.Need-same-length-4
-same-length-4 c =
-    c.before.before.before.before.before.before.before.before.before.before.before.mark_backward_closure_lem.auto.1.1.1.1.1.0
+shape_of-elements : tie.Need-shape_of-elements
+shape_of-elements c =
+    c.mark_backward_closure.auto.elements
 
-same-length-5 : tie.Need-same-length-5
-same-length-5 c =
-    c.before.before.before.before.before.before.before.before.before.before.before.mark_backward_closure_lem.auto.1.1.1.1.1.1.0
+shape_of-element_offset : tie.Need-shape_of-element_offset
+shape_of-element_offset c =
+    c.mark_backward_closure.auto.element_offset
 
-same-length-6 : tie.Need-same-length-6
-same-length-6 c =
-    c.before.before.before.before.before.before.before.before.before.before.before.mark_backward_closure_lem.auto.1.1.1.1.1.1.1.1.1.0
+shape_of-marked_split : tie.Need-shape_of-marked_split
+shape_of-marked_split c =
+    c.mark_backward_closure.auto.marked_split
 
-same-length-7 : tie.Need-same-length-7
-same-length-7 c =
-    c.before.before.before.before.before.before.before.before.before.before.before.mark_backward_closure_lem.auto.1.1.1.1.1.1.1.1.1.1.1.1.0
+shape_of-order : tie.Need-shape_of-order
+shape_of-order c =
+    c.mark_backward_closure.auto.order
     ∙
-    c.before.before.before.before.before.before.before.before.before.before.before.before.before.before.before.before.before.before.before.before.before.before.before.clear.auto.0
+    c.clear.auto.a
 
-same-length-8 : tie.Need-same-length-8
-same-length-8 c =
-    c.before.before.before.before.before.before.before.before.before.before.before.mark_backward_closure_lem.auto.1.1.1.1.1.1.1.1.1.1.1.1.1.0
-    ∙ c.before.before.before.before.before.before.before.before.before.before.before.before.before.before.before.before.before.before.before.clear2.auto.0
+shape_of-spare : tie.Need-shape_of-spare
+shape_of-spare c =
+    c.mark_backward_closure.auto.spare
+    ∙ c.clear-2.auto.a
 
-returns-2 : tie.Need-returns-2
-returns-2 c =
-    let a = c.before.before.before.before.before.before.before.before.before.before.before.before.before.before.before.before.before.before.before.before.before.before.before.before.before.before.before.before.before.before.before.before.before.before.before.before.before.before.before.before.before.before.before in
-    let q = c.before.before.before.before.before.before.before.before.before.before.before.mark_backward_closure_lem in
-    closure_answered (L a) (P a) a.args.block-index a.args.order.now a.args.spare.now _
+returns : tie.Need-returns
+returns c =
+    let a = c.before.before.before.before.before.before.before.before.before.before.before.before.before.before.before.before.before.before.before.before.before.before.before.before.before.before.before.before.before.before.before.before.before.before.before.before.before.before.before.before in
+    let q = c.mark_backward_closure in
+    closure_answered (L a) (P a) a.args.block_index a.args.order.now a.args.spare.now _
     (answered c.before.before.before.before.before.before.before.before.before.before.before.before.before.before.before.before.before.before.before.before.before.before.before.before.before.before) _
-    c.before.before.before.before.before.before.before.before.before.before.before.before.before.before.before.before.before.before.before.before.before.before.before.before.before.if1.false c.finished.ensures _ q.ensures.0 _ _
+    c.if-number-ne0.false c.finished.ensures _ q.ensures.0 _ _
     (q.ensures.1.0 ∙
-    ap zeros c.before.before.before.before.before.before.before.before.before.before.before.before.before.before.before.before.before.before.before.before.before.before.before.clear.auto.0)
+    ap zeros c.clear.auto.a)
     (q.ensures.1.1 ∙
-    ap zeros c.before.before.before.before.before.before.before.before.before.before.before.before.before.before.before.before.before.before.before.clear2.auto.0)
+    ap zeros c.clear-2.auto.a)
 
-pub mark-backward-closure-spec : {M : Type 1} → statement M
-mark-backward-closure-spec =
+pub mark_backward_closure_spec : {M : Type 1} → statement M
+mark_backward_closure_spec =
     tie.close
     (tie.spec
-    slice-aggregate-works-long
-    works-long-requires
-    argument-refusal-requires
+    slice_bounds-works_long-end
+    works_long-room-requires
+    argument_refusal-t-requires
     refusing-requires
-    same_length
-    same-length-2
-    same-length-3
-    returns
+    shape_of-elements-then-number-ne0
+    shape_of-element_offset-then-number-ne0
+    shape_of-marked_split-then-number-ne0
+    returns-then-number-ne0
     clear-requires
     clear-requires-2
-    mark-backward-closure-requires
+    mark_backward_closure-requires
     finished-requires
-    same-length-4
-    same-length-5
-    same-length-6
-    same-length-7
-    same-length-8
-    returns-2)
+    shape_of-elements
+    shape_of-element_offset
+    shape_of-marked_split
+    shape_of-order
+    shape_of-spare
+    returns)

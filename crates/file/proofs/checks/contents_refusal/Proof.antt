@@ -6,21 +6,21 @@ use Rattle.file.specs.Input.{field_tests, length_tests}
 use Rattle.file.proofs.checks.contents_refusal.Statement.{statement}
 use Rattle.file.proofs.checks.contents_refusal.Tie as tie
 
-fields-refusal-requires : tie.Need-fields-refusal-requires
-fields-refusal-requires c κs = search rules
+fields_refusal-requires : tie.Need-fields_refusal-requires
+fields_refusal-requires c κs = search rules
 
-length-refusal-requires : tie.Need-length-refusal-requires
-length-refusal-requires c κs = c.before.before.requires
+length_refusal-requires : tie.Need-length_refusal-requires
+length_refusal-requires c κs = c.requires
 
-or-else-requires : tie.Need-or-else-requires
-or-else-requires c κs = search rules
+or_else-requires : tie.Need-or_else-requires
+or_else-requires c κs = search rules
 
 returns : tie.Need-returns
 returns c =
-    let a = c.before.before.before.before.args in
+    let a = c.args in
     c.or_else.ensures
-    ∙ chained (field_tests a.bytes.now) (length_tests a.bytes.now a.size) refl _ c.before.before.fields-refusal.ensures _ c.before.length-refusal.ensures
+    ∙ chained (field_tests a.bytes.now) (length_tests a.bytes.now a.size) refl _ c.fields_refusal.ensures _ c.length_refusal.ensures
 
-pub contents-refusal-spec : {M : Type 1} → statement M
-contents-refusal-spec =
-    tie.close (tie.spec fields-refusal-requires length-refusal-requires or-else-requires returns)
+pub contents_refusal_spec : {M : Type 1} → statement M
+contents_refusal_spec =
+    tie.close (tie.spec fields_refusal-requires length_refusal-requires or_else-requires returns)

@@ -5,34 +5,34 @@ use Rattle.file.proofs.Inputs.{field_cut, field_read}
 use Rattle.file.proofs.checks.field_refusal.Statement.{statement}
 use Rattle.file.proofs.checks.field_refusal.Tie as tie
 
-add-if1 : tie.Need-overflow-add-if1
-add-if1 c = search rules
+overflow_add-at : tie.Need-overflow_add-at
+overflow_add-at c = search rules
 
 refuse-requires : tie.Need-refuse-requires
 refuse-requires c κs = search rules
 
+returns-then-bytes-at : tie.Need-returns-then-bytes-at
+returns-then-bytes-at c = let a = c.args in
+    c.refuse.ensures ∙ field_cut a.width a.bytes.now a.at a.value c.if-bytes-at.true
+
+number_at-found-requires : tie.Need-number_at-found-requires
+number_at-found-requires c κs = search rules
+
+refuse_unless-requires : tie.Need-refuse_unless-requires
+refuse_unless-requires c κs = search rules
+
 returns : tie.Need-returns
-returns c = let a = c.before.before.before.args in
-    c.refuse.ensures ∙ field_cut a.width a.bytes.now a.at a.value c.before.if1.true
+returns c = let a = c.args in
+    c.refuse_unless.ensures
+    ∙ field_read a.width a.bytes.now a.at a.value c.if-bytes-at.false _ c.number_at-found.ensures.0
 
-number-at-requires : tie.Need-number-at-requires
-number-at-requires c κs = search rules
-
-refuse-unless-requires : tie.Need-refuse-unless-requires
-refuse-unless-requires c κs = search rules
-
-returns-2 : tie.Need-returns-2
-returns-2 c = let a = c.before.before.before.before.args in
-    c.refuse-unless.ensures
-    ∙ field_read a.width a.bytes.now a.at a.value c.before.before.if1.false _ c.before.number_at.ensures.0
-
-pub field-refusal-spec : {M : Type 1} → statement M
-field-refusal-spec =
+pub field_refusal_spec : {M : Type 1} → statement M
+field_refusal_spec =
     tie.close
     (tie.spec
-    add-if1
+    overflow_add-at
     refuse-requires
-    returns
-    number-at-requires
-    refuse-unless-requires
-    returns-2)
+    returns-then-bytes-at
+    number_at-found-requires
+    refuse_unless-requires
+    returns)

@@ -21,73 +21,73 @@ use Rattle.file.specs.Layout.{
 use Rattle.file.proofs.checks.fields_refusal.Statement.{statement}
 use Rattle.file.proofs.checks.fields_refusal.Tie as tie
 
-field-refusal-requires : tie.Need-field-refusal-requires
-field-refusal-requires c κs = search rules
+field_refusal-entries-requires : tie.Need-field_refusal-entries-requires
+field_refusal-entries-requires c κs = search rules
 
-field-refusal-requires-2 : tie.Need-field-refusal-requires-2
-field-refusal-requires-2 c κs = search rules
+field_refusal-header_kind-requires : tie.Need-field_refusal-header_kind-requires
+field_refusal-header_kind-requires c κs = search rules
 
-field-refusal-requires-3 : tie.Need-field-refusal-requires-3
-field-refusal-requires-3 c κs = search rules
+field_refusal-header_offset-requires : tie.Need-field_refusal-header_offset-requires
+field_refusal-header_offset-requires c κs = search rules
 
-field-refusal-requires-4 : tie.Need-field-refusal-requires-4
-field-refusal-requires-4 c κs = search rules
+field_refusal-header_length-requires : tie.Need-field_refusal-header_length-requires
+field_refusal-header_length-requires c κs = search rules
 
-field-refusal-requires-5 : tie.Need-field-refusal-requires-5
-field-refusal-requires-5 c κs = search rules
+field_refusal-rows_kind-requires : tie.Need-field_refusal-rows_kind-requires
+field_refusal-rows_kind-requires c κs = search rules
 
-field-refusal-requires-6 : tie.Need-field-refusal-requires-6
-field-refusal-requires-6 c κs = search rules
+field_refusal-rows_offset-requires : tie.Need-field_refusal-rows_offset-requires
+field_refusal-rows_offset-requires c κs = search rules
 
-or-else-requires : tie.Need-or-else-requires
-or-else-requires c κs = search rules
+or_else-requires : tie.Need-or_else-requires
+or_else-requires c κs = search rules
 
-or-else-requires-2 : tie.Need-or-else-requires-2
-or-else-requires-2 c κs = search rules
+or_else-header-requires : tie.Need-or_else-header-requires
+or_else-header-requires c κs = search rules
 
-or-else-requires-3 : tie.Need-or-else-requires-3
-or-else-requires-3 c κs = search rules
+or_else-requires-2 : tie.Need-or_else-requires-2
+or_else-requires-2 c κs = search rules
 
-or-else-requires-4 : tie.Need-or-else-requires-4
-or-else-requires-4 c κs = search rules
+or_else-requires-3 : tie.Need-or_else-requires-3
+or_else-requires-3 c κs = search rules
 
-or-else-requires-5 : tie.Need-or-else-requires-5
-or-else-requires-5 c κs = search rules
+or_else-requires-4 : tie.Need-or_else-requires-4
+or_else-requires-4 c κs = search rules
 
 returns : tie.Need-returns
 returns c =
-    let s = c.before.before.before.before.before.before.before.before.before.before.before.before.args.bytes.now in
+    let s = c.args.bytes.now in
     let entries = field_test 2 s entries_at input_entries in
     let header-kind = field_test 2 s header_kind_at header_kind in
     let header-offset = field_test 4 s header_offset_at input_header in
     let header-length = field_test 4 s header_length_at header_size in
     let rows-kind = field_test 2 s rows_kind_at rows_kind in
     let rows-offset = field_test 4 s rows_offset_at input_rows in
-    c.or-else5.ensures
-    ∙ chained (entries ∷ []) (header-kind ∷ header-offset ∷ header-length ∷ rows-kind ∷ rows-offset ∷ []) refl _ c.before.before.before.before.before.before.before.before.before.before.field-refusal.ensures _
-    (c.before.or-else4.ensures
+    c.or_else-4.ensures
+    ∙ chained (entries ∷ []) (header-kind ∷ header-offset ∷ header-length ∷ rows-kind ∷ rows-offset ∷ []) refl _ c.field_refusal-entries.ensures _
+    (c.or_else-3.ensures
     ∙ chained (header-kind ∷ header-offset ∷ header-length ∷ []) (rows-kind ∷ rows-offset ∷ []) refl _
-    (c.before.before.before.or-else2.ensures
-    ∙ chained (header-kind ∷ []) (header-offset ∷ header-length ∷ []) refl _ c.before.before.before.before.before.before.before.before.before.field-refusal2.ensures _
-    (c.before.before.before.before.or_else.ensures
-    ∙ chained (header-offset ∷ []) (header-length ∷ []) refl _ c.before.before.before.before.before.before.before.before.field-refusal3.ensures _ c.before.before.before.before.before.before.before.field-refusal4.ensures))
+    (c.or_else-header.ensures
+    ∙ chained (header-kind ∷ []) (header-offset ∷ header-length ∷ []) refl _ c.field_refusal-header_kind.ensures _
+    (c.or_else.ensures
+    ∙ chained (header-offset ∷ []) (header-length ∷ []) refl _ c.field_refusal-header_offset.ensures _ c.field_refusal-header_length.ensures))
     _
-    (c.before.before.or-else3.ensures
-    ∙ chained (rows-kind ∷ []) (rows-offset ∷ []) refl _ c.before.before.before.before.before.before.field-refusal5.ensures _ c.before.before.before.before.before.field-refusal6.ensures))
+    (c.or_else-2.ensures
+    ∙ chained (rows-kind ∷ []) (rows-offset ∷ []) refl _ c.field_refusal-rows_kind.ensures _ c.field_refusal-rows_offset.ensures))
 
-pub fields-refusal-spec : {M : Type 1} → statement M
-fields-refusal-spec =
+pub fields_refusal_spec : {M : Type 1} → statement M
+fields_refusal_spec =
     tie.close
     (tie.spec
-    field-refusal-requires
-    field-refusal-requires-2
-    field-refusal-requires-3
-    field-refusal-requires-4
-    field-refusal-requires-5
-    field-refusal-requires-6
-    or-else-requires
-    or-else-requires-2
-    or-else-requires-3
-    or-else-requires-4
-    or-else-requires-5
+    field_refusal-entries-requires
+    field_refusal-header_kind-requires
+    field_refusal-header_offset-requires
+    field_refusal-header_length-requires
+    field_refusal-rows_kind-requires
+    field_refusal-rows_offset-requires
+    or_else-requires
+    or_else-header-requires
+    or_else-requires-2
+    or_else-requires-3
+    or_else-requires-4
     returns)

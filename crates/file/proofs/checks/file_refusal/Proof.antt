@@ -11,54 +11,54 @@ use Rattle.file.proofs.Inputs.{contents_of}
 use Rattle.file.proofs.checks.file_refusal.Statement.{statement}
 use Rattle.file.proofs.checks.file_refusal.Tie as tie
 
-contents-refusal-requires : tie.Need-contents-refusal-requires
-contents-refusal-requires c κs = λ h. h
+contents_refusal-t-requires : tie.Need-contents_refusal-t-requires
+contents_refusal-t-requires c κs = λ h. h
+
+returns-then-number-ne0 : tie.Need-returns-then-number-ne0
+unfolding file_refusal
+returns-then-number-ne0 c =
+    let a = c.args in
+    let s = a.bytes.now in
+    ends (contents_tests s) (table_tests (table_in s) (all_long (header_in s).m a.columns.now)) refl _ c.contents_refusal-t.ensures c.if-number-ne0.true
+
+header-table-requires : tie.Need-header-table-requires
+header-table-requires c κs =
+    let s = c.args.bytes.now in
+    omega (arith, (contents_of s (passed (contents_tests s) refl _ c.contents_refusal-t.ensures c.if-number-ne0.false)).size)
+
+overflow_cast-table : tie.Need-overflow_cast-table
+overflow_cast-table c = search rules
+
+long-room-requires : tie.Need-long-room-requires
+long-room-requires c κs = search rules
+
+table_refusal-requires : tie.Need-table_refusal-requires
+table_refusal-requires c κs =
+    let s = c.args.bytes.now in
+    let right = c.if-number-ne0.false in
+    let p = passed (contents_tests s) refl _ c.contents_refusal-t.ensures right in
+    omega (arith, (contents_of s p).size, ap (λ (t : Table). t.m) c.header-table.ensures)
 
 returns : tie.Need-returns
-unfolding file_refusal
-returns c =
-    let a = c.before.before.before.before.args in
-    let s = a.bytes.now in
-    ends (contents_tests s) (table_tests (table_in s) (all_long (header_in s).m a.columns.now)) refl _ c.before.contents-refusal.ensures c.if1.true
-
-header-requires : tie.Need-header-requires
-header-requires c κs =
-    let s = c.before.before.before.before.args.bytes.now in
-    omega (arith, (contents_of s (passed (contents_tests s) refl _ c.before.contents-refusal.ensures c.if1.false)).size)
-
-cast-long : tie.Need-overflow-cast-long
-cast-long c = search rules
-
-long-requires : tie.Need-long-requires
-long-requires c κs = search rules
-
-table-refusal-requires : tie.Need-table-refusal-requires
-table-refusal-requires c κs =
-    let s = c.before.before.before.before.before.before.before.args.bytes.now in
-    let right = c.before.before.before.if1.false in
-    let p = passed (contents_tests s) refl _ c.before.before.before.before.contents-refusal.ensures right in
-    omega (arith, (contents_of s p).size, ap (λ (t : Table). t.m) c.before.before.header.ensures)
-
-returns-2 : tie.Need-returns-2
 unfolding file_refusal table_in
-returns-2 c =
-    let a = c.before.before.before.before.before.before.before.before.args in
+returns c =
+    let a = c.args in
     let s = a.bytes.now in
-    let e = c.before.before.before.header.ensures in
-    let room = c.before.long.ensures ∙ ap (λ (t : Table). all_long t.m a.columns.now) e in
-    c.table-refusal.ensures
+    let e = c.header-table.ensures in
+    let room = c.long-room.ensures ∙ ap (λ (t : Table). all_long t.m a.columns.now) e in
+    c.table_refusal.ensures
     ∙ (λ i. due (table_tests (with_rows (e i) s) (room i)))
     ∙ goes_on_lem (contents_tests s) (table_tests (table_in s) (all_long (header_in s).m a.columns.now)) refl _
-    c.before.before.before.before.before.contents-refusal.ensures c.before.before.before.before.if1.false
+    c.contents_refusal-t.ensures c.if-number-ne0.false
 
-pub file-refusal-spec : {M : Type 1} → statement M
-file-refusal-spec =
+pub file_refusal_spec : {M : Type 1} → statement M
+file_refusal_spec =
     tie.close
     (tie.spec
-    contents-refusal-requires
-    returns
-    header-requires
-    cast-long
-    long-requires
-    table-refusal-requires
-    returns-2)
+    contents_refusal-t-requires
+    returns-then-number-ne0
+    header-table-requires
+    overflow_cast-table
+    long-room-requires
+    table_refusal-requires
+    returns)

@@ -10,84 +10,84 @@ use Rattle.file.proofs.Inputs.{many-rows, rows_front}
 use Rattle.file.proofs.checks.table_refusal.Statement.{statement}
 use Rattle.file.proofs.checks.table_refusal.Tie as tie
 
-cast-m : tie.Need-overflow-cast-m
-cast-m c = search rules
+overflow_cast-m : tie.Need-overflow_cast-m
+overflow_cast-m c = search rules
 
-slice-aggregate-check : tie.Need-slice-aggregate-check
-slice-aggregate-check c = search rules
+slice_bounds-check-end : tie.Need-slice_bounds-check-end
+slice_bounds-check-end c = search rules
 
-slice-aggregate-check-2 : tie.Need-slice-aggregate-check-2
-slice-aggregate-check-2 c = search rules
+slice_bounds-check-end-then-m-gt-MAX_ROWS : tie.Need-slice_bounds-check-end-then-m-gt-MAX_ROWS
+slice_bounds-check-end-then-m-gt-MAX_ROWS c = search rules
 
-slice-aggregate-check-3 : tie.Need-slice-aggregate-check-3
-slice-aggregate-check-3 c = search rules
+slice_bounds-check-end-then-m-gt-MAX_ROWS-2 : tie.Need-slice_bounds-check-end-then-m-gt-MAX_ROWS-2
+slice_bounds-check-end-then-m-gt-MAX_ROWS-2 c = search rules
 
 check-requires : tie.Need-check-requires
 check-requires c κs = search rules
 
-returns : tie.Need-returns
-returns c = let a = c.before.before.before.before.before.before.before.args in
-    c.check.ensures ∙ many-rows a.table a.bytes.now _ _ _ a.room c.before.before.before.before.if1.true
+returns-then-m-gt-MAX_ROWS : tie.Need-returns-then-m-gt-MAX_ROWS
+returns-then-m-gt-MAX_ROWS c = let a = c.args in
+    c.check.ensures ∙ many-rows a.table a.bytes.now _ _ _ a.room c.if-m-gt-MAX_ROWS.true
 
-slice-aggregate-read-rows : tie.Need-slice-aggregate-read-rows
-slice-aggregate-read-rows c = search rules
+slice_bounds-read_rows-end : tie.Need-slice_bounds-read_rows-end
+slice_bounds-read_rows-end c = search rules
 
-slice-aggregate-read-rows-2 : tie.Need-slice-aggregate-read-rows-2
-slice-aggregate-read-rows-2 c = search rules
+slice_bounds-read_rows-end-2 : tie.Need-slice_bounds-read_rows-end-2
+slice_bounds-read_rows-end-2 c = search rules
 
-slice-aggregate-read-rows-3 : tie.Need-slice-aggregate-read-rows-3
-slice-aggregate-read-rows-3 c = search rules
+slice_bounds-read_rows-end-3 : tie.Need-slice_bounds-read_rows-end-3
+slice_bounds-read_rows-end-3 c = search rules
 
-read-rows-requires : tie.Need-read-rows-requires
-read-rows-requires c κs = search rules
+read_rows-requires : tie.Need-read_rows-requires
+read_rows-requires c κs = search rules
 
-array-share-prefix-source : tie.Need-array-share-prefix-source
-array-share-prefix-source c = search rules
+slice_bounds-source-end : tie.Need-slice_bounds-source-end
+slice_bounds-source-end c = search rules
 
-slice-aggregate-check-4 : tie.Need-slice-aggregate-check-4
-slice-aggregate-check-4 c = sym (length-take-le _ c.before.before.before.before.read-rows.new.1.1.0 (omega arith))
+slice_bounds-check-end-2 : tie.Need-slice_bounds-check-end-2
+slice_bounds-check-end-2 c = sym (length-take-le _ c.read_rows.new.source (omega arith))
 
-array-share-prefix-label : tie.Need-array-share-prefix-label
-array-share-prefix-label c = search rules
+slice_bounds-label-end : tie.Need-slice_bounds-label-end
+slice_bounds-label-end c = search rules
 
-slice-aggregate-check-5 : tie.Need-slice-aggregate-check-5
-slice-aggregate-check-5 c = sym (length-take-le _ c.before.before.before.before.before.read-rows.new.1.1.1.0 (omega arith))
+slice_bounds-check-end-3 : tie.Need-slice_bounds-check-end-3
+slice_bounds-check-end-3 c = sym (length-take-le _ c.read_rows.new.label (omega arith))
 
-array-share-prefix-target : tie.Need-array-share-prefix-target
-array-share-prefix-target c = search rules
+slice_bounds-target-end : tie.Need-slice_bounds-target-end
+slice_bounds-target-end c = search rules
 
-slice-aggregate-check-6 : tie.Need-slice-aggregate-check-6
-slice-aggregate-check-6 c = sym (length-take-le _ c.before.before.before.before.before.before.read-rows.new.1.1.1.1.0
+slice_bounds-check-end-4 : tie.Need-slice_bounds-check-end-4
+slice_bounds-check-end-4 c = sym (length-take-le _ c.read_rows.new.target
     (omega arith))
 
 check-requires-2 : tie.Need-check-requires-2
 check-requires-2 c κs = search rules
 
-returns-2 : tie.Need-returns-2
-returns-2 c =
-    let a = c.before.before.before.before.before.before.before.before.before.before.before.before.before.before.args in
-    c.check2.ensures
-    ∙ ap (λ (t : Lts). due (table_tests t a.room)) (rows_front a.table a.bytes.now _ _ _ _ c.before.before.before.before.before.before.before.read-rows.ensures)
+returns : tie.Need-returns
+returns c =
+    let a = c.args in
+    c.check-2.ensures
+    ∙ ap (λ (t : Lts). due (table_tests t a.room)) (rows_front a.table a.bytes.now _ _ _ _ c.read_rows.ensures)
 
-pub table-refusal-spec : {M : Type 1} → statement M
-table-refusal-spec =
+pub table_refusal_spec : {M : Type 1} → statement M
+table_refusal_spec =
     tie.close
     (tie.spec
-    cast-m
-    slice-aggregate-check
-    slice-aggregate-check-2
-    slice-aggregate-check-3
+    overflow_cast-m
+    slice_bounds-check-end
+    slice_bounds-check-end-then-m-gt-MAX_ROWS
+    slice_bounds-check-end-then-m-gt-MAX_ROWS-2
     check-requires
-    returns
-    slice-aggregate-read-rows
-    slice-aggregate-read-rows-2
-    slice-aggregate-read-rows-3
-    read-rows-requires
-    array-share-prefix-source
-    slice-aggregate-check-4
-    array-share-prefix-label
-    slice-aggregate-check-5
-    array-share-prefix-target
-    slice-aggregate-check-6
+    returns-then-m-gt-MAX_ROWS
+    slice_bounds-read_rows-end
+    slice_bounds-read_rows-end-2
+    slice_bounds-read_rows-end-3
+    read_rows-requires
+    slice_bounds-source-end
+    slice_bounds-check-end-2
+    slice_bounds-label-end
+    slice_bounds-check-end-3
+    slice_bounds-target-end
+    slice_bounds-check-end-4
     check-requires-2
-    returns-2)
+    returns)

@@ -6,62 +6,62 @@ use Rattle.file.proofs.Digits.{Read, read_none, read_more, read_done, read_few}
 use Rattle.file.proofs.numbers.number_at.Statement.{statement}
 use Rattle.file.proofs.numbers.number_at.Tie as tie
 
-abbrev invariant-loop : tie.invariant-loop
-invariant-loop bytes at width x₀ i₀ x i = Read bytes at width i x
+abbrev invariant-loop-i : tie.invariant-loop-i
+invariant-loop-i bytes at width x₀ i₀ x i = Read bytes at width i x
 
-abbrev decreases-loop : tie.decreases-loop
-decreases-loop bytes at width x₀ i₀ x i = i - at
+abbrev decreases-loop-i : tie.decreases-loop-i
+decreases-loop-i bytes at width x₀ i₀ x i = i - at
 
-add-i : tie.Need-overflow-add-i invariant-loop decreases-loop
-add-i c = omega arith
+overflow_add-i : tie.Need-overflow_add-i invariant-loop-i decreases-loop-i
+overflow_add-i c = omega arith
 
-loop-holds : tie.Need-loop-init invariant-loop decreases-loop
-loop-holds c = read_none _ _ _
+loop-i-init : tie.Need-loop-i-init invariant-loop-i decreases-loop-i
+loop-i-init c = read_none _ _ _
 
-sub-i : tie.Need-overflow-sub-i invariant-loop decreases-loop
-sub-i c = omega arith
+overflow_sub-i : tie.Need-overflow_sub-i invariant-loop-i decreases-loop-i
+overflow_sub-i c = omega arith
 
-shared-slice-read-x : tie.Need-shared-slice-read-x invariant-loop decreases-loop
-shared-slice-read-x c = omega arith
+bounds-bytes-i : tie.Need-bounds-bytes-i invariant-loop-i decreases-loop-i
+bounds-bytes-i c = omega arith
 
-cast-x : tie.Need-overflow-cast-x invariant-loop decreases-loop
-cast-x c = omega (arith, c.shared-slice-known.given (c.before.before.loop.i - 1))
+overflow_cast-x : tie.Need-overflow_cast-x invariant-loop-i decreases-loop-i
+overflow_cast-x c = omega (arith, c.shared_slice_known-1.given (c.loop-i.i - 1))
 
-mul-x : tie.Need-overflow-mul-x invariant-loop decreases-loop
-mul-x c = omega (arith, read_few _ _ _ _ _ c.before.before.loop.invariant (omega arith) (omega arith))
+overflow_mul-x : tie.Need-overflow_mul-x invariant-loop-i decreases-loop-i
+overflow_mul-x c = omega (arith, read_few _ _ _ _ _ c.loop-i.invariant (omega arith) (omega arith))
 
-add-x : tie.Need-overflow-add-x invariant-loop decreases-loop
-add-x c =
+overflow_add-x : tie.Need-overflow_add-x invariant-loop-i decreases-loop-i
+overflow_add-x c =
     omega (
       arith,
-      c.shared-slice-known.given (c.before.before.loop.i - 1),
-      read_few _ _ _ _ _ c.before.before.loop.invariant (omega arith) (omega arith),
+      c.shared_slice_known-1.given (c.loop-i.i - 1),
+      read_few _ _ _ _ _ c.loop-i.invariant (omega arith) (omega arith),
     )
 
-loop-less : tie.Need-loop-smaller invariant-loop decreases-loop
-loop-less c = omega arith
+loop-i-smaller : tie.Need-loop-i-smaller invariant-loop-i decreases-loop-i
+loop-i-smaller c = omega arith
 
-loop-again : tie.Need-loop-preserved invariant-loop decreases-loop
-loop-again c =
-    read_more _ _ _ _ (c.before.before.loop.i - 1) _ c.before.before.loop.invariant (omega arith) refl
-    (omega (arith, c.shared-slice-known.given (c.before.before.loop.i - 1)))
+loop-i-preserved : tie.Need-loop-i-preserved invariant-loop-i decreases-loop-i
+loop-i-preserved c =
+    read_more _ _ _ _ (c.loop-i.i - 1) _ c.loop-i.invariant (omega arith) refl
+    (omega (arith, c.shared_slice_known-1.given (c.loop-i.i - 1)))
 
-returns : tie.Need-returns invariant-loop decreases-loop
-returns c = read_done _ _ _ _ _ c.before.loop.invariant (omega arith)
+returns : tie.Need-returns invariant-loop-i decreases-loop-i
+returns c = read_done _ _ _ _ _ c.loop-i.invariant (omega arith)
 
-pub number-at-spec : {M : Type 1} → statement M
-number-at-spec =
+pub number_at_spec : {M : Type 1} → statement M
+number_at_spec =
     tie.close
     (tie.spec
-    invariant-loop
-    decreases-loop
-    add-i
-    loop-holds
-    sub-i
-    shared-slice-read-x
-    cast-x
-    mul-x
-    add-x
-    loop-less
-    loop-again
+    invariant-loop-i
+    decreases-loop-i
+    overflow_add-i
+    loop-i-init
+    overflow_sub-i
+    bounds-bytes-i
+    overflow_cast-x
+    overflow_mul-x
+    overflow_add-x
+    loop-i-smaller
+    loop-i-preserved
     returns)

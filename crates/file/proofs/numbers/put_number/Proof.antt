@@ -5,51 +5,51 @@ use Rattle.file.proofs.Digits.{Put, put_none, put_more, put_done}
 use Rattle.file.proofs.numbers.put_number.Statement.{statement}
 use Rattle.file.proofs.numbers.put_number.Tie as tie
 
-abbrev invariant-loop : tie.invariant-loop
-invariant-loop x width bytes₀ at rest₀ i₀ bytes rest i = Put bytes₀ at width x i rest bytes
+abbrev invariant-loop-i : tie.invariant-loop-i
+invariant-loop-i x width bytes₀ at rest₀ i₀ bytes rest i = Put bytes₀ at width x i rest bytes
 
-abbrev decreases-loop : tie.decreases-loop
-decreases-loop x width bytes₀ at rest₀ i₀ bytes rest i = at + width - i
+abbrev decreases-loop-i : tie.decreases-loop-i
+decreases-loop-i x width bytes₀ at rest₀ i₀ bytes rest i = at + width - i
 
-loop-holds : tie.Need-loop-init invariant-loop decreases-loop
-loop-holds c = put_none _ _ _ _
+loop-i-init : tie.Need-loop-i-init invariant-loop-i decreases-loop-i
+loop-i-init c = put_none _ _ _ _
 
-add-loop : tie.Need-overflow-add-loop invariant-loop decreases-loop
-add-loop c = omega arith
+overflow_add-at : tie.Need-overflow_add-at invariant-loop-i decreases-loop-i
+overflow_add-at c = omega arith
 
-cast-bytes : tie.Need-overflow-cast-bytes invariant-loop decreases-loop
-cast-bytes c = omega arith
+overflow_cast-bytes : tie.Need-overflow_cast-bytes invariant-loop-i decreases-loop-i
+overflow_cast-bytes c = omega arith
 
-slice-write-bytes : tie.Need-slice-write-bytes invariant-loop decreases-loop
-slice-write-bytes c = omega arith
+bounds-bytes-i : tie.Need-bounds-bytes-i invariant-loop-i decreases-loop-i
+bounds-bytes-i c = omega arith
 
-add-i : tie.Need-overflow-add-i invariant-loop decreases-loop
-add-i c = omega arith
+overflow_add-i : tie.Need-overflow_add-i invariant-loop-i decreases-loop-i
+overflow_add-i c = omega arith
 
-loop-less : tie.Need-loop-smaller invariant-loop decreases-loop
-loop-less c = omega arith
+loop-i-smaller : tie.Need-loop-i-smaller invariant-loop-i decreases-loop-i
+loop-i-smaller c = omega arith
 
-loop-again : tie.Need-loop-preserved invariant-loop decreases-loop
-loop-again c = put_more _ _ _ _ _ _ _ c.before.loop.invariant (omega arith)
+loop-i-preserved : tie.Need-loop-i-preserved invariant-loop-i decreases-loop-i
+loop-i-preserved c = put_more _ _ _ _ _ _ _ c.loop-i.invariant (omega arith)
 
-same_length : tie.Need-same-length invariant-loop decreases-loop
-same_length c = c.before.loop.invariant.1
+shape_of-bytes : tie.Need-shape_of-bytes invariant-loop-i decreases-loop-i
+shape_of-bytes c = c.loop-i.invariant.1
 
-returns : tie.Need-returns invariant-loop decreases-loop
-returns c = put_done _ _ _ _ _ _ _ c.before.loop.invariant (omega arith)
+returns : tie.Need-returns invariant-loop-i decreases-loop-i
+returns c = put_done _ _ _ _ _ _ _ c.loop-i.invariant (omega arith)
 
-pub put-number-spec : {M : Type 1} → statement M
-put-number-spec =
+pub put_number_spec : {M : Type 1} → statement M
+put_number_spec =
     tie.close
     (tie.spec
-    invariant-loop
-    decreases-loop
-    loop-holds
-    add-loop
-    cast-bytes
-    slice-write-bytes
-    add-i
-    loop-less
-    loop-again
-    same_length
+    invariant-loop-i
+    decreases-loop-i
+    loop-i-init
+    overflow_add-at
+    overflow_cast-bytes
+    bounds-bytes-i
+    overflow_add-i
+    loop-i-smaller
+    loop-i-preserved
+    shape_of-bytes
     returns)

@@ -7,65 +7,65 @@ use Rattle.file.proofs.Stores.{Stored, stored_none, stored_more, stored_done, le
 use Rattle.file.proofs.numbers.put_words.Statement.{statement}
 use Rattle.file.proofs.numbers.put_words.Tie as tie
 
-abbrev invariant-loop : tie.invariant-loop
-invariant-loop cells bytes₀ at i₀ bytes i = Stored (λ k. bytes_of 2 (get_or cells k 0)) at (length cells) bytes₀ i bytes
+abbrev invariant-loop-i : tie.invariant-loop-i
+invariant-loop-i cells bytes₀ at i₀ bytes i = Stored (λ k. bytes_of 2 (get_or cells k 0)) at (length cells) bytes₀ i bytes
 
-abbrev decreases-loop : tie.decreases-loop
-decreases-loop cells bytes₀ at i₀ bytes i = length cells - i
+abbrev decreases-loop-i : tie.decreases-loop-i
+decreases-loop-i cells bytes₀ at i₀ bytes i = length cells - i
 
-loop-holds : tie.Need-loop-init invariant-loop decreases-loop
-loop-holds c = stored_none _ _ _ _
+loop-i-init : tie.Need-loop-i-init invariant-loop-i decreases-loop-i
+loop-i-init c = stored_none _ _ _ _
 
-mul-put-number : tie.Need-overflow-mul-put-number invariant-loop decreases-loop
-mul-put-number c = omega arith
+offset_bounds-cells-i : tie.Need-offset_bounds-cells-i invariant-loop-i decreases-loop-i
+offset_bounds-cells-i c = omega arith
 
-shared-slice-read-put-number : tie.Need-shared-slice-read-put-number invariant-loop decreases-loop
-shared-slice-read-put-number c = omega arith
+bounds-cells-i : tie.Need-bounds-cells-i invariant-loop-i decreases-loop-i
+bounds-cells-i c = omega arith
 
-cast-put-number : tie.Need-overflow-cast-put-number invariant-loop decreases-loop
-cast-put-number c = omega (arith, c.shared-slice-known2.given c.before.before.loop.i)
+overflow_cast-cells : tie.Need-overflow_cast-cells invariant-loop-i decreases-loop-i
+overflow_cast-cells c = omega (arith, c.shared_slice_known-in-loop-i-1.given c.loop-i.i)
 
-mul-put-number-2 : tie.Need-overflow-mul-put-number-2 invariant-loop decreases-loop
-mul-put-number-2 c = omega arith
+overflow_mul-i : tie.Need-overflow_mul-i invariant-loop-i decreases-loop-i
+overflow_mul-i c = omega arith
 
-add-put-number : tie.Need-overflow-add-put-number invariant-loop decreases-loop
-add-put-number c = omega arith
+overflow_add-at : tie.Need-overflow_add-at invariant-loop-i decreases-loop-i
+overflow_add-at c = omega arith
 
-put-number-requires : tie.Need-put-number-requires invariant-loop decreases-loop
-put-number-requires c κs = omega arith
+put_number-requires : tie.Need-put_number-requires invariant-loop-i decreases-loop-i
+put_number-requires c κs = omega arith
 
-add-i : tie.Need-overflow-add-i invariant-loop decreases-loop
-add-i c = omega arith
+overflow_add-i : tie.Need-overflow_add-i invariant-loop-i decreases-loop-i
+overflow_add-i c = omega arith
 
-loop-less : tie.Need-loop-smaller invariant-loop decreases-loop
-loop-less c = omega arith
+loop-i-smaller : tie.Need-loop-i-smaller invariant-loop-i decreases-loop-i
+loop-i-smaller c = omega arith
 
-loop-again : tie.Need-loop-preserved invariant-loop decreases-loop
-loop-again c =
-    stored_more _ _ _ _ 2 c.before.before.before.before.before.before.loop.i _ _ _ (λ k. length-bytes 2 _) (omega arith) refl c.before.before.put-number.ensures c.before.before.before.before.before.before.loop.invariant
+loop-i-preserved : tie.Need-loop-i-preserved invariant-loop-i decreases-loop-i
+loop-i-preserved c =
+    stored_more _ _ _ _ 2 c.loop-i.i _ _ _ (λ k. length-bytes 2 _) (omega arith) refl c.put_number.ensures c.loop-i.invariant
 
-same_length : tie.Need-same-length invariant-loop decreases-loop
-same_length c = c.before.loop.invariant.size
+shape_of-bytes : tie.Need-shape_of-bytes invariant-loop-i decreases-loop-i
+shape_of-bytes c = c.loop-i.invariant.size
 
-returns : tie.Need-returns invariant-loop decreases-loop
+returns : tie.Need-returns invariant-loop-i decreases-loop-i
 unfolding words
-returns c = stored_done _ _ _ _ _ _ c.before.loop.invariant (omega arith)
+returns c = stored_done _ _ _ _ _ _ c.loop-i.invariant (omega arith)
 
-pub put-words-spec : {M : Type 1} → statement M
-put-words-spec =
+pub put_words_spec : {M : Type 1} → statement M
+put_words_spec =
     tie.close
     (tie.spec
-    invariant-loop
-    decreases-loop
-    loop-holds
-    mul-put-number
-    shared-slice-read-put-number
-    cast-put-number
-    mul-put-number-2
-    add-put-number
-    put-number-requires
-    add-i
-    loop-less
-    loop-again
-    same_length
+    invariant-loop-i
+    decreases-loop-i
+    loop-i-init
+    offset_bounds-cells-i
+    bounds-cells-i
+    overflow_cast-cells
+    overflow_mul-i
+    overflow_add-at
+    put_number-requires
+    overflow_add-i
+    loop-i-smaller
+    loop-i-preserved
+    shape_of-bytes
     returns)

@@ -18,89 +18,89 @@ given a = (a.args.source.now, (a.args.label.now, a.args.target.now))
 
 -- a file that has passed the checks
 accepted :
-    (c : tie.After-file-refusal) → c.file-refusal.result.number ≡ 0
-    → Accepted c.before.before.before.before.before.before.args.bytes.now
+    (c : tie.After-file_refusal-t) → c.file_refusal-t.result.number ≡ 0
+    → Accepted c.args.bytes.now
     (lengths_of (given c.before.before.before.before.before.before))
-accepted c z = accepted_of _ _ _ c.file-refusal.ensures z
+accepted c z = accepted_of _ _ _ c.file_refusal-t.ensures z
 
-slice-aggregate-file-refusal : tie.Need-slice-aggregate-file-refusal
-slice-aggregate-file-refusal c = refl
+slice_bounds-file_refusal-end : tie.Need-slice_bounds-file_refusal-end
+slice_bounds-file_refusal-end c = refl
 
-file-refusal-requires : tie.Need-file-refusal-requires
-file-refusal-requires c κs = search rules
+file_refusal-t-requires : tie.Need-file_refusal-t-requires
+file_refusal-t-requires c κs = search rules
 
-refusing-table-requires : tie.Need-refusing-table-requires
-refusing-table-requires c κs = search rules
+refusing_table-requires : tie.Need-refusing_table-requires
+refusing_table-requires c κs = search rules
 
-returns : tie.Need-returns
+returns-then-number-ne0 : tie.Need-returns-then-number-ne0
 unfolding read_file
-returns c =
+returns-then-number-ne0 c =
     let a = c.before.before.before.before.before.before.before.before in
     let s = a.args.bytes.now in
-    left_refused (file_refusal s (lengths_of (given a))) _ c.before.before.file-refusal.ensures (given a)
+    left_refused (file_refusal s (lengths_of (given a))) _ c.file_refusal-t.ensures (given a)
     (columns_over (columns_in (table_in s)) (given a))
-    (header_numbers (header_in s)) _ c.before.if1.true c.refusing-table.ensures
+    (header_numbers (header_in s)) _ c.if-number-ne0.true c.refusing_table.ensures
 
-header-requires : tie.Need-header-requires
-header-requires c κs = omega (arith, (accepted c.before c.if1.false).contents.size)
+header-table-requires : tie.Need-header-table-requires
+header-table-requires c κs = omega (arith, (accepted c.before c.if-number-ne0.false).contents.size)
 
-read-rows-requires : tie.Need-read-rows-requires
-read-rows-requires c κs =
-    let r = readable _ _ _ c.before.before.before.header.ensures (accepted c.before.before.before.before.before c.before.before.before.before.if1.false) in
+read_rows-requires : tie.Need-read_rows-requires
+read_rows-requires c κs =
+    let r = readable _ _ _ c.header-table.ensures (accepted c.before.before.before.before.before c.if-number-ne0.false) in
     (omega (arith, r.size), r.room.0, r.room.1.0, r.room.1.1.0)
 
-cast-table-of : tie.Need-overflow-cast-table-of
-cast-table-of c = search rules
+overflow_cast-table : tie.Need-overflow_cast-table
+overflow_cast-table c = search rules
 
-cast-table-of-2 : tie.Need-overflow-cast-table-of-2
-cast-table-of-2 c = search rules
+overflow_cast-table-2 : tie.Need-overflow_cast-table-2
+overflow_cast-table-2 c = search rules
 
-cast-table-of-3 : tie.Need-overflow-cast-table-of-3
-cast-table-of-3 c = search rules
+overflow_cast-table-3 : tie.Need-overflow_cast-table-3
+overflow_cast-table-3 c = search rules
 
-cast-table-of-4 : tie.Need-overflow-cast-table-of-4
-cast-table-of-4 c = search rules
+overflow_cast-table-4 : tie.Need-overflow_cast-table-4
+overflow_cast-table-4 c = search rules
 
-table-of-requires : tie.Need-table-of-requires
-table-of-requires c κs = search rules
+table_of-requires : tie.Need-table_of-requires
+table_of-requires c κs = search rules
 
-same_length : tie.Need-same-length
-same_length c = c.before.before.before.before.before.before.before.before.before.before.before.read-rows.auto.1.1.0
+shape_of-source : tie.Need-shape_of-source
+shape_of-source c = c.read_rows.auto.source
 
-same-length-2 : tie.Need-same-length-2
-same-length-2 c = c.before.before.before.before.before.before.before.before.before.before.before.read-rows.auto.1.1.1.0
+shape_of-label : tie.Need-shape_of-label
+shape_of-label c = c.read_rows.auto.label
 
-same-length-3 : tie.Need-same-length-3
-same-length-3 c = c.before.before.before.before.before.before.before.before.before.before.before.read-rows.auto.1.1.1.1.0
+shape_of-target : tie.Need-shape_of-target
+shape_of-target c = c.read_rows.auto.target
 
-returns-2 : tie.Need-returns-2
+returns : tie.Need-returns
 unfolding read_file table_in
-returns-2 c =
+returns c =
     let a = c.before.before.before.before.before.before.before.before.before.before.before.before.before.before.before.before.before.before.before.before.before.before.before in
     let s = a.args.bytes.now in
-    let e = c.before.before.before.before.before.before.before.before.before.before.before.before.before.before.before.header.ensures in
-    left_done (file_refusal s (lengths_of (given a))) _ c.before.before.before.before.before.before.before.before.before.before.before.before.before.before.before.before.before.file-refusal.ensures (given a)
+    let e = c.header-table.ensures in
+    left_done (file_refusal s (lengths_of (given a))) _ c.file_refusal-t.ensures (given a)
     (columns_over (columns_in (table_in s)) (given a))
-    (header_numbers (header_in s)) _ _ c.before.before.before.before.before.before.before.before.before.before.before.before.before.before.before.before.if1.false (c.table_of.ensures ∙ ap (λ (t : Table). done (header_numbers t)) e)
-    (c.before.before.before.before.before.before.before.before.before.before.before.read-rows.ensures ∙ ap (λ (t : Table).
+    (header_numbers (header_in s)) _ _ c.if-number-ne0.false (c.table_of.ensures ∙ ap (λ (t : Table). done (header_numbers t)) e)
+    (c.read_rows.ensures ∙ ap (λ (t : Table).
     columns_over (columns_in (with_rows t s)) (given a)) e)
 
-pub read-file-spec : {M : Type 1} → statement M
-read-file-spec =
+pub read_file_spec : {M : Type 1} → statement M
+read_file_spec =
     tie.close
     (tie.spec
-    slice-aggregate-file-refusal
-    file-refusal-requires
-    refusing-table-requires
-    returns
-    header-requires
-    read-rows-requires
-    cast-table-of
-    cast-table-of-2
-    cast-table-of-3
-    cast-table-of-4
-    table-of-requires
-    same_length
-    same-length-2
-    same-length-3
-    returns-2)
+    slice_bounds-file_refusal-end
+    file_refusal-t-requires
+    refusing_table-requires
+    returns-then-number-ne0
+    header-table-requires
+    read_rows-requires
+    overflow_cast-table
+    overflow_cast-table-2
+    overflow_cast-table-3
+    overflow_cast-table-4
+    table_of-requires
+    shape_of-source
+    shape_of-label
+    shape_of-target
+    returns)

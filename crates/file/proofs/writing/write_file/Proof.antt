@@ -19,74 +19,74 @@ L a = lts a.args.table a.args.source.now a.args.label.now a.args.target.now
 
 -- a call that has passed the checks
 ready :
-    (c : tie.After-write-refusal) → c.write-refusal.result.number ≡ 0
-    → Writable (L c.before.before.before.before.before.before) c.before.before.before.before.before.before.args.states
-    c.before.before.before.before.before.before.args.blocks.now
-    (length c.before.before.before.before.before.before.args.bytes.now)
-ready c z = writable _ _ _ _ _ c.write-refusal.ensures z
+    (c : tie.After-write_refusal-t) → c.write_refusal-t.result.number ≡ 0
+    → Writable (L c.before.before.before.before.before.before) c.args.states
+    c.args.blocks.now
+    (length c.args.bytes.now)
+ready c z = writable _ _ _ _ _ c.write_refusal-t.ensures z
 
-write-refusal-requires : tie.Need-write-refusal-requires
-write-refusal-requires c κs = search rules
+write_refusal-t-requires : tie.Need-write_refusal-t-requires
+write_refusal-t-requires c κs = search rules
 
-refusing-number-requires : tie.Need-refusing-number-requires
-refusing-number-requires c κs = search rules
+refusing_number-requires : tie.Need-refusing_number-requires
+refusing_number-requires c κs = search rules
 
-returns : tie.Need-returns
+returns-then-refused-ne0 : tie.Need-returns-then-refused-ne0
 unfolding write_file
-returns c =
+returns-then-refused-ne0 c =
     let a = c.before.before.before.before.before.before.before.before in
     let k = a.args.states in
     let blocks = a.args.blocks.now in
     let bytes = a.args.bytes.now in
-    left_refused (write_refusal (L a) k blocks (length bytes)) _ c.before.before.write-refusal.ensures bytes
-    (over (output_bytes (L a) (take k blocks)) bytes) (output_size a.args.table.m k ∷ []) _ c.before.if1.true c.refusing-number.ensures
+    left_refused (write_refusal (L a) k blocks (length bytes)) _ c.write_refusal-t.ensures bytes
+    (over (output_bytes (L a) (take k blocks)) bytes) (output_size a.args.table.m k ∷ []) _ c.if-refused-ne0.true c.refusing_number.ensures
 
-slice-aggregate-write : tie.Need-slice-aggregate-write
-slice-aggregate-write c =
-    let a = c.before.before.before.before.before.before.before.before.args in
-    sym (length-take-le a.states a.blocks.now (ready c.before.before c.before.if1.false).blocks_long)
+slice_bounds-write-end : tie.Need-slice_bounds-write-end
+slice_bounds-write-end c =
+    let a = c.args in
+    sym (length-take-le a.states a.blocks.now (ready c.before c.if-refused-ne0.false).blocks_long)
 
 write-requires : tie.Need-write-requires
 write-requires c κs =
-    let a = c.before.before.before.before.before.before.before.before.before.args in
-    let w = ready c.before.before.before c.before.before.if1.false in
+    let a = c.args in
+    let w = ready c.before.before c.if-refused-ne0.false in
     let cut = length-take-le a.states a.blocks.now w.blocks_long in
     ((w.valid.long, omega (arith, cut, w.few)), omega (arith, cut, w.enough))
 
-cast-output-size : tie.Need-overflow-cast-output-size
-cast-output-size c = search rules
+overflow_cast-table : tie.Need-overflow_cast-table
+overflow_cast-table c = search rules
 
-output-size-requires : tie.Need-output-size-requires
-output-size-requires c κs = search rules
+output_size-requires : tie.Need-output_size-requires
+output_size-requires c κs = search rules
 
 number-requires : tie.Need-number-requires
 number-requires c κs = search rules
 
-same_length : tie.Need-same-length
-same_length c = search rules
+shape_of-bytes : tie.Need-shape_of-bytes
+shape_of-bytes c = search rules
 
-returns-2 : tie.Need-returns-2
+returns : tie.Need-returns
 unfolding write_file
-returns-2 c =
-    let a = c.before.before.before.before.before.before.before.before.before.before.before.before.before.before.before in
+returns c =
+    let a = c.before.before.before.before.before.before.before.before.before.before.before.before.before.before in
     let k = a.args.states in
     let blocks = a.args.blocks.now in
     let bytes = a.args.bytes.now in
-    left_done (write_refusal (L a) k blocks (length bytes)) _ c.before.before.before.before.before.before.before.before.before.write-refusal.ensures bytes
-    (over (output_bytes (L a) (take k blocks)) bytes) (output_size a.args.table.m k ∷ []) _ _ c.before.before.before.before.before.before.before.before.if1.false
-    (c.number.ensures ∙ ap (λ (n : ℕ). done (n ∷ [])) c.before.output_size_lem.ensures) c.before.before.before.before.before.write.ensures
+    left_done (write_refusal (L a) k blocks (length bytes)) _ c.write_refusal-t.ensures bytes
+    (over (output_bytes (L a) (take k blocks)) bytes) (output_size a.args.table.m k ∷ []) _ _ c.if-refused-ne0.false
+    (c.number.ensures ∙ ap (λ (n : ℕ). done (n ∷ [])) c.output_size.ensures) c.write.ensures
 
-pub write-file-spec : {M : Type 1} → statement M
-write-file-spec =
+pub write_file_spec : {M : Type 1} → statement M
+write_file_spec =
     tie.close
     (tie.spec
-    write-refusal-requires
-    refusing-number-requires
-    returns
-    slice-aggregate-write
+    write_refusal-t-requires
+    refusing_number-requires
+    returns-then-refused-ne0
+    slice_bounds-write-end
     write-requires
-    cast-output-size
-    output-size-requires
+    overflow_cast-table
+    output_size-requires
     number-requires
-    same_length
-    returns-2)
+    shape_of-bytes
+    returns)

@@ -29,76 +29,76 @@ blocks a = blocks_test a.args.table.n a.args.k a.args.blocks.now
 abbrev room : tie.Start → Test
 room a = room_test (output_size a.args.table.m a.args.k) a.args.room
 
-checked : (c : tie.After-or-else) → c.or_else.result ≡ due (earlier c.before.before.before.before.before.before.before)
+checked : (c : tie.After-or_else-t) → c.or_else-t.result ≡ due (earlier c.before.before.before.before.before.before.before)
 checked c =
     let a = c.before.before.before.before.before.before.before in
-    c.or_else.ensures
-    ∙ chained (states_test a.args.k ∷ []) (tests a) refl _ c.before.before.states-refusal.ensures _ c.before.check.ensures
+    c.or_else-t.ensures
+    ∙ chained (states_test a.args.k ∷ []) (tests a) refl _ c.states_refusal.ensures _ c.check.ensures
 
 fits :
-    (c : tie.After-or-else) → c.or_else.result.number ≡ 0
-    → c.before.before.before.before.before.before.before.args.k
-    ≤ length c.before.before.before.before.before.before.before.args.blocks.now
+    (c : tie.After-or_else-t) → c.or_else-t.result.number ≡ 0
+    → c.args.k
+    ≤ length c.args.blocks.now
 fits c z =
     let a = c.before.before.before.before.before.before.before in
     let k = a.args.k in
     let cells = length a.args.blocks.now in
     leb-true k cells (checked_of (L a) (leb k cells) (passed (earlier a) refl _ (checked c) z).1).enough
 
-states-refusal-requires : tie.Need-states-refusal-requires
-states-refusal-requires c κs = search rules
+states_refusal-requires : tie.Need-states_refusal-requires
+states_refusal-requires c κs = search rules
 
 check-requires : tie.Need-check-requires
 check-requires c κs = search rules
 
-or-else-requires : tie.Need-or-else-requires
-or-else-requires c κs = search rules
+or_else-t-requires : tie.Need-or_else-t-requires
+or_else-t-requires c κs = search rules
+
+returns-then-number-ne0 : tie.Need-returns-then-number-ne0
+unfolding write_refusal
+returns-then-number-ne0 c =
+    let a = c.before.before.before.before.before.before.before.before in
+    ends (earlier a) (blocks a ∷ room a ∷ []) refl _ (checked c.before) c.if-number-ne0.true
+
+overflow_cast-table : tie.Need-overflow_cast-table
+overflow_cast-table c = search rules
+
+output_size-needed-requires : tie.Need-output_size-needed-requires
+output_size-needed-requires c κs = search rules
+
+overflow_cast-table-2 : tie.Need-overflow_cast-table-2
+overflow_cast-table-2 c = search rules
+
+blocks_refusal-outside-requires : tie.Need-blocks_refusal-outside-requires
+blocks_refusal-outside-requires c κs = fits c.before.before.before.before c.if-number-ne0.false
+
+refuse_unless-requires : tie.Need-refuse_unless-requires
+refuse_unless-requires c κs = search rules
+
+or_else-requires : tie.Need-or_else-requires
+or_else-requires c κs = search rules
 
 returns : tie.Need-returns
 unfolding write_refusal
 returns c =
-    let a = c.before.before.before.before.before.before.before.before in
-    ends (earlier a) (blocks a ∷ room a ∷ []) refl _ (checked c.before) c.if1.true
-
-cast-output-size : tie.Need-overflow-cast-output-size
-cast-output-size c = search rules
-
-output-size-requires : tie.Need-output-size-requires
-output-size-requires c κs = search rules
-
-cast-blocks-refusal : tie.Need-overflow-cast-blocks-refusal
-cast-blocks-refusal c = search rules
-
-blocks-refusal-requires : tie.Need-blocks-refusal-requires
-blocks-refusal-requires c κs = fits c.before.before.before.before c.before.before.before.if1.false
-
-refuse-unless-requires : tie.Need-refuse-unless-requires
-refuse-unless-requires c κs = search rules
-
-or-else-requires-2 : tie.Need-or-else-requires-2
-or-else-requires-2 c κs = search rules
-
-returns-2 : tie.Need-returns-2
-unfolding write_refusal
-returns-2 c =
     let a = c.before.before.before.before.before.before.before.before.before.before.before.before.before.before in
-    let short = c.before.refuse-unless.ensures ∙ ap (λ (n : ℕ). due (room_test n a.args.room ∷ [])) c.before.before.before.before.output_size_lem.ensures in
-    c.or-else2.ensures
-    ∙ chained (blocks a ∷ []) (room a ∷ []) refl _ c.before.before.blocks-refusal.ensures _ short
-    ∙ goes_on_lem (earlier a) (blocks a ∷ room a ∷ []) refl _ (checked c.before.before.before.before.before.before.before) c.before.before.before.before.before.before.if1.false
+    let short = c.refuse_unless.ensures ∙ ap (λ (n : ℕ). due (room_test n a.args.room ∷ [])) c.output_size-needed.ensures in
+    c.or_else.ensures
+    ∙ chained (blocks a ∷ []) (room a ∷ []) refl _ c.blocks_refusal-outside.ensures _ short
+    ∙ goes_on_lem (earlier a) (blocks a ∷ room a ∷ []) refl _ (checked c.before.before.before.before.before.before.before) c.if-number-ne0.false
 
-pub write-refusal-spec : {M : Type 1} → statement M
-write-refusal-spec =
+pub write_refusal_spec : {M : Type 1} → statement M
+write_refusal_spec =
     tie.close
     (tie.spec
-    states-refusal-requires
+    states_refusal-requires
     check-requires
-    or-else-requires
-    returns
-    cast-output-size
-    output-size-requires
-    cast-blocks-refusal
-    blocks-refusal-requires
-    refuse-unless-requires
-    or-else-requires-2
-    returns-2)
+    or_else-t-requires
+    returns-then-number-ne0
+    overflow_cast-table
+    output_size-needed-requires
+    overflow_cast-table-2
+    blocks_refusal-outside-requires
+    refuse_unless-requires
+    or_else-requires
+    returns)

@@ -8,100 +8,100 @@ use Rattle.pairs_merge.proofs.Places.{next_low, other_low, next_high, other_high
 use Rattle.pairs_merge.proofs.heads.advance.Statement.{statement}
 use Rattle.pairs_merge.proofs.heads.advance.Tie as tie
 
-at-requires : tie.Need-at-requires
-at-requires c κs = search rules
+at-y-requires : tie.Need-at-y-requires
+at-y-requires c κs = search rules
 
-at-requires-2 : tie.Need-at-requires-2
-at-requires-2 c κs = search rules
+at-x-requires : tie.Need-at-x-requires
+at-x-requires c κs = search rules
 
-add-high : tie.Need-overflow-add-high
-add-high c = search rules
+overflow_add-high : tie.Need-overflow_add-high
+overflow_add-high c = search rules
 
-cast-high : tie.Need-overflow-cast-high
+overflow_cast-high : tie.Need-overflow_cast-high
 unfolding wide
-cast-high c = omega (
+overflow_cast-high c = omega (
   arith,
-  c.at2.ensures.0,
-  c.before.before.before.at.ensures.0,
-  c.before.before.before.before.before.before.before.requires.2,
+  c.at-x.ensures.0,
+  c.at-y.ensures.0,
+  c.requires.2,
 )
 
-mul-high : tie.Need-overflow-mul-high
-mul-high c = search rules
+offset_bounds-high-j : tie.Need-offset_bounds-high-j
+offset_bounds-high-j c = search rules
 
-slice-write-high : tie.Need-slice-write-high
-slice-write-high c = search rules
+bounds-high-j : tie.Need-bounds-high-j
+bounds-high-j c = search rules
 
-mul_low : tie.Need-overflow-mul-low
-mul_low c = search rules
+offset_bounds-low-j : tie.Need-offset_bounds-low-j
+offset_bounds-low-j c = search rules
 
-slice-write-low : tie.Need-slice-write-low
-slice-write-low c = search rules
+bounds-low-j : tie.Need-bounds-low-j
+bounds-low-j c = search rules
 
-same_length : tie.Need-same-length
-same_length c = search rules
+shape_of-high-then-y-eq65535 : tie.Need-shape_of-high-then-y-eq65535
+shape_of-high-then-y-eq65535 c = search rules
 
-same-length-2 : tie.Need-same-length-2
-same-length-2 c = search rules
+shape_of-low-then-y-eq65535 : tie.Need-shape_of-low-then-y-eq65535
+shape_of-low-then-y-eq65535 c = search rules
+
+returns-then-y-eq65535 : tie.Need-returns-then-y-eq65535
+returns-then-y-eq65535 c = (
+  next_high c.args.high.now
+      c.args.low.now
+      c.args.j
+      c.requires.1
+      c.requires.0 _
+      (sym c.at-y.ensures.0 ∙ c.if-y-eq65535.true) (ap (λ (z : ℕ). z + 1) c.at-x.ensures.0),
+  λ i n. other_high c.args.high.now
+      c.args.low.now
+      c.args.j
+      c.requires.1
+      c.requires.0 _ _ i n,
+)
+
+overflow_add-low : tie.Need-overflow_add-low
+overflow_add-low c = search rules
+
+overflow_cast-low : tie.Need-overflow_cast-low
+overflow_cast-low c = search rules
+
+offset_bounds-low-j-2 : tie.Need-offset_bounds-low-j-2
+offset_bounds-low-j-2 c = search rules
+
+bounds-low-j-2 : tie.Need-bounds-low-j-2
+bounds-low-j-2 c = search rules
+
+shape_of-low : tie.Need-shape_of-low
+shape_of-low c = search rules
 
 returns : tie.Need-returns
 returns c = (
-  next_high c.before.before.before.before.before.before.before.args.high.now
-      c.before.before.before.before.before.before.before.args.low.now
-      c.before.before.before.before.before.before.before.args.j
-      c.before.before.before.before.before.before.before.requires.1
-      c.before.before.before.before.before.before.before.requires.0 _
-      (sym c.before.before.before.at.ensures.0 ∙ c.before.before.if1.true) (ap (λ (z : ℕ). z + 1) c.at2.ensures.0),
-  λ i n. other_high c.before.before.before.before.before.before.before.args.high.now
-      c.before.before.before.before.before.before.before.args.low.now
-      c.before.before.before.before.before.before.before.args.j
-      c.before.before.before.before.before.before.before.requires.1
-      c.before.before.before.before.before.before.before.requires.0 _ _ i n,
+  next_low c.args.high.now
+      c.args.low.now c.args.j
+      c.requires.1 _ (ap (λ (z : ℕ). z + 1) c.at-y.ensures.0),
+  λ i n. other_low c.args.high.now
+      c.args.low.now c.args.j
+      c.requires.1 _ i n,
 )
 
-add_low : tie.Need-overflow-add-low
-add_low c = search rules
-
-cast-low : tie.Need-overflow-cast-low
-cast-low c = search rules
-
-mul-low-2 : tie.Need-overflow-mul-low-2
-mul-low-2 c = search rules
-
-slice-write-low-2 : tie.Need-slice-write-low-2
-slice-write-low-2 c = search rules
-
-same-length-3 : tie.Need-same-length-3
-same-length-3 c = search rules
-
-returns-2 : tie.Need-returns-2
-returns-2 c = (
-  next_low c.before.before.before.before.before.args.high.now
-      c.before.before.before.before.before.args.low.now c.before.before.before.before.before.args.j
-      c.before.before.before.before.before.requires.1 _ (ap (λ (z : ℕ). z + 1) c.before.at.ensures.0),
-  λ i n. other_low c.before.before.before.before.before.args.high.now
-      c.before.before.before.before.before.args.low.now c.before.before.before.before.before.args.j
-      c.before.before.before.before.before.requires.1 _ i n,
-)
-
-pub advance-spec : {M : Type 1} → statement M
-advance-spec =
+pub advance_spec : {M : Type 1} → statement M
+advance_spec =
     tie.close
     (tie.spec
-    at-requires
-    at-requires-2
-    add-high
-    cast-high
-    mul-high
-    slice-write-high
-    mul_low
-    slice-write-low
-    same_length
-    same-length-2
-    returns
-    add_low
-    cast-low
-    mul-low-2
-    slice-write-low-2
-    same-length-3
-    returns-2)
+    at-y-requires
+    at-x-requires
+    overflow_add-high
+    overflow_cast-high
+    offset_bounds-high-j
+    bounds-high-j
+    offset_bounds-low-j
+    bounds-low-j
+    shape_of-high-then-y-eq65535
+    shape_of-low-then-y-eq65535
+    returns-then-y-eq65535
+    overflow_add-low
+    overflow_cast-low
+    offset_bounds-low-j-2
+    bounds-low-j-2
+    shape_of-low
+    returns)

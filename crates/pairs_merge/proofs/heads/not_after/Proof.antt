@@ -12,126 +12,126 @@ use Rattle.pairs_merge.proofs.heads.not_after.Tie as tie
 
 -- the heads that are lent
 abbrev D : tie.Start → Heads
-D a = heads a.args.labels.now a.args.blocks.now a.args.high.now a.args.low.now a.args.end-high.now
+D a = heads a.args.labels.now a.args.blocks.now a.args.high.now a.args.low.now a.args.end_high.now
     a.args.end_low.now
+
+place-y-requires : tie.Need-place-y-requires
+place-y-requires c κs = search rules
 
 place-requires : tie.Need-place-requires
 place-requires c κs = search rules
 
+returns-then-place-y : tie.Need-returns-then-place-y
+unfolding head_place end_at
+returns-then-place-y c = sym (way_end (D c.before.before.before.before.before.before.before.before.before)
+    c.args.a
+    c.args.b
+    (omega (arith, c.place-y.ensures.0, c.place.ensures.0)))
+
+place-x-requires : tie.Need-place-x-requires
+place-x-requires c κs = search rules
+
 place-requires-2 : tie.Need-place-requires-2
 place-requires-2 c κs = search rules
 
-returns : tie.Need-returns
+returns-then-place-x : tie.Need-returns-then-place-x
 unfolding head_place end_at
-returns c = sym (way_end (D c.before.before.before.before.before.before.before.before.before)
-    c.before.before.before.before.before.before.before.before.before.args.a
-    c.before.before.before.before.before.before.before.before.before.args.b
-    (omega (arith, c.before.before.place.ensures.0, c.before.place2.ensures.0)))
+returns-then-place-x c = way_none (D c.before.before.before.before.before.before.before.before.before.before.before.before)
+    c.args.a
+    c.args.b
+    (omega (arith, c.place-y.ensures.0, c.place.ensures.0))
+    (omega (arith, c.place-x.ensures.0, c.place-2.ensures.0))
 
-place-requires-3 : tie.Need-place-requires-3
-place-requires-3 c κs = search rules
+offset_bounds-labels-y : tie.Need-offset_bounds-labels-y
+offset_bounds-labels-y c = search rules
 
-place-requires-4 : tie.Need-place-requires-4
-place-requires-4 c κs = search rules
-
-returns-2 : tie.Need-returns-2
-unfolding head_place end_at
-returns-2 c = way_none (D c.before.before.before.before.before.before.before.before.before.before.before.before)
-    c.before.before.before.before.before.before.before.before.before.before.before.before.args.a
-    c.before.before.before.before.before.before.before.before.before.before.before.before.args.b
-    (omega (arith, c.before.before.before.before.before.place.ensures.0, c.before.before.before.before.place2.ensures.0))
-    (omega (arith, c.before.before.place3.ensures.0, c.before.place4.ensures.0))
-
-mul-below : tie.Need-overflow-mul-below
-mul-below c = search rules
-
-shared-slice-read-below : tie.Need-shared-slice-read-below
+bounds-labels-y : tie.Need-bounds-labels-y
 unfolding end_at
-shared-slice-read-below c = omega (
+bounds-labels-y c = omega (
   arith,
-  c.before.before.before.before.before.place2.ensures.0,
-  c.before.before.before.before.before.before.before.before.before.before.before.before.before.requires.1.labels,
+  c.place.ensures.0,
+  c.requires.1.labels,
 )
 
-mul-below-2 : tie.Need-overflow-mul-below-2
-mul-below-2 c = search rules
+offset_bounds-blocks-y : tie.Need-offset_bounds-blocks-y
+offset_bounds-blocks-y c = search rules
 
-shared-slice-read-below-2 : tie.Need-shared-slice-read-below-2
+bounds-blocks-y : tie.Need-bounds-blocks-y
 unfolding end_at
-shared-slice-read-below-2 c = omega (
+bounds-blocks-y c = omega (
   arith,
-  c.before.before.before.before.before.before.place2.ensures.0,
-  c.before.before.before.before.before.before.before.before.before.before.before.before.before.before.requires.1.blocks,
+  c.place.ensures.0,
+  c.requires.1.blocks,
 )
 
-mul-below-3 : tie.Need-overflow-mul-below-3
-mul-below-3 c = search rules
+offset_bounds-labels-x : tie.Need-offset_bounds-labels-x
+offset_bounds-labels-x c = search rules
 
-shared-slice-read-below-3 : tie.Need-shared-slice-read-below-3
+bounds-labels-x : tie.Need-bounds-labels-x
 unfolding end_at
-shared-slice-read-below-3 c = omega (
+bounds-labels-x c = omega (
   arith,
-  c.before.before.before.before.place4.ensures.0,
-  c.before.before.before.before.before.before.before.before.before.before.before.before.before.before.before.requires.0.labels,
+  c.place-2.ensures.0,
+  c.requires.0.labels,
 )
 
-mul-below-4 : tie.Need-overflow-mul-below-4
-mul-below-4 c = search rules
+offset_bounds-blocks-x : tie.Need-offset_bounds-blocks-x
+offset_bounds-blocks-x c = search rules
 
-shared-slice-read-below-4 : tie.Need-shared-slice-read-below-4
+bounds-blocks-x : tie.Need-bounds-blocks-x
 unfolding end_at
-shared-slice-read-below-4 c = omega (
+bounds-blocks-x c = omega (
   arith,
-  c.before.before.before.before.before.place4.ensures.0,
-  c.before.before.before.before.before.before.before.before.before.before.before.before.before.before.before.before.requires.0.blocks,
+  c.place-2.ensures.0,
+  c.requires.0.blocks,
 )
 
 below-requires : tie.Need-below-requires
 below-requires c κs = search rules
 
-returns-3 : tie.Need-returns-3
+returns : tie.Need-returns
 unfolding head_place end_at head_of pair_at
-returns-3 c = ap not c.below.ensures
+returns c = ap not c.below.ensures
     ∙ (ap₂ (λ (y x : ℕ). not
     (pair_lt (pair_at
-    c.before.before.before.before.before.before.before.before.before.before.before.before.before.before.before.before.before.args.labels.now
-    c.before.before.before.before.before.before.before.before.before.before.before.before.before.before.before.before.before.args.blocks.now y)
-    (pair_at c.before.before.before.before.before.before.before.before.before.before.before.before.before.before.before.before.before.args.labels.now
-    c.before.before.before.before.before.before.before.before.before.before.before.before.before.before.before.before.before.args.blocks.now x)))
-    c.before.before.before.before.before.before.before.before.before.before.place.ensures.0
-    c.before.before.before.before.before.before.before.place3.ensures.0
+    c.args.labels.now
+    c.args.blocks.now y)
+    (pair_at c.args.labels.now
+    c.args.blocks.now x)))
+    c.place-y.ensures.0
+    c.place-x.ensures.0
     ∙ way_last
     (D c.before.before.before.before.before.before.before.before.before.before.before.before.before.before.before.before.before)
-    c.before.before.before.before.before.before.before.before.before.before.before.before.before.before.before.before.before.args.a
-    c.before.before.before.before.before.before.before.before.before.before.before.before.before.before.before.before.before.args.b
+    c.args.a
+    c.args.b
     (omega (
       arith,
-      c.before.before.before.before.before.before.before.before.before.before.place.ensures.0,
-      c.before.before.before.before.before.before.before.before.before.place2.ensures.0,
+      c.place-y.ensures.0,
+      c.place.ensures.0,
     ))
     (omega (
       arith,
-      c.before.before.before.before.before.before.before.place3.ensures.0,
-      c.before.before.before.before.before.before.place4.ensures.0,
+      c.place-x.ensures.0,
+      c.place-2.ensures.0,
     )))
 
-pub not-after-spec : {M : Type 1} → statement M
-not-after-spec =
+pub not_after_spec : {M : Type 1} → statement M
+not_after_spec =
     tie.close
     (tie.spec
+    place-y-requires
     place-requires
+    returns-then-place-y
+    place-x-requires
     place-requires-2
-    returns
-    place-requires-3
-    place-requires-4
-    returns-2
-    mul-below
-    shared-slice-read-below
-    mul-below-2
-    shared-slice-read-below-2
-    mul-below-3
-    shared-slice-read-below-3
-    mul-below-4
-    shared-slice-read-below-4
+    returns-then-place-x
+    offset_bounds-labels-y
+    bounds-labels-y
+    offset_bounds-blocks-y
+    bounds-blocks-y
+    offset_bounds-labels-x
+    bounds-labels-x
+    offset_bounds-blocks-x
+    bounds-blocks-x
     below-requires
-    returns-3)
+    returns)

@@ -5,21 +5,21 @@ use Rattle.pairs_merge.specs.Merged.{wide}
 use Rattle.pairs_merge.proofs.heads.place.Statement.{statement}
 use Rattle.pairs_merge.proofs.heads.place.Tie as tie
 
-at-requires : tie.Need-at-requires
-at-requires c κs = search rules
+at-x-requires : tie.Need-at-x-requires
+at-x-requires c κs = search rules
 
-at-requires-2 : tie.Need-at-requires-2
-at-requires-2 c κs = search rules
+at-y-requires : tie.Need-at-y-requires
+at-y-requires c κs = search rules
 
-mul-result : tie.Need-overflow-mul-result
-mul-result c = search rules
+overflow_mul-result : tie.Need-overflow_mul-result
+overflow_mul-result c = search rules
 
-add-result : tie.Need-overflow-add-result
-add-result c = search rules
+overflow_add-result : tie.Need-overflow_add-result
+overflow_add-result c = search rules
 
 returns : tie.Need-returns
 unfolding wide
-returns c = (omega (arith, c.before.at.ensures.0, c.at2.ensures.0), omega arith)
+returns c = (omega (arith, c.at-x.ensures.0, c.at-y.ensures.0), omega arith)
 
-pub place-spec : {M : Type 1} → statement M
-place-spec = tie.close (tie.spec at-requires at-requires-2 mul-result add-result returns)
+pub place_spec : {M : Type 1} → statement M
+place_spec = tie.close (tie.spec at-x-requires at-y-requires overflow_mul-result overflow_add-result returns)

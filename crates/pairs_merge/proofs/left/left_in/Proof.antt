@@ -8,57 +8,57 @@ use Rattle.pairs_merge.proofs.Joins.{left-none, left_more}
 use Rattle.pairs_merge.proofs.left.left_in.Statement.{statement}
 use Rattle.pairs_merge.proofs.left.left_in.Tie as tie
 
-abbrev invariant-loop : tie.invariant-loop
-invariant-loop high low end-high end_low k j₀ sum₀ j sum = (j ≤ k) × (sum ≡ left_in (heads [] [] high low end-high end_low) j) ×
+abbrev invariant-loop-j : tie.invariant-loop-j
+invariant-loop-j high low end-high end_low k j₀ sum₀ j sum = (j ≤ k) × (sum ≡ left_in (heads [] [] high low end-high end_low) j) ×
     (sum ≤ j * 4294967296)
 
-abbrev decreases-loop : tie.decreases-loop
-decreases-loop high low end-high end_low k j₀ sum₀ j sum = k - j
+abbrev decreases-loop-j : tie.decreases-loop-j
+decreases-loop-j high low end-high end_low k j₀ sum₀ j sum = k - j
 
-loop-holds : tie.Need-loop-init invariant-loop decreases-loop
-loop-holds c = let a = c.before.before.before.before.args in
-    (omega arith, sym (left-none (heads [] [] a.high.now a.low.now a.end-high.now a.end_low.now)), omega arith)
+loop-j-init : tie.Need-loop-j-init invariant-loop-j decreases-loop-j
+loop-j-init c = let a = c.args in
+    (omega arith, sym (left-none (heads [] [] a.high.now a.low.now a.end_high.now a.end_low.now)), omega arith)
 
-left-of-requires : tie.Need-left-of-requires invariant-loop decreases-loop
-left-of-requires c κs = (omega arith, omega arith, omega arith, omega arith)
+left_of-sum-requires : tie.Need-left_of-sum-requires invariant-loop-j decreases-loop-j
+left_of-sum-requires c κs = (omega arith, omega arith, omega arith, omega arith)
 
-add-sum : tie.Need-overflow-add-sum invariant-loop decreases-loop
-add-sum c = omega (arith, c.left-of.ensures)
+overflow_add-sum : tie.Need-overflow_add-sum invariant-loop-j decreases-loop-j
+overflow_add-sum c = omega (arith, c.left_of-sum.ensures)
 
-add-j : tie.Need-overflow-add-j invariant-loop decreases-loop
-add-j c = omega arith
+overflow_add-j : tie.Need-overflow_add-j invariant-loop-j decreases-loop-j
+overflow_add-j c = omega arith
 
-loop-less : tie.Need-loop-smaller invariant-loop decreases-loop
-loop-less c = omega arith
+loop-j-smaller : tie.Need-loop-j-smaller invariant-loop-j decreases-loop-j
+loop-j-smaller c = omega arith
 
-loop-again : tie.Need-loop-preserved invariant-loop decreases-loop
-loop-again c = let a = c.before.before.before.before.before.before.before.args in (
+loop-j-preserved : tie.Need-loop-j-preserved invariant-loop-j decreases-loop-j
+loop-j-preserved c = let a = c.args in (
   omega arith,
   omega (
     arith,
-    left_more (heads [] [] a.high.now a.low.now a.end-high.now a.end_low.now)
-        c.before.before.loop.j,
-    c.before.before.loop.invariant.1,
-    c.left-of.ensures,
+    left_more (heads [] [] a.high.now a.low.now a.end_high.now a.end_low.now)
+        c.loop-j.j,
+    c.loop-j.invariant.1,
+    c.left_of-sum.ensures,
   ),
-  omega (arith, c.left-of.ensures),
+  omega (arith, c.left_of-sum.ensures),
 )
 
-returns : tie.Need-returns invariant-loop decreases-loop
-returns c = let a = c.before.before.before.before.before.before.args in
-    let e : c.before.loop.j ≡ a.k = omega arith in
-    (c.before.loop.invariant.1 ∙ ap (left_in (heads [] [] a.high.now a.low.now a.end-high.now a.end_low.now)) e, omega arith)
+returns : tie.Need-returns invariant-loop-j decreases-loop-j
+returns c = let a = c.args in
+    let e : c.loop-j.j ≡ a.k = omega arith in
+    (c.loop-j.invariant.1 ∙ ap (left_in (heads [] [] a.high.now a.low.now a.end_high.now a.end_low.now)) e, omega arith)
 
-pub left-in-spec : {M : Type 1} → statement M
-left-in-spec =
+pub left_in_spec : {M : Type 1} → statement M
+left_in_spec =
     tie.close
     (tie.spec
-    invariant-loop
-    decreases-loop
-    loop-holds
-    left-of-requires
-    add-sum
-    add-j
-    loop-less
-    loop-again
+    invariant-loop-j
+    decreases-loop-j
+    loop-j-init
+    left_of-sum-requires
+    overflow_add-sum
+    overflow_add-j
+    loop-j-smaller
+    loop-j-preserved
     returns)

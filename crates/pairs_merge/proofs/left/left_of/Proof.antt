@@ -6,22 +6,22 @@ use Rattle.pairs_merge.specs.Rest.{left_of}
 use Rattle.pairs_merge.proofs.left.left_of.Statement.{statement}
 use Rattle.pairs_merge.proofs.left.left_of.Tie as tie
 
-place-requires : tie.Need-place-requires
-place-requires c κs = search rules
+place-x-requires : tie.Need-place-x-requires
+place-x-requires c κs = search rules
 
-place-requires-2 : tie.Need-place-requires-2
-place-requires-2 c κs = search rules
+place-y-requires : tie.Need-place-y-requires
+place-y-requires c κs = search rules
+
+returns-then-y-x : tie.Need-returns-then-y-x
+unfolding left_of head_place end_at
+returns-then-y-x c = (omega (arith, c.place-x.ensures, c.place-y.ensures), omega arith)
+
+overflow_sub-result : tie.Need-overflow_sub-result
+overflow_sub-result c = search rules
 
 returns : tie.Need-returns
 unfolding left_of head_place end_at
-returns c = (omega (arith, c.before.before.place.ensures, c.before.place2.ensures), omega arith)
+returns c = (omega (arith, c.place-x.ensures, c.place-y.ensures), omega (arith, c.place-y.ensures))
 
-sub-result : tie.Need-overflow-sub-result
-sub-result c = search rules
-
-returns-2 : tie.Need-returns-2
-unfolding left_of head_place end_at
-returns-2 c = (omega (arith, c.before.before.place.ensures, c.before.place2.ensures), omega (arith, c.before.place2.ensures))
-
-pub left-of-spec : {M : Type 1} → statement M
-left-of-spec = tie.close (tie.spec place-requires place-requires-2 returns sub-result returns-2)
+pub left_of_spec : {M : Type 1} → statement M
+left_of_spec = tie.close (tie.spec place-x-requires place-y-requires returns-then-y-x overflow_sub-result returns)

@@ -7,48 +7,48 @@ use Rattle.pairs_merge.proofs.put.is_last.Statement.{statement}
 use Rattle.columns.specs.Rows.{pair_at}
 use Rattle.pairs_merge.proofs.put.is_last.Tie as tie
 
-returns : tie.Need-returns
-returns c = last_none c.before.before.before.args.labels.now c.before.before.before.args.blocks.now
-    c.before.before.before.args.r (c.before.before.before.args.label, c.before.before.before.args.block) c.if1.true
+returns-then-r-eq0 : tie.Need-returns-then-r-eq0
+returns-then-r-eq0 c = last_none c.args.labels.now c.args.blocks.now
+    c.args.r (c.args.label, c.args.block) c.if-r-eq0.true
 
-sub-equal : tie.Need-overflow-sub-equal
-sub-equal c = search rules
+overflow_sub-r : tie.Need-overflow_sub-r
+overflow_sub-r c = search rules
 
-mul-equal : tie.Need-overflow-mul-equal
-mul-equal c = search rules
+offset_bounds-labels-r : tie.Need-offset_bounds-labels-r
+offset_bounds-labels-r c = search rules
 
-shared-slice-read-equal : tie.Need-shared-slice-read-equal
-shared-slice-read-equal c = search rules
+bounds-labels-r : tie.Need-bounds-labels-r
+bounds-labels-r c = search rules
 
-sub-equal-2 : tie.Need-overflow-sub-equal-2
-sub-equal-2 c = search rules
+overflow_sub-r-2 : tie.Need-overflow_sub-r-2
+overflow_sub-r-2 c = search rules
 
-mul-equal-2 : tie.Need-overflow-mul-equal-2
-mul-equal-2 c = search rules
+offset_bounds-blocks-r : tie.Need-offset_bounds-blocks-r
+offset_bounds-blocks-r c = search rules
 
-shared-slice-read-equal-2 : tie.Need-shared-slice-read-equal-2
-shared-slice-read-equal-2 c = search rules
+bounds-blocks-r : tie.Need-bounds-blocks-r
+bounds-blocks-r c = search rules
 
 equal-requires : tie.Need-equal-requires
 equal-requires c κs = search rules
 
-returns-2 : tie.Need-returns-2
+returns : tie.Need-returns
 unfolding pair_at
-returns-2 c = c.equal.ensures ∙ last_some c.before.before.before.before.before.before.args.labels.now
-    c.before.before.before.before.before.before.args.blocks.now c.before.before.before.before.before.before.args.r
-    (c.before.before.before.before.before.before.args.label, c.before.before.before.before.before.before.args.block)
+returns c = c.equal.ensures ∙ last_some c.args.labels.now
+    c.args.blocks.now c.args.r
+    (c.args.label, c.args.block)
     (omega arith)
 
-pub is-last-spec : {M : Type 1} → statement M
-is-last-spec =
+pub is_last_spec : {M : Type 1} → statement M
+is_last_spec =
     tie.close
     (tie.spec
-    returns
-    sub-equal
-    mul-equal
-    shared-slice-read-equal
-    sub-equal-2
-    mul-equal-2
-    shared-slice-read-equal-2
+    returns-then-r-eq0
+    overflow_sub-r
+    offset_bounds-labels-r
+    bounds-labels-r
+    overflow_sub-r-2
+    offset_bounds-blocks-r
+    bounds-blocks-r
     equal-requires
-    returns-2)
+    returns)

@@ -5,81 +5,81 @@ use Rattle.pairs_merge.proofs.Puts.{old_first, old_last, old_count, new_first, n
 use Rattle.pairs_merge.proofs.put.put.Statement.{statement}
 use Rattle.pairs_merge.proofs.put.put.Tie as tie
 
-is-last-requires : tie.Need-is-last-requires
-is-last-requires c κs = search rules
+is_last-requires : tie.Need-is_last-requires
+is_last-requires c κs = search rules
 
-same_length : tie.Need-same-length
-same_length c = search rules
+shape_of-labels-then-is_last : tie.Need-shape_of-labels-then-is_last
+shape_of-labels-then-is_last c = search rules
 
-same-length-2 : tie.Need-same-length-2
-same-length-2 c = search rules
+shape_of-blocks-then-is_last : tie.Need-shape_of-blocks-then-is_last
+shape_of-blocks-then-is_last c = search rules
+
+returns-then-is_last : tie.Need-returns-then-is_last
+returns-then-is_last c = (
+  sym (old_count c.args.labels.now
+      c.args.blocks.now c.args.r
+      (c.args.label, c.args.block)
+      (sym c.is_last.ensures ∙ c.if-is_last.true)),
+  sym (old_first c.args.labels.now
+      c.args.blocks.now c.args.r
+      (c.args.label, c.args.block)
+      (sym c.is_last.ensures ∙ c.if-is_last.true)),
+  sym (old_last c.args.labels.now
+      c.args.blocks.now c.args.r
+      (c.args.label, c.args.block)
+      (sym c.is_last.ensures ∙ c.if-is_last.true)),
+)
+
+offset_bounds-labels-r : tie.Need-offset_bounds-labels-r
+offset_bounds-labels-r c = search rules
+
+bounds-labels-r : tie.Need-bounds-labels-r
+bounds-labels-r c = search rules
+
+offset_bounds-blocks-r : tie.Need-offset_bounds-blocks-r
+offset_bounds-blocks-r c = search rules
+
+bounds-blocks-r : tie.Need-bounds-blocks-r
+bounds-blocks-r c = search rules
+
+overflow_add-result : tie.Need-overflow_add-result
+overflow_add-result c = search rules
+
+shape_of-labels : tie.Need-shape_of-labels
+shape_of-labels c = search rules
+
+shape_of-blocks : tie.Need-shape_of-blocks
+shape_of-blocks c = search rules
 
 returns : tie.Need-returns
 returns c = (
-  sym (old_count c.before.before.before.before.before.before.args.labels.now
-      c.before.before.before.before.before.before.args.blocks.now c.before.before.before.before.before.before.args.r
-      (c.before.before.before.before.before.before.args.label, c.before.before.before.before.before.before.args.block)
-      (sym c.before.is_last.ensures ∙ c.if1.true)),
-  sym (old_first c.before.before.before.before.before.before.args.labels.now
-      c.before.before.before.before.before.before.args.blocks.now c.before.before.before.before.before.before.args.r
-      (c.before.before.before.before.before.before.args.label, c.before.before.before.before.before.before.args.block)
-      (sym c.before.is_last.ensures ∙ c.if1.true)),
-  sym (old_last c.before.before.before.before.before.before.args.labels.now
-      c.before.before.before.before.before.before.args.blocks.now c.before.before.before.before.before.before.args.r
-      (c.before.before.before.before.before.before.args.label, c.before.before.before.before.before.before.args.block)
-      (sym c.before.is_last.ensures ∙ c.if1.true)),
-)
-
-mul-labels : tie.Need-overflow-mul-labels
-mul-labels c = search rules
-
-slice-write-labels : tie.Need-slice-write-labels
-slice-write-labels c = search rules
-
-mul-blocks : tie.Need-overflow-mul-blocks
-mul-blocks c = search rules
-
-slice-write-blocks : tie.Need-slice-write-blocks
-slice-write-blocks c = search rules
-
-add-result : tie.Need-overflow-add-result
-add-result c = search rules
-
-same-length-3 : tie.Need-same-length-3
-same-length-3 c = search rules
-
-same-length-4 : tie.Need-same-length-4
-same-length-4 c = search rules
-
-returns-2 : tie.Need-returns-2
-returns-2 c = (
-  sym (new_count c.before.before.before.before.before.before.args.labels.now
-      c.before.before.before.before.before.before.args.blocks.now c.before.before.before.before.before.before.args.r
-      (c.before.before.before.before.before.before.args.label, c.before.before.before.before.before.before.args.block)
-      (sym c.before.is_last.ensures ∙ c.if1.false)),
-  sym (new_first c.before.before.before.before.before.before.args.labels.now
-      c.before.before.before.before.before.before.args.blocks.now c.before.before.before.before.before.before.args.r
-      (c.before.before.before.before.before.before.args.label, c.before.before.before.before.before.before.args.block)
-      (sym c.before.is_last.ensures ∙ c.if1.false)),
-  sym (new_last c.before.before.before.before.before.before.args.labels.now
-      c.before.before.before.before.before.before.args.blocks.now c.before.before.before.before.before.before.args.r
-      (c.before.before.before.before.before.before.args.label, c.before.before.before.before.before.before.args.block)
-      (sym c.before.is_last.ensures ∙ c.if1.false)),
+  sym (new_count c.args.labels.now
+      c.args.blocks.now c.args.r
+      (c.args.label, c.args.block)
+      (sym c.is_last.ensures ∙ c.if-is_last.false)),
+  sym (new_first c.args.labels.now
+      c.args.blocks.now c.args.r
+      (c.args.label, c.args.block)
+      (sym c.is_last.ensures ∙ c.if-is_last.false)),
+  sym (new_last c.args.labels.now
+      c.args.blocks.now c.args.r
+      (c.args.label, c.args.block)
+      (sym c.is_last.ensures ∙ c.if-is_last.false)),
 )
 
 pub put_spec : {M : Type 1} → statement M
 put_spec =
     tie.close
     (tie.spec
-    is-last-requires
-    same_length
-    same-length-2
-    returns
-    mul-labels
-    slice-write-labels
-    mul-blocks
-    slice-write-blocks
-    add-result
-    same-length-3
-    same-length-4
-    returns-2)
+    is_last-requires
+    shape_of-labels-then-is_last
+    shape_of-blocks-then-is_last
+    returns-then-is_last
+    offset_bounds-labels-r
+    bounds-labels-r
+    offset_bounds-blocks-r
+    bounds-blocks-r
+    overflow_add-result
+    shape_of-labels
+    shape_of-blocks
+    returns)

@@ -4,17 +4,17 @@ use Rattle.signatures.specs.Pairs.{room_for}
 use Rattle.signatures.proofs.flat.has_room.Statement.{statement}
 use Rattle.signatures.proofs.flat.has_room.Tie as tie
 
-returns : tie.Need-returns
+returns-then-labels-d : tie.Need-returns-then-labels-d
 unfolding room_for
-returns c = simp (lt-leb _ _ c.if1.true)
+returns-then-labels-d c = simp (lt-leb _ _ c.if-labels-d.true)
 
-returns-2 : tie.Need-returns-2
+returns-then-blocks-d : tie.Need-returns-then-blocks-d
 unfolding room_for
-returns-2 c = simp (le-leb _ _ c.before.if1.false, lt-leb _ _ c.if2.true)
+returns-then-blocks-d c = simp (le-leb _ _ c.if-labels-d.false, lt-leb _ _ c.if-blocks-d.true)
 
-returns-3 : tie.Need-returns-3
+returns-else-blocks-d : tie.Need-returns-else-blocks-d
 unfolding room_for
-returns-3 c = simp (le-leb _ _ c.before.if1.false, le-leb _ _ c.if2.false)
+returns-else-blocks-d c = simp (le-leb _ _ c.if-labels-d.false, le-leb _ _ c.if-blocks-d.false)
 
-pub has-room-spec : {M : Type 1} → statement M
-has-room-spec = tie.close (tie.spec returns returns-2 returns-3)
+pub has_room_spec : {M : Type 1} → statement M
+has_room_spec = tie.close (tie.spec returns-then-labels-d returns-then-blocks-d returns-else-blocks-d)

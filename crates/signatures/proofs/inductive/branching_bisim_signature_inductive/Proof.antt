@@ -30,97 +30,97 @@ L a = lts a.args.table a.args.source.now a.args.label.now a.args.target.now
 abbrev P : tie.Start → Partition
 P a =
     parts a.args.elements.now a.args.element_offset.now a.args.element_to_block.now a.args.begin.now
-    a.args.marked_split_lem.now a.args.end.now a.args.table.n a.args.count
+    a.args.marked_split.now a.args.end.now a.args.table.n a.args.count
 
 abbrev Out : tie.Start → Columns
 Out a = (a.args.labels.now, a.args.blocks.now)
 
 abbrev Works : tie.Start → List (List ℕ)
-Works a = a.args.pushed-labels.now ∷ a.args.pushed-blocks.now ∷ a.args.order.now ∷ a.args.spare.now ∷ []
+Works a = a.args.pushed_labels.now ∷ a.args.pushed_blocks.now ∷ a.args.order.now ∷ a.args.spare.now ∷ []
 
 abbrev Keys : tie.Start → Bool
-Keys a = leb a.args.table.n (length a.args.state-to-key.now)
+Keys a = leb a.args.table.n (length a.args.state_to_key.now)
 
 abbrev R : tie.Start → Refusal
 R a = signature_refusal (L a) (P a) a.args.state (Keys a && works_fit (L a) (Works a))
 
 abbrev Pushed : tie.Start → List Pair
-Pushed a = inductive_pushed (L a) a.args.element_to_block.now (λ u. not (unmarkedb (P a) u)) a.args.state-to-key.now
+Pushed a = inductive_pushed (L a) a.args.element_to_block.now (λ u. not (unmarkedb (P a) u)) a.args.state_to_key.now
     a.args.state
 
 abbrev Signature : tie.Start → List Pair
-Signature a = inductive_signature (L a) a.args.element_to_block.now (λ u. not (unmarkedb (P a) u)) a.args.state-to-key.now
+Signature a = inductive_signature (L a) a.args.element_to_block.now (λ u. not (unmarkedb (P a) u)) a.args.state_to_key.now
     a.args.state
 
 -- marked as the code reads it
 read : (a : tie.Start)
     → inductive_pushed (L a) a.args.element_to_block.now
-    (marked_by a.args.element_offset.now a.args.element_to_block.now a.args.marked_split_lem.now) a.args.state-to-key.now
+    (marked_by a.args.element_offset.now a.args.element_to_block.now a.args.marked_split.now) a.args.state_to_key.now
     a.args.state
     ≡ Pushed a
 unfolding marked_by unmarkedb
 read a = refl
 
 -- where the call begins
-abbrev start : tie.After-argument-refusal → tie.Start
+abbrev start : tie.After-argument_refusal-t → tie.Start
 start q =
     q.before.before.before.before.before.before.before.before.before.before.before.before.before.before.before.before.before.before.before.before
 
 -- the checks have answered R
-answered : (q : tie.After-argument-refusal) → q.argument-refusal.result ≡ R (start q)
+answered : (q : tie.After-argument_refusal-t) → q.argument_refusal-t.result ≡ R (start q)
 unfolding works_fit signature_refusal
 answered q =
-    q.argument-refusal.ensures
+    q.argument_refusal-t.ensures
     ∙ ap (λ (b : Bool). signature_refusal (L (start q)) (P (start q)) (start q).args.state (Keys (start q) && b))
-    q.before.works-long.ensures
+    q.works_long-room.ensures
 
 -- and where they refuse nothing
-ready : (q : tie.After-argument-refusal) → q.argument-refusal.result.number ≡ 0
+ready : (q : tie.After-argument_refusal-t) → q.argument_refusal-t.result.number ≡ 0
     → BothReady (L (start q)) (P (start q)) (start q).args.state (start q).args.table.n
     (Keys (start q) && works_fit (L (start q)) (Works (start q)))
 unfolding signature_refusal
 ready q z = both_ready (L (start q)) (P (start q)) refl (start q).args.state (start q).args.table.n
     (Keys (start q) && works_fit (L (start q)) (Works (start q))) _ (answered q) z
 
-wide : (q : tie.After-argument-refusal) → q.argument-refusal.result.number ≡ 0
+wide : (q : tie.After-argument_refusal-t) → q.argument_refusal-t.result.number ≡ 0
     → Wide (L (start q)) (Works (start q))
 wide q z =
     wide_of (L (start q)) (Works (start q))
     (and_right (Keys (start q)) (works_fit (L (start q)) (Works (start q))) (ready q z).enough)
 
-keyed : (q : tie.After-argument-refusal) → q.argument-refusal.result.number ≡ 0 →
-    (start q).args.table.n ≤ length (start q).args.state-to-key.now
+keyed : (q : tie.After-argument_refusal-t) → q.argument_refusal-t.result.number ≡ 0 →
+    (start q).args.table.n ≤ length (start q).args.state_to_key.now
 keyed q z = leb-true _ _ (and_left (Keys (start q)) (works_fit (L (start q)) (Works (start q))) (ready q z).enough)
 
-cast-n : tie.Need-overflow-cast-n
-cast-n c = search rules
+overflow_cast-n : tie.Need-overflow_cast-n
+overflow_cast-n c = search rules
 
-slice-aggregate-works-long : tie.Need-slice-aggregate-works-long
-slice-aggregate-works-long c = search rules
+slice_bounds-works_long-end : tie.Need-slice_bounds-works_long-end
+slice_bounds-works_long-end c = search rules
 
-works-long-requires : tie.Need-works-long-requires
-works-long-requires c κs = search rules
+works_long-room-requires : tie.Need-works_long-room-requires
+works_long-room-requires c κs = search rules
 
-argument-refusal-requires : tie.Need-argument-refusal-requires
-argument-refusal-requires c κs = search rules
+argument_refusal-t-requires : tie.Need-argument_refusal-t-requires
+argument_refusal-t-requires c κs = search rules
 
-refusing-number-requires : tie.Need-refusing-number-requires
-refusing-number-requires c κs = search rules
+refusing_number-requires : tie.Need-refusing_number-requires
+refusing_number-requires c κs = search rules
 
-returns : tie.Need-returns
+returns-then-number-ne0 : tie.Need-returns-then-number-ne0
 unfolding branching_bisim_signature_inductive
-returns c =
+returns-then-number-ne0 c =
     let a = c.before.before.before.before.before.before.before.before.before.before.before.before.before.before.before.before.before.before.before.before.before.before in
     let e = answered c.before.before in
     signing_refused (R a) (length (Pushed a)) (Signature a) (Out a) (Works a) _
-    (λ z. c.before.if1.true (ap (λ (r : Refusal). r.number) e ∙ z))
-    (c.refusing-number.ensures ∙ ap (λ (r : Refusal). refused r.number r.place) e)
+    (λ z. c.if-number-ne0.true (ap (λ (r : Refusal). r.number) e ∙ z))
+    (c.refusing_number.ensures ∙ ap (λ (r : Refusal). refused r.number r.place) e)
 
-push-inductive-requires : tie.Need-push-inductive-requires
-push-inductive-requires c κs =
-    let r = ready c.before.before.before c.before.before.if1.false in
-    let w = wide c.before.before.before c.before.before.if1.false in (
-      (r.valid, r.known, keyed c.before.before.before c.before.before.if1.false),
+push_inductive-d-requires : tie.Need-push_inductive-d-requires
+push_inductive-d-requires c κs =
+    let r = ready c.before.before.before c.if-number-ne0.false in
+    let w = wide c.before.before.before c.if-number-ne0.false in (
+      (r.valid, r.known, keyed c.before.before.before c.if-number-ne0.false),
       (
         (r.sound.long.element_offset, r.sound.long.element_to_block),
         (
@@ -133,74 +133,74 @@ push-inductive-requires c κs =
 sign-requires : tie.Need-sign-requires
 sign-requires c κs =
     let r = ready c.before.before.before.before.before.before.before.before.before.before.before.before.before.before
-    c.before.before.before.before.before.before.before.before.before.before.before.before.before.if1.false in
+    c.if-number-ne0.false in
     let w = wide c.before.before.before.before.before.before.before.before.before.before.before.before.before.before
-    c.before.before.before.before.before.before.before.before.before.before.before.before.before.if1.false in
-    let q = c.before.before.before.before.before.before.before.before.before.before.push-inductive in
+    c.if-number-ne0.false in
+    let q = c.push_inductive-d in
     let d = q.ensures.1 in (
       (
-        omega (arith, d, w.0, q.auto.1.1.1.1.1.1.1.1.1.0),
-        omega (arith, d, w.1.0, q.auto.1.1.1.1.1.1.1.1.1.1.0),
+        omega (arith, d, w.0, q.auto.pushed_labels),
+        omega (arith, d, w.1.0, q.auto.pushed_blocks),
       ),
       (omega (arith, d, w.1.1.0), omega (arith, d, w.1.1.1.0), omega (arith, d, r.valid.few_rows)),
     )
 
-same_length : tie.Need-same-length
-same_length c = c.before.before.before.before.before.before.before.before.before.before.before.before.sign.auto.0
+shape_of-labels : tie.Need-shape_of-labels
+shape_of-labels c = c.sign.auto.labels
 
-same-length-2 : tie.Need-same-length-2
-same-length-2 c = c.before.before.before.before.before.before.before.before.before.before.before.before.sign.auto.1.0
+shape_of-blocks : tie.Need-shape_of-blocks
+shape_of-blocks c = c.sign.auto.blocks
 
-same-length-3 : tie.Need-same-length-3
-same-length-3 c = c.before.before.before.before.before.before.before.before.before.before.before.before.sign.auto.1.1.0
-    ∙ c.before.before.before.before.before.before.before.before.before.before.before.before.before.before.before.before.before.before.before.before.before.before.before.push-inductive.auto.1.1.1.1.1.1.1.1.1.0
+shape_of-pushed_labels : tie.Need-shape_of-pushed_labels
+shape_of-pushed_labels c = c.sign.auto.pushed_labels
+    ∙ c.push_inductive-d.auto.pushed_labels
 
-same-length-4 : tie.Need-same-length-4
-same-length-4 c =
-    c.before.before.before.before.before.before.before.before.before.before.before.before.sign.auto.1.1.1.0 ∙
-    c.before.before.before.before.before.before.before.before.before.before.before.before.before.before.before.before.before.before.before.before.before.before.before.push-inductive.auto.1.1.1.1.1.1.1.1.1.1.0
+shape_of-pushed_blocks : tie.Need-shape_of-pushed_blocks
+shape_of-pushed_blocks c =
+    c.sign.auto.pushed_blocks ∙
+    c.push_inductive-d.auto.pushed_blocks
 
-same-length-5 : tie.Need-same-length-5
-same-length-5 c =
-    c.before.before.before.before.before.before.before.before.before.before.before.before.sign.auto.1.1.1.1.1.0
+shape_of-order : tie.Need-shape_of-order
+shape_of-order c =
+    c.sign.auto.order
 
-same-length-6 : tie.Need-same-length-6
-same-length-6 c =
-    c.before.before.before.before.before.before.before.before.before.before.before.before.sign.auto.1.1.1.1.1.1.0
+shape_of-spare : tie.Need-shape_of-spare
+shape_of-spare c =
+    c.sign.auto.spare
 
-returns-2 : tie.Need-returns-2
+returns : tie.Need-returns
 unfolding branching_bisim_signature_inductive
-returns-2 c =
+returns c =
     let a = c.before.before.before.before.before.before.before.before.before.before.before.before.before.before.before.before.before.before.before.before.before.before.before.before.before.before.before.before.before.before.before.before.before.before.before.before.before.before.before.before.before.before.before.before.before.before.before in
-    let q = c.before.before.before.before.before.before.before.before.before.before.before.before.before.before.before.before.before.before.before.before.before.before.before.push-inductive in
-    let l : List ℕ = q.last.1.1.1.1.1.1.1.1.1.0 in
-    let b : List ℕ = q.last.1.1.1.1.1.1.1.1.1.1.0 in
-    c.before.before.before.before.before.before.before.before.before.before.before.before.sign.ensures
+    let q = c.push_inductive-d in
+    let l : List ℕ = q.new.pushed_labels in
+    let b : List ℕ = q.new.pushed_blocks in
+    c.sign.ensures
     ∙ signing_on (R a) (length (Pushed a)) (Signature a) (Out a) (Works a) q.result (signature (pairs_of q.result l b))
     (l ∷ b ∷ a.args.order.now ∷ a.args.spare.now ∷ [])
     (sym (ap (λ (r : Refusal). r.number) (answered
     c.before.before.before.before.before.before.before.before.before.before.before.before.before.before.before.before.before.before.before.before.before.before.before.before.before.before.before)) ∙
-    c.before.before.before.before.before.before.before.before.before.before.before.before.before.before.before.before.before.before.before.before.before.before.before.before.before.before.if1.false)
+    c.if-number-ne0.false)
     (sym (length_pairs q.result l b) ∙ ap length (q.ensures.0 ∙ read a)) (ap signature (q.ensures.0 ∙ read a))
     (level (l ∷ b ∷ a.args.order.now ∷ a.args.spare.now ∷ []) (Works a)
-    (q.kept.1.1.1.1.1.1.1.1.1.0, (q.kept.1.1.1.1.1.1.1.1.1.1.0, (refl, (refl, tt)))))
+    (q.auto.pushed_labels, (q.auto.pushed_blocks, (refl, (refl, tt)))))
 
-pub branching-bisim-signature-inductive-spec : {M : Type 1} → statement M
-branching-bisim-signature-inductive-spec =
+pub branching_bisim_signature_inductive_spec : {M : Type 1} → statement M
+branching_bisim_signature_inductive_spec =
     tie.close
     (tie.spec
-    cast-n
-    slice-aggregate-works-long
-    works-long-requires
-    argument-refusal-requires
-    refusing-number-requires
-    returns
-    push-inductive-requires
+    overflow_cast-n
+    slice_bounds-works_long-end
+    works_long-room-requires
+    argument_refusal-t-requires
+    refusing_number-requires
+    returns-then-number-ne0
+    push_inductive-d-requires
     sign-requires
-    same_length
-    same-length-2
-    same-length-3
-    same-length-4
-    same-length-5
-    same-length-6
-    returns-2)
+    shape_of-labels
+    shape_of-blocks
+    shape_of-pushed_labels
+    shape_of-pushed_blocks
+    shape_of-order
+    shape_of-spare
+    returns)

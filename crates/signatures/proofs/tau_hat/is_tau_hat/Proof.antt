@@ -8,32 +8,32 @@ use Rattle.signatures.specs.TauHat.{labels_refusal, is_tau_hat}
 use Rattle.signatures.proofs.tau_hat.is_tau_hat.Statement.{statement}
 use Rattle.signatures.proofs.tau_hat.is_tau_hat.Tie as tie
 
-labels-refusal-requires : tie.Need-labels-refusal-requires
-labels-refusal-requires c κs = search rules
+labels_refusal-t-requires : tie.Need-labels_refusal-t-requires
+labels_refusal-t-requires c κs = search rules
 
-refusing-flag-requires : tie.Need-refusing-flag-requires
-refusing-flag-requires c κs = search rules
+refusing_flag-requires : tie.Need-refusing_flag-requires
+refusing_flag-requires c κs = search rules
 
-returns : tie.Need-returns
+returns-then-number-ne0 : tie.Need-returns-then-number-ne0
 unfolding is_tau_hat
-returns c =
-    let l = c.before.before.before.args.labels in
-    c.refusing-flag.ensures
-    ∙ asked_refused (labels_refusal l) _ c.before.before.labels-refusal.ensures
-    (bit (eqb c.before.before.before.args.label l) ∷ []) c.before.if1.true
+returns-then-number-ne0 c =
+    let l = c.args.labels in
+    c.refusing_flag.ensures
+    ∙ asked_refused (labels_refusal l) _ c.labels_refusal-t.ensures
+    (bit (eqb c.args.label l) ∷ []) c.if-number-ne0.true
 
 flag-requires : tie.Need-flag-requires
 flag-requires c κs = search rules
 
-returns-2 : tie.Need-returns-2
+returns : tie.Need-returns
 unfolding is_tau_hat
-returns-2 c =
-    let l = c.before.before.before.args.labels in
+returns c =
+    let l = c.args.labels in
     c.flag.ensures
-    ∙ asked_done (labels_refusal l) _ c.before.before.labels-refusal.ensures
-    (bit (eqb c.before.before.before.args.label l) ∷ []) c.before.if1.false
+    ∙ asked_done (labels_refusal l) _ c.labels_refusal-t.ensures
+    (bit (eqb c.args.label l) ∷ []) c.if-number-ne0.false
 
-pub is-tau-hat-spec : {M : Type 1} → statement M
-is-tau-hat-spec =
+pub is_tau_hat_spec : {M : Type 1} → statement M
+is_tau_hat_spec =
     tie.close
-    (tie.spec labels-refusal-requires refusing-flag-requires returns flag-requires returns-2)
+    (tie.spec labels_refusal-t-requires refusing_flag-requires returns-then-number-ne0 flag-requires returns)

@@ -7,34 +7,34 @@ use Rattle.signatures.specs.TauHat.{labels_refusal, tau_hat}
 use Rattle.signatures.proofs.tau_hat.tau_hat.Statement.{statement}
 use Rattle.signatures.proofs.tau_hat.tau_hat.Tie as tie
 
-labels-refusal-requires : tie.Need-labels-refusal-requires
-labels-refusal-requires c κs = search rules
+labels_refusal-t-requires : tie.Need-labels_refusal-t-requires
+labels_refusal-t-requires c κs = search rules
 
-refusing-number-requires : tie.Need-refusing-number-requires
-refusing-number-requires c κs = search rules
+refusing_number-requires : tie.Need-refusing_number-requires
+refusing_number-requires c κs = search rules
+
+returns-then-number-ne0 : tie.Need-returns-then-number-ne0
+unfolding tau_hat
+returns-then-number-ne0 c =
+    let l = c.args.labels in
+    c.refusing_number.ensures ∙ asked_refused (labels_refusal l) _ c.labels_refusal-t.ensures (l ∷ [])
+    c.if-number-ne0.true
+
+number_of-requires : tie.Need-number_of-requires
+number_of-requires c κs = search rules
 
 returns : tie.Need-returns
 unfolding tau_hat
 returns c =
-    let l = c.before.before.before.args.labels in
-    c.refusing-number.ensures ∙ asked_refused (labels_refusal l) _ c.before.before.labels-refusal.ensures (l ∷ [])
-    c.before.if1.true
+    let l = c.args.labels in
+    c.number_of.ensures ∙ asked_done (labels_refusal l) _ c.labels_refusal-t.ensures (l ∷ []) c.if-number-ne0.false
 
-number-of-requires : tie.Need-number-of-requires
-number-of-requires c κs = search rules
-
-returns-2 : tie.Need-returns-2
-unfolding tau_hat
-returns-2 c =
-    let l = c.before.before.before.args.labels in
-    c.number_of_lem.ensures ∙ asked_done (labels_refusal l) _ c.before.before.labels-refusal.ensures (l ∷ []) c.before.if1.false
-
-pub tau-hat-spec : {M : Type 1} → statement M
-tau-hat-spec =
+pub tau_hat_spec : {M : Type 1} → statement M
+tau_hat_spec =
     tie.close
     (tie.spec
-    labels-refusal-requires
-    refusing-number-requires
-    returns
-    number-of-requires
-    returns-2)
+    labels_refusal-t-requires
+    refusing_number-requires
+    returns-then-number-ne0
+    number_of-requires
+    returns)

@@ -10,36 +10,36 @@ use Rattle.table_closure.specs.Inner.{innerb}
 use Rattle.table_closure.proofs.inner.is_inner.Statement.{statement}
 use Rattle.table_closure.proofs.inner.is_inner.Tie as tie
 
-hidden-in-requires : tie.Need-hidden-in-requires
-hidden-in-requires c κs = search rules
+hidden_in-requires : tie.Need-hidden_in-requires
+hidden_in-requires c κs = search rules
 
-returns : tie.Need-returns
+returns-then-not-hidden_in : tie.Need-returns-then-not-hidden_in
 unfolding innerb
-returns c = sym (and_no_left _ _ (sym c.before.hidden-in.ensures ∙ not-true _ c.if1.true))
+returns-then-not-hidden_in c = sym (and_no_left _ _ (sym c.hidden_in.ensures ∙ c.if-not-hidden_in.true))
 
-at-requires : tie.Need-at-requires
-at-requires c κs = search rules
+at-u-requires : tie.Need-at-u-requires
+at-u-requires c κs = search rules
 
-at-requires-2 : tie.Need-at-requires-2
-at-requires-2 c κs = search rules
+at-there-requires : tie.Need-at-there-requires
+at-there-requires c κs = search rules
 
-returns-2 : tie.Need-returns-2
+returns-then-there-b : tie.Need-returns-then-there-b
 unfolding innerb
-returns-2 c =
-    let a = c.before.before.before.before.before.before.before.before.before in
-    sym (and_both (sym c.before.before.before.before.hidden-in.ensures ∙ not-false _ c.before.before.before.if1.false)
-    (eq-eqb _ _ (sym (ap (λ (s : ℕ). get_or a.args.element_to_block.now s 0) c.before.before.at.ensures.0) ∙
-    (sym c.before.at2.ensures.0 ∙ c.if2.true))))
+returns-then-there-b c =
+    let a = c in
+    sym (and_both (sym c.hidden_in.ensures ∙ c.if-not-hidden_in.false)
+    (eq-eqb _ _ (sym (ap (λ (s : ℕ). get_or a.args.element_to_block.now s 0) c.at-u.ensures.0) ∙
+    (sym c.at-there.ensures.0 ∙ c.if-there-b.true))))
 
-returns-3 : tie.Need-returns-3
+returns-else-there-b : tie.Need-returns-else-there-b
 unfolding innerb
-returns-3 c =
-    let a = c.before.before.before.before.before.before.before.before.before in
+returns-else-there-b c =
+    let a = c in
     sym (and_no_right (silentb (lts a.args.table a.args.source.now a.args.label.now a.args.target.now)
     a.args.element_to_block.now a.args.b a.args.i) _
-    (ne_eqb _ _ (λ e. c.if2.false (c.before.at2.ensures.0 ∙
-    (ap (λ (s : ℕ). get_or a.args.element_to_block.now s 0) c.before.before.at.ensures.0 ∙ e)))))
+    (ne_eqb _ _ (λ e. c.if-there-b.false (c.at-there.ensures.0 ∙
+    (ap (λ (s : ℕ). get_or a.args.element_to_block.now s 0) c.at-u.ensures.0 ∙ e)))))
 
-pub is-inner-spec : {M : Type 1} → statement M
-is-inner-spec =
-    tie.close (tie.spec hidden-in-requires returns at-requires at-requires-2 returns-2 returns-3)
+pub is_inner_spec : {M : Type 1} → statement M
+is_inner_spec =
+    tie.close (tie.spec hidden_in-requires returns-then-not-hidden_in at-u-requires at-there-requires returns-then-there-b returns-else-there-b)

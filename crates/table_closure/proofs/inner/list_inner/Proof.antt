@@ -16,29 +16,29 @@ abbrev L : tie.Start → Lts
 L a = lts a.args.table a.args.source.now a.args.label.now a.args.target.now
 
 -- the rows as they are listed
-module _ (c : tie.After-list-states) where
+module _ (c : tie.After-list_states-h) where
   abbrev order : List ℕ
-  order = c.list-states.new.1.1.1.1.1.1.1.1.1.0
+  order = c.list_states-h.new.order
 
   abbrev h : ℕ
-  h = c.list-states.result
+  h = c.list_states-h.result
 
   fits : h ≤ length order
   fits = omega (
     arith,
-    c.list-states.ensures.0.1,
-    c.list-states.auto.1.1.1.1.1.1.1.1.1.0,
-    c.before.before.before.before.before.before.before.before.before.requires.1.0.0,
+    c.list_states-h.ensures.0.1,
+    c.list_states-h.auto.order,
+    c.requires.1.0.0,
   )
 
-list-states-requires : tie.Need-list-states-requires
-list-states-requires c κs = search rules
+list_states-h-requires : tie.Need-list_states-h-requires
+list_states-h-requires c κs = search rules
 
-slice-relend-prefix-sort : tie.Need-slice-relend-prefix-sort
-slice-relend-prefix-sort c = fits c.before.before
+slice_bounds-sort-end : tie.Need-slice_bounds-sort-end
+slice_bounds-sort-end c = fits c.before.before
 
-slice-aggregate-sort : tie.Need-slice-aggregate-sort
-slice-aggregate-sort c = sym (length-take-le (h c.before.before.before) (order c.before.before.before)
+slice_bounds-sort-end-2 : tie.Need-slice_bounds-sort-end-2
+slice_bounds-sort-end-2 c = sym (length-take-le (h c.before.before.before) (order c.before.before.before)
     (fits c.before.before.before))
 
 sort-requires : tie.Need-sort-requires
@@ -46,37 +46,37 @@ sort-requires c κs = omega (
   arith,
   length-take-le (h c.before.before.before.before) (order c.before.before.before.before)
       (fits c.before.before.before.before),
-  c.before.before.before.before.list-states.ensures.0.1,
-  c.before.before.before.before.before.before.before.before.before.before.before.before.before.requires.1.0.1,
+  c.list_states-h.ensures.0.1,
+  c.requires.1.0.1,
 )
 
-same_length : tie.Need-same-length
-same_length c = search rules
+shape_of-order : tie.Need-shape_of-order
+shape_of-order c = search rules
 
-same-length-2 : tie.Need-same-length-2
-same-length-2 c = search rules
+shape_of-spare : tie.Need-shape_of-spare
+shape_of-spare c = search rules
 
 returns : tie.Need-returns
 returns c =
     let a = c.before.before.before.before.before.before.before.before.before.before.before.before.before.before.before.before.before.before in
     let q = c.before.before.before.before.before.before.before.before.before in
-    let few = q.list-states.ensures.0.1 in (
-      inner_sorted (L a) a.pre.0.0 _ _ _ _ _ a.pre.0.2 (order q) _ (h q) (fits q) few q.list-states.ensures.0.0
-          c.before.before.before.before.sort.ensures.0
-          (λ k w. q.list-states.ensures.1 k w ∙ ap (λ (l : List ℕ). get_or l k 0) a.pre.1.1.0 ∙
+    let few = q.list_states-h.ensures.0.1 in (
+      inner_sorted (L a) a.requires.0.0 _ _ _ _ _ a.requires.0.2 (order q) _ (h q) (fits q) few q.list_states-h.ensures.0.0
+          c.sort.ensures.0
+          (λ k w. q.list_states-h.ensures.1 k w ∙ ap (λ (l : List ℕ). get_or l k 0) a.requires.1.1.0 ∙
           zeros_at (length a.args.order.now) k),
-      c.before.before.before.before.sort.ensures.1 ∙ ap (wiped _) a.pre.1.1.1
-          ∙ wiped-zeros _ (length a.args.spare.now) (omega (arith, length-take-le (h q) (order q) (fits q), few, a.pre.1.0.1)),
+      c.sort.ensures.1 ∙ ap (wiped _) a.requires.1.1.1
+          ∙ wiped-zeros _ (length a.args.spare.now) (omega (arith, length-take-le (h q) (order q) (fits q), few, a.requires.1.0.1)),
     )
 
-pub list-inner-spec : {M : Type 1} → statement M
-list-inner-spec =
+pub list_inner_spec : {M : Type 1} → statement M
+list_inner_spec =
     tie.close
     (tie.spec
-    list-states-requires
-    slice-relend-prefix-sort
-    slice-aggregate-sort
+    list_states-h-requires
+    slice_bounds-sort-end
+    slice_bounds-sort-end-2
     sort-requires
-    same_length
-    same-length-2
+    shape_of-order
+    shape_of-spare
     returns)

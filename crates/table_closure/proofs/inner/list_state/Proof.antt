@@ -15,198 +15,198 @@ use Rattle.table_closure.proofs.Listing.{length_inner, row_skipped}
 use Rattle.table_closure.proofs.inner.list_state.Statement.{statement}
 use Rattle.table_closure.proofs.inner.list_state.Tie as tie
 
-abbrev invariant-loop : tie.invariant-loop
-invariant-loop table source label target element_to_block b s order₀ h m i₀ end k₀ order i k =
+abbrev invariant-loop-i : tie.invariant-loop-i
+invariant-loop-i table source label target element_to_block b s order₀ h m i₀ end k₀ order i k =
     Listing (λ j. eqb (get_or source j 0) s && innerb (lts table source label target) element_to_block b j) i₀ end h order₀ i k order
 
-abbrev decreases-loop : tie.decreases-loop
-decreases-loop table source label target element_to_block b s order₀ h m i₀ end k₀ order i k = end - i
+abbrev decreases-loop-i : tie.decreases-loop-i
+decreases-loop-i table source label target element_to_block b s order₀ h m i₀ end k₀ order i k = end - i
 
 -- the table that is lent, and the rows that are listed
-abbrev L : tie.Start invariant-loop decreases-loop → Lts
+abbrev L : tie.Start invariant-loop-i decreases-loop-i → Lts
 L a = lts a.args.table a.args.source.now a.args.label.now a.args.target.now
 
-abbrev F : tie.Start invariant-loop decreases-loop → ℕ → Bool
+abbrev F : tie.Start invariant-loop-i decreases-loop-i → ℕ → Bool
 F a j = eqb (get_or a.args.source.now j 0) a.args.s && innerb (L a) a.args.element_to_block.now a.args.b j
 
-valid : (a : tie.Start invariant-loop decreases-loop) → Valid (L a)
+valid : (a : tie.Start invariant-loop-i decreases-loop-i) → Valid (L a)
 valid a = a.requires.0.0
 
-total : (a : tie.Start invariant-loop decreases-loop) → length (inner_rows (L a) a.args.element_to_block.now a.args.b a.args.s) ≡ many
+total : (a : tie.Start invariant-loop-i decreases-loop-i) → length (inner_rows (L a) a.args.element_to_block.now a.args.b a.args.s) ≡ many
     a.args.table.m (F a)
 total a = length_inner (L a) a.args.element_to_block.now a.args.b a.args.s
 
-cast-m : tie.Need-overflow-cast-m invariant-loop decreases-loop
-cast-m c = search rules
+overflow_cast-m : tie.Need-overflow_cast-m invariant-loop-i decreases-loop-i
+overflow_cast-m c = search rules
 
-rows-of-requires : tie.Need-rows-of-requires invariant-loop decreases-loop
-rows-of-requires c κs =
+rows_of-rows-requires : tie.Need-rows_of-rows-requires invariant-loop-i decreases-loop-i
+rows_of-rows-requires c κs =
     let a = c.before.before.before.before.before.before in
     ((valid a).long.source, rising (L a) (valid a), omega (arith, a.requires.0.1, (valid a).few_states))
 
 -- the rows of the state
-from : (c : tie.After-rows-of invariant-loop decreases-loop) → RowsFrom (L c.before.before.before.before.before.before.before)
-    c.before.before.before.before.before.before.before.args.s c.rows_of_lem.result.first c.rows_of_lem.result.end
+from : (c : tie.After-rows_of-rows invariant-loop-i decreases-loop-i) → RowsFrom (L c.before.before.before.before.before.before.before)
+    c.args.s c.rows_of-rows.result.first c.rows_of-rows.result.end
 from c = rows_from (L c.before.before.before.before.before.before.before)
-    (valid c.before.before.before.before.before.before.before) c.before.before.before.before.before.before.before.args.s
-    _ _ c.rows_of_lem.ensures.0 c.rows_of_lem.ensures.1
+    (valid c.before.before.before.before.before.before.before) c.args.s
+    _ _ c.rows_of-rows.ensures.0 c.rows_of-rows.ensures.1
 
-loop-holds : tie.Need-loop-init invariant-loop decreases-loop
-loop-holds c = list_start _ _ _ _ _ (from c).up (λ k l. and_no_left _ _ ((from c).before k l))
+loop-i-init : tie.Need-loop-i-init invariant-loop-i decreases-loop-i
+loop-i-init c = list_start _ _ _ _ _ (from c).up (λ k l. and_no_left _ _ ((from c).before k l))
 
-below : (c : tie.In-loop invariant-loop decreases-loop) → c.before.loop.i
-    < c.before.before.before.before.before.before.before.before.before.args.table.m
-below c = omega (arith, (from c.before.before).most, c.loop-test)
+below : (c : tie.In-loop-i invariant-loop-i decreases-loop-i) → c.loop-i.i
+    < c.args.table.m
+below c = omega (arith, (from c.before.before).most, c.loop-i-test)
 
-is-inner-requires : tie.Need-is-inner-requires invariant-loop decreases-loop
-is-inner-requires c κs =
+is_inner-requires : tie.Need-is_inner-requires invariant-loop-i decreases-loop-i
+is_inner-requires c κs =
     let v = valid c.before.before.before.before.before.before.before.before.before in
     let l = below c in
-    let f = v.fields c.before.loop.i l in
-    let n = c.before.before.before.before.before.before.before.before.before.requires.0.2 in (
+    let f = v.fields c.loop-i.i l in
+    let n = c.requires.0.2 in (
       (omega (arith, l, v.long.source), omega (arith, l, v.long.label), omega (arith, l, v.long.target)),
       (omega (arith, f.source, n), omega (arith, f.target, n)),
     )
 
-cast-order : tie.Need-overflow-cast-order invariant-loop decreases-loop
-cast-order c = omega (
+overflow_cast-order : tie.Need-overflow_cast-order invariant-loop-i decreases-loop-i
+overflow_cast-order c = omega (
   arith,
   below c.before.before,
   (valid c.before.before.before.before.before.before.before.before.before.before.before).few_rows,
 )
 
 -- a row that is listed finds room
-passes : (c : tie.Then1 invariant-loop decreases-loop) → F c.before.before.before.before.before.before.before.before.before.before.before
-    c.before.before.before.loop.i ≡ true
+passes : (c : tie.Then-is_inner invariant-loop-i decreases-loop-i) → F c.before.before.before.before.before.before.before.before.before.before.before
+    c.loop-i.i ≡ true
 passes c =
-    and_both ((from c.before.before.before.before).own c.before.before.before.loop.i c.before.before.before.loop.invariant.low
-    (omega (arith, c.before.before.loop-test))) (sym c.before.is-inner.ensures ∙ c.if1.true)
+    and_both ((from c.before.before.before.before).own c.loop-i.i c.loop-i.invariant.low
+    (omega (arith, c.loop-i-test))) (sym c.is_inner.ensures ∙ c.if-is_inner.true)
 
-room : (c : tie.Then1 invariant-loop decreases-loop) → c.before.before.before.loop.k
-    < c.before.before.before.before.before.before.before.before.before.before.before.args.h + length
+room : (c : tie.Then-is_inner invariant-loop-i decreases-loop-i) → c.loop-i.k
+    < c.args.h + length
     (inner_rows (L c.before.before.before.before.before.before.before.before.before.before.before)
-    c.before.before.before.before.before.before.before.before.before.before.before.args.element_to_block.now
-    c.before.before.before.before.before.before.before.before.before.before.before.args.b
-    c.before.before.before.before.before.before.before.before.before.before.before.args.s)
+    c.args.element_to_block.now
+    c.args.b
+    c.args.s)
 room c =
     omega (
       arith,
-      c.before.before.before.loop.invariant.exact,
-      many_strict c.before.before.before.loop.i
-          c.before.before.before.before.before.before.before.before.before.before.before.args.table.m
+      c.loop-i.invariant.exact,
+      many_strict c.loop-i.i
+          c.args.table.m
           (F c.before.before.before.before.before.before.before.before.before.before.before) (below c.before.before)
           (passes c),
       total c.before.before.before.before.before.before.before.before.before.before.before,
     )
 
-mul-order : tie.Need-overflow-mul-order invariant-loop decreases-loop
-mul-order c = omega (
+offset_bounds-order-k : tie.Need-offset_bounds-order-k invariant-loop-i decreases-loop-i
+offset_bounds-order-k c = omega (
   arith,
   room c,
   total c.before.before.before.before.before.before.before.before.before.before.before,
-  many-le c.before.before.before.before.before.before.before.before.before.before.before.args.table.m
+  many-le c.args.table.m
       (F c.before.before.before.before.before.before.before.before.before.before.before),
   (valid c.before.before.before.before.before.before.before.before.before.before.before).few_rows,
-  c.before.before.before.before.before.before.before.before.before.before.before.requires.1.1,
+  c.requires.1.1,
 )
 
-slice-write-order : tie.Need-slice-write-order invariant-loop decreases-loop
-slice-write-order c = omega (
+bounds-order-k : tie.Need-bounds-order-k invariant-loop-i decreases-loop-i
+bounds-order-k c = omega (
   arith,
   room c,
-  c.before.before.before.loop.invariant.size,
-  c.before.before.before.before.before.before.before.before.before.before.before.requires.1.0,
+  c.loop-i.invariant.size,
+  c.requires.1.0,
 )
 
-add-k : tie.Need-overflow-add-k invariant-loop decreases-loop
-add-k c = omega (
+overflow_add-k : tie.Need-overflow_add-k invariant-loop-i decreases-loop-i
+overflow_add-k c = omega (
   arith,
   room c,
   total c.before.before.before.before.before.before.before.before.before.before.before,
-  many-le c.before.before.before.before.before.before.before.before.before.before.before.args.table.m
+  many-le c.args.table.m
       (F c.before.before.before.before.before.before.before.before.before.before.before),
   (valid c.before.before.before.before.before.before.before.before.before.before.before).few_rows,
-  c.before.before.before.before.before.before.before.before.before.before.before.requires.1.1,
+  c.requires.1.1,
 )
 
-add-i : tie.Need-overflow-add-i invariant-loop decreases-loop
-add-i c = omega (
+overflow_add-i : tie.Need-overflow_add-i invariant-loop-i decreases-loop-i
+overflow_add-i c = omega (
   arith,
   below c.before.before,
   (valid c.before.before.before.before.before.before.before.before.before.before.before).few_rows,
 )
 
-loop-less : tie.Need-loop-smaller invariant-loop decreases-loop
-loop-less c = omega (arith, c.before.before.loop-test)
+loop-i-smaller-then-is_inner : tie.Need-loop-i-smaller-then-is_inner invariant-loop-i decreases-loop-i
+loop-i-smaller-then-is_inner c = omega (arith, c.loop-i-test)
 
-loop-again : tie.Need-loop-preserved invariant-loop decreases-loop
-loop-again c =
-    list_more _ _ _ _ _ _ _ _ c.before.before.before.loop.invariant (omega (arith, c.before.before.loop-test)) (passes c)
+loop-i-preserved-then-is_inner : tie.Need-loop-i-preserved-then-is_inner invariant-loop-i decreases-loop-i
+loop-i-preserved-then-is_inner c =
+    list_more _ _ _ _ _ _ _ _ c.loop-i.invariant (omega (arith, c.loop-i-test)) (passes c)
     (omega (
       arith,
       room c,
-      c.before.before.before.loop.invariant.size,
-      c.before.before.before.before.before.before.before.before.before.before.before.requires.1.0,
+      c.loop-i.invariant.size,
+      c.requires.1.0,
     ))
 
-row-after-requires : tie.Need-row-after-requires invariant-loop decreases-loop
-row-after-requires c κs =
+row_after-i-requires : tie.Need-row_after-i-requires invariant-loop-i decreases-loop-i
+row_after-i-requires c κs =
     let v = valid c.before.before.before.before.before.before.before.before.before.before.before in
     (omega (arith, below c.before.before, v.long.label), omega (arith, below c.before.before, v.few_rows))
 
 -- the rows that are passed over
-skipped : (c : tie.After-row-after invariant-loop decreases-loop)
-    → (c.before.before.before.before.loop.i < c.row-after.result) ×
-    (c.row-after.result ≤ c.before.before.before.before.before.rows_of_lem.result.end)
-    × ((j : ℕ) → c.before.before.before.before.loop.i ≤ j → j < c.row-after.result →
+skipped : (c : tie.After-row_after-i invariant-loop-i decreases-loop-i)
+    → (c.loop-i.i < c.row_after-i.result) ×
+    (c.row_after-i.result ≤ c.rows_of-rows.result.end)
+    × ((j : ℕ) → c.loop-i.i ≤ j → j < c.row_after-i.result →
     F c.before.before.before.before.before.before.before.before.before.before.before.before j ≡ false)
 skipped c =
     let a = c.before.before.before.before.before.before.before.before.before.before.before.before in
     row_skipped (L a) (valid a) a.args.element_to_block.now a.args.b a.args.s _ _
-    (from c.before.before.before.before.before) c.before.before.before.before.loop.i c.row-after.result
-    c.before.before.before.before.loop.invariant.low (omega (arith, c.before.before.before.loop-test))
-    (sym c.before.before.is-inner.ensures ∙ c.before.if1.false) c.row-after.ensures
+    (from c.before.before.before.before.before) c.loop-i.i c.row_after-i.result
+    c.loop-i.invariant.low (omega (arith, c.loop-i-test))
+    (sym c.is_inner.ensures ∙ c.if-is_inner.false) c.row_after-i.ensures
 
-loop-less-2 : tie.Need-loop-smaller-2 invariant-loop decreases-loop
-loop-less-2 c = omega (arith, c.before.before.before.loop-test, (skipped c).0)
+loop-i-smaller : tie.Need-loop-i-smaller invariant-loop-i decreases-loop-i
+loop-i-smaller c = omega (arith, c.loop-i-test, (skipped c).0)
 
-loop-again-2 : tie.Need-loop-preserved-2 invariant-loop decreases-loop
-loop-again-2 c =
-    list_skip _ _ _ _ _ _ _ _ c.before.before.before.before.loop.invariant c.row-after.result (omega (arith, (skipped c).0))
+loop-i-preserved : tie.Need-loop-i-preserved invariant-loop-i decreases-loop-i
+loop-i-preserved c =
+    list_skip _ _ _ _ _ _ _ _ c.loop-i.invariant c.row_after-i.result (omega (arith, (skipped c).0))
     (skipped c).1 (skipped c).2
 
-same_length : tie.Need-same-length invariant-loop decreases-loop
-same_length c = c.before.loop.invariant.size
+shape_of-order : tie.Need-shape_of-order invariant-loop-i decreases-loop-i
+shape_of-order c = c.loop-i.invariant.size
 
-returns : tie.Need-returns invariant-loop decreases-loop
+returns : tie.Need-returns invariant-loop-i decreases-loop-i
 unfolding inner_rows
 returns c =
     let f = from c.before.before in (
-      list_done _ _ _ _ _ _ _ _ c.before.loop.invariant
-          c.before.before.before.before.before.before.before.before.before.args.table.m (omega (arith, c.loop-test))
+      list_done _ _ _ _ _ _ _ _ c.loop-i.invariant
+          c.args.table.m (omega (arith, c.loop-i-test))
           f.most (λ k u v. and_no_left _ _ (f.after k u v)),
-      c.before.loop.invariant.rest,
+      c.loop-i.invariant.rest,
     )
 
-pub list-state-spec : {M : Type 1} → statement M
-list-state-spec =
+pub list_state_spec : {M : Type 1} → statement M
+list_state_spec =
     tie.close
     (tie.spec
-    invariant-loop
-    decreases-loop
-    cast-m
-    rows-of-requires
-    loop-holds
-    is-inner-requires
-    cast-order
-    mul-order
-    slice-write-order
-    add-k
-    add-i
-    loop-less
-    loop-again
-    row-after-requires
-    loop-less-2
-    loop-again-2
-    same_length
+    invariant-loop-i
+    decreases-loop-i
+    overflow_cast-m
+    rows_of-rows-requires
+    loop-i-init
+    is_inner-requires
+    overflow_cast-order
+    offset_bounds-order-k
+    bounds-order-k
+    overflow_add-k
+    overflow_add-i
+    loop-i-smaller-then-is_inner
+    loop-i-preserved-then-is_inner
+    row_after-i-requires
+    loop-i-smaller
+    loop-i-preserved
+    shape_of-order
     returns)

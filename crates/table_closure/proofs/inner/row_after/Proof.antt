@@ -8,14 +8,14 @@ use Rattle.table_closure.proofs.inner.row_after.Tie as tie
 at-requires : tie.Need-at-requires
 at-requires c κs = search rules
 
-add-result : tie.Need-overflow-add-result
-add-result c = search rules
+overflow_add-result : tie.Need-overflow_add-result
+overflow_add-result c = search rules
 
-returns : tie.Need-returns
-returns c = simp (sym c.before.at.ensures.0, eq-eqb _ _ c.if1.true)
+returns-then-at-eq0 : tie.Need-returns-then-at-eq0
+returns-then-at-eq0 c = simp (sym c.at.ensures.0, eq-eqb _ _ c.if-at-eq0.true)
 
-returns-2 : tie.Need-returns-2
-returns-2 c = simp (sym c.before.at.ensures.0, ne_eqb _ _ c.if1.false)
+returns-else-at-eq0 : tie.Need-returns-else-at-eq0
+returns-else-at-eq0 c = simp (sym c.at.ensures.0, ne_eqb _ _ c.if-at-eq0.false)
 
-pub row-after-spec : {M : Type 1} → statement M
-row-after-spec = tie.close (tie.spec at-requires add-result returns returns-2)
+pub row_after_spec : {M : Type 1} → statement M
+row_after_spec = tie.close (tie.spec at-requires overflow_add-result returns-then-at-eq0 returns-else-at-eq0)
