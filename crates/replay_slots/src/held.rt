@@ -3,9 +3,9 @@ ghost use Rattle.std.specs.Prelude.{◌++◌, ◌≡◌, ◌+◌, ◌<◌};
 ghost use Rattle.replay_lines.specs.Text.{puts};
 ghost use Rattle.replay_slots.specs.Shown.{slice_text};
 
-use replay_lines::output::Sink;
 use crate::case::{Case, HELD_ROOM, between, changed};
 use crate::slots::copy;
+use replay_lines::output::Sink;
 use replay_lines::slices::column as show_column;
 
 pub type Held = [u16; HELD_ROOM];

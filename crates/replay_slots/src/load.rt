@@ -62,7 +62,7 @@ fn room(longest: usize, taken: usize, all: usize) -> u64 {
 }
 
 // What is read of a line: how many words, numbers, slices that are only read, slices that may change, and cells of each type.
-#[derive(Drop)]
+#[derive(Clone, Copy)]
 pub struct Reading {
     pub case: Case,
     pub input: Input,

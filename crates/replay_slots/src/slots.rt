@@ -1,10 +1,10 @@
 // The slices that an operation may change, in slots: filled with what the case has, and shown as they are at return.
 ghost use Rattle.spelling.specs.Counts.{IsPrefixLen};
 
-use replay_lines::output::Sink;
 use crate::case::{CHANGED, Case, between, byte_column, changed};
 use crate::names::Kinds;
 use crate::texts::show as show_bytes;
+use replay_lines::output::Sink;
 use replay_lines::slices::column;
 
 pub type Slot = [u16; 70000];

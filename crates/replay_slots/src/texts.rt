@@ -3,9 +3,9 @@ ghost use Rattle.std.specs.Prelude.{◌≡◌};
 ghost use Rattle.replay_lines.specs.Text.{puts};
 ghost use Rattle.replay_slots.specs.Shown.{slice_text};
 
-use replay_lines::output::Sink;
 use crate::case::{CHANGED, Case, between_bytes, byte_column};
 use crate::slots::{Text, copy_bytes};
+use replay_lines::output::Sink;
 use replay_lines::slices::bytes as show_bytes;
 
 // The bytes that may change, filled with what the case has: slice 0 of those.
