@@ -62,19 +62,10 @@ fn reduce_input(rt: &HostRuntime, held: &[u8], got: Got)
 {
     let mut output = [0u8; LARGEST_OUTPUT];
     let answer = reduce_into(held, got, &mut output);
-    let outcome = answer.outcome;
-    match outcome {
+    match &answer.outcome {
         FileOutcome::Refused(_) => say_answer(rt.stderr(), answer),
-        FileOutcome::Done {
-            bytes,
-            states: _,
-            labels: _,
-            rows: _,
-            blocks: _,
-            reduced_rows: _,
-            rounds: _,
-        } => {
-            let written = bytes as usize;
+        FileOutcome::Done { bytes, .. } => {
+            let written = *bytes as usize;
             if write_output(rt.stdout(), held, &output[..written]) {
                 say_answer(rt.stderr(), answer);
             } else {
