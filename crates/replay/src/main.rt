@@ -1,3 +1,5 @@
+#![tactic(auto)]
+
 // Reads cases from standard input, one a line, and writes one answer line for each.
 mod answer;
 mod line;

@@ -1,3 +1,5 @@
+#![tactic(auto)]
+
 // A call for each operation on files. It holds what it changes in arrays of its own: it fills these with what the case has, lends them,
 // and writes the answer and each slice at return.
 mod answers;
@@ -5,11 +7,11 @@ mod reading;
 mod reducing;
 mod writing;
 
-use replay_lines::output::Sink;
 use crate::reading::read;
 use crate::reducing::reduce;
 use crate::writing::write;
 use replay_calls::operations::{READ_FILE, WRITE_FILE};
+use replay_lines::output::Sink;
 use replay_slots::case::Case;
 
 // The answer to a case, and what may have changed, at return.
