@@ -420,7 +420,7 @@ class Proof:
             fields = self.turn_fields(fields)
             return root + '.before' * len(kept) + ''.join('.' + f for f in fields)
 
-        chunk = re.sub(rf"(?<![\w.'])({WORD}|\))((?:\.{WORD})+)", fix_path, chunk)
+        chunk = re.sub(rf"((?<![\w.'])(?<!\))[^\s()\[\]{{}},;.«»\"]+|\))((?:\.{WORD})+)", fix_path, chunk)
         chunk = re.sub(rf"\(?not-(?:true|false) {WORD}(?:\.{WORD})* ({WORD}\.(?:if-not-{WORD}|loop-{WORD}test)\.(?:true|false))(?:(?<=\.true)|(?<=\.false))", lambda m: ('(' if m.group(0).startswith('(') else '') + 'PLAIN' + m.group(1), chunk)
         chunk = re.sub(rf"(?<![\w.'])({WORD}\.if-not-{WORD}\.(?:true|false))", lambda m: m.group(1)[5:] if m.group(1).startswith('PLAIN') else f'(ap not {m.group(1)})', chunk)
         chunk = re.sub(rf"ap not \((sym {WORD}(?:\.{WORD})*)\) ∙ ({WORD}\.if-not-{WORD}\.(?:true|false))", r"ap not (\1 ∙ \2)", chunk)

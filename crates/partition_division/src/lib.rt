@@ -40,7 +40,7 @@ pub fn partition_marked_with(
     spare: &mut [u16],
 ) -> DivisionAnswer
     ensures { let given = parts elements.old element_offset.old element_to_block.old begin.old marked_split.old end.old partition.n partition.count in
-        let left = after elements element_offset element_to_block begin marked_split end partition.n
+        let left = parts elements.new element_offset.new element_to_block.new begin.new marked_split.new end.new partition.n
         (count_said (said_division result) partition.count) in
         (said_division result, (left, work old_elements.new block_sizes.new spare.new))
         ≡ partition_marked_with given block_index numbers.now (work old_elements.old block_sizes.old spare.old) }

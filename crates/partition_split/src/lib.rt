@@ -25,7 +25,7 @@ pub fn split_marked(
     choice: &[u8],
 ) -> NumberAnswer
     ensures { let given = parts elements.old element_offset.old element_to_block.old begin.old marked_split.old end.old partition.n partition.count in
-        let left = after elements element_offset element_to_block begin marked_split end partition.n
+        let left = parts elements.new element_offset.new element_to_block.new begin.new marked_split.new end.new partition.n
         (count_said (said_number result) partition.count) in
         (said_number result, left) ≡ split_marked given block_index choice.now }
 {

@@ -19,7 +19,7 @@ use Rattle.partition_display.proofs.display.Tie as tie
 abbrev P : tie.Start → Partition
 P a =
     parts a.args.elements.now a.args.element_offset.now a.args.element_to_block.now a.args.begin.now
-    a.args.marked_split_lem.now a.args.end.now a.args.partition.n a.args.partition.count
+    a.args.marked_split.now a.args.end.now a.args.partition.n a.args.partition.count
 
 abbrev words : tie.Start → List ℕ
 words a = display_text (P a)
@@ -27,57 +27,56 @@ words a = display_text (P a)
 abbrev refusal_of : tie.Start → Refusal
 refusal_of a = display_refusal (P a) (length a.args.text.now)
 
-cast-n : tie.Need-overflow-cast-n
-cast-n c = search rules
+overflow_cast-n : tie.Need-overflow_cast-n
+overflow_cast-n c = search rules
 
-cast-count : tie.Need-overflow-cast-count
-cast-count c = search rules
+overflow_cast-count : tie.Need-overflow_cast-count
+overflow_cast-count c = search rules
 
-display-refusal-requires : tie.Need-display-refusal-requires
-display-refusal-requires c κs = search rules
+display_refusal-t-requires : tie.Need-display_refusal-t-requires
+display_refusal-t-requires c κs = search rules
 
-refusing-number-requires : tie.Need-refusing-number-requires
-refusing-number-requires c κs = search rules
+refusing_number-requires : tie.Need-refusing_number-requires
+refusing_number-requires c κs = search rules
 
-returns : tie.Need-returns
+returns-then-refused-ne0 : tie.Need-returns-then-refused-ne0
 unfolding displayed
-returns c = let a = c.before.before.before.before.before.before.before.before.before.before.before.before in
-    left_refused (refusal_of a) _ c.before.before.display-refusal.ensures a.args.text.now (over (words a) a.args.text.now)
+returns-then-refused-ne0 c = let a = c.before.before.before.before.before.before.before.before.before.before.before.before in
+    left_refused (refusal_of a) _ c.display_refusal-t.ensures a.args.text.now (over (words a) a.args.text.now)
     (length (words a) ∷ [])
-    _ c.before.if1.true c.refusing-number.ensures
+    _ c.if-refused-ne0.true c.refusing_number.ensures
 
-write-blocks-requires : tie.Need-write-blocks-requires
-write-blocks-requires c κs = let a = c.before.before.before.before.before.before.before.before.before.before.before.before in
-    display_reads (P a) (length a.args.text.now) _ c.before.before.display-refusal.ensures c.before.if1.false
+write_blocks-written-requires : tie.Need-write_blocks-written-requires
+write_blocks-written-requires c κs = let a = c.before.before.before.before.before.before.before.before.before.before.before.before in
+    display_reads (P a) (length a.args.text.now) _ c.display_refusal-t.ensures c.if-refused-ne0.false
 
 number-requires : tie.Need-number-requires
 number-requires c κs = search rules
 
-same_length : tie.Need-same-length
-same_length c = search rules
+shape_of-text : tie.Need-shape_of-text
+shape_of-text c = search rules
 
-returns-2 : tie.Need-returns-2
+returns : tie.Need-returns
 unfolding displayed display_text
-returns-2 c = let a =
-    c.before.before.before.before.before.before.before.before.before.before.before.before.before.before.before.before in
-    left_done (refusal_of a) _ c.before.before.before.before.before.before.display-refusal.ensures a.args.text.now
+returns c = let a = c.before.before.before.before.before.before.before.before.before.before.before.before.before.before.before.before in
+    left_done (refusal_of a) _ c.display_refusal-t.ensures a.args.text.now
     (over (words a) a.args.text.now) (length (words a) ∷ [])
-    _ _ c.before.before.before.before.before.if1.false
-    (c.number.ensures ∙ ap (λ (k : ℕ). done (k ∷ [])) (wrote_size {s = words a} c.before.before.before.write-blocks.ensures))
-    (wrote_over {s = words a} c.before.before.before.write-blocks.ensures
-    (display_room (P a) (length a.args.text.now) _ c.before.before.before.before.before.before.display-refusal.ensures
-    c.before.before.before.before.before.if1.false))
+    _ _ c.if-refused-ne0.false
+    (c.number.ensures ∙ ap (λ (k : ℕ). done (k ∷ [])) (wrote_size {s = words a} c.write_blocks-written.ensures))
+    (wrote_over {s = words a} c.write_blocks-written.ensures
+    (display_room (P a) (length a.args.text.now) _ c.display_refusal-t.ensures
+    c.if-refused-ne0.false))
 
-pub display-spec : {M : Type 1} → statement M
-display-spec =
+pub display_spec : {M : Type 1} → statement M
+display_spec =
     tie.close
     (tie.spec
-    cast-n
-    cast-count
-    display-refusal-requires
-    refusing-number-requires
-    returns
-    write-blocks-requires
+    overflow_cast-n
+    overflow_cast-count
+    display_refusal-t-requires
+    refusing_number-requires
+    returns-then-refused-ne0
+    write_blocks-written-requires
     number-requires
-    same_length
-    returns-2)
+    shape_of-text
+    returns)

@@ -11,38 +11,38 @@ use Rattle.partition_display.proofs.display_refusal.Tie as tie
 abbrev P : tie.Start → Partition
 P a =
     parts a.args.elements.now a.args.element_offset.now a.args.element_to_block.now a.args.begin.now
-    a.args.marked_split_lem.now a.args.end.now a.args.n a.args.count
+    a.args.marked_split.now a.args.end.now a.args.n a.args.count
 
-check-requires : tie.Need-check-requires
-check-requires c κs = search rules
+check-t-requires : tie.Need-check-t-requires
+check-t-requires c κs = search rules
+
+returns-then-number-ne0 : tie.Need-returns-then-number-ne0
+returns-then-number-ne0 c = let a = c.before.before.before.before.before.before.before.before in
+    display_out (P a) a.args.room _ c.check-t.ensures c.if-number-ne0.true
+
+slice_bounds-write_blocks-end : tie.Need-slice_bounds-write_blocks-end
+slice_bounds-write_blocks-end c = search rules
+
+write_blocks-needed-requires : tie.Need-write_blocks-needed-requires
+write_blocks-needed-requires c κs = let a = c.before.before.before.before.before.before.before.before.before in
+    checked_reads (P a) a.args.room _ c.check-t.ensures c.if-number-ne0.false
+
+refuse_unless-requires : tie.Need-refuse_unless-requires
+refuse_unless-requires c κs = search rules
 
 returns : tie.Need-returns
-returns c = let a = c.before.before.before.before.before.before.before.before in
-    display_out (P a) a.args.room _ c.before.check.ensures c.if1.true
-
-slice-aggregate-write-blocks : tie.Need-slice-aggregate-write-blocks
-slice-aggregate-write-blocks c = search rules
-
-write-blocks-requires : tie.Need-write-blocks-requires
-write-blocks-requires c κs = let a = c.before.before.before.before.before.before.before.before.before in
-    checked_reads (P a) a.args.room _ c.before.before.check.ensures c.before.if1.false
-
-refuse-unless-requires : tie.Need-refuse-unless-requires
-refuse-unless-requires c κs = search rules
-
-returns-2 : tie.Need-returns-2
 unfolding display_text
-returns-2 c = let a = c.before.before.before.before.before.before.before.before.before.before.before.before in
-    c.refuse-unless.ensures ∙ display_on (P a) a.args.room _ c.before.before.before.before.before.check.ensures
-    c.before.before.before.before.if1.false c.before.before.write-blocks.ensures
+returns c = let a = c.before.before.before.before.before.before.before.before.before.before.before.before in
+    c.refuse_unless.ensures ∙ display_on (P a) a.args.room _ c.check-t.ensures
+    c.if-number-ne0.false c.write_blocks-needed.ensures
 
-pub display-refusal-spec : {M : Type 1} → statement M
-display-refusal-spec =
+pub display_refusal_spec : {M : Type 1} → statement M
+display_refusal_spec =
     tie.close
     (tie.spec
-    check-requires
-    returns
-    slice-aggregate-write-blocks
-    write-blocks-requires
-    refuse-unless-requires
-    returns-2)
+    check-t-requires
+    returns-then-number-ne0
+    slice_bounds-write_blocks-end
+    write_blocks-needed-requires
+    refuse_unless-requires
+    returns)

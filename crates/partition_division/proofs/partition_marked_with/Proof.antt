@@ -17,7 +17,7 @@ use Rattle.partition_division.proofs.partition_marked_with.Tie as tie
 abbrev P : tie.Start → Partition
 P a =
     parts a.args.elements.now a.args.element_offset.now a.args.element_to_block.now a.args.begin.now
-    a.args.marked_split_lem.now a.args.end.now a.args.partition.n a.args.partition.count
+    a.args.marked_split.now a.args.end.now a.args.partition.n a.args.partition.count
 
 abbrev W : tie.Start → Work
 W a = work a.args.old_elements.now a.args.block_sizes.now a.args.spare.now
@@ -27,51 +27,49 @@ works a = length a.args.old_elements.now ∷ length a.args.block_sizes.now ∷ l
 
 abbrev values : tie.Start → List ℕ
 values a =
-    a.args.block-index ∷ a.args.partition.count ∷ (partition_marked (P a) a.args.block-index a.args.numbers.now).count ∷ []
+    a.args.block_index ∷ a.args.partition.count ∷ (partition_marked (P a) a.args.block_index a.args.numbers.now).count ∷ []
 
-cast-n : tie.Need-overflow-cast-n
-cast-n c = search rules
+overflow_cast-n : tie.Need-overflow_cast-n
+overflow_cast-n c = search rules
 
-cast-count : tie.Need-overflow-cast-count
-cast-count c = search rules
+overflow_cast-count : tie.Need-overflow_cast-count
+overflow_cast-count c = search rules
 
-division-refusal-requires : tie.Need-division-refusal-requires
-division-refusal-requires c κs = search rules
+division_refusal-t-requires : tie.Need-division_refusal-t-requires
+division_refusal-t-requires c κs = search rules
 
-same_length : tie.Need-same-length
-same_length c = refl
+shape_of-elements-then-number-ne0 : tie.Need-shape_of-elements-then-number-ne0
+shape_of-elements-then-number-ne0 c = refl
 
-same-length-2 : tie.Need-same-length-2
-same-length-2 c = refl
+shape_of-element_offset-then-number-ne0 : tie.Need-shape_of-element_offset-then-number-ne0
+shape_of-element_offset-then-number-ne0 c = refl
 
-same-length-3 : tie.Need-same-length-3
-same-length-3 c = refl
+shape_of-element_to_block-then-number-ne0 : tie.Need-shape_of-element_to_block-then-number-ne0
+shape_of-element_to_block-then-number-ne0 c = refl
 
-same-length-4 : tie.Need-same-length-4
-same-length-4 c = refl
+shape_of-begin-then-number-ne0 : tie.Need-shape_of-begin-then-number-ne0
+shape_of-begin-then-number-ne0 c = refl
 
-same-length-5 : tie.Need-same-length-5
-same-length-5 c = refl
+shape_of-marked_split-then-number-ne0 : tie.Need-shape_of-marked_split-then-number-ne0
+shape_of-marked_split-then-number-ne0 c = refl
 
-same-length-6 : tie.Need-same-length-6
-same-length-6 c = refl
+shape_of-end-then-number-ne0 : tie.Need-shape_of-end-then-number-ne0
+shape_of-end-then-number-ne0 c = refl
 
-returns : tie.Need-returns
+returns-then-number-ne0 : tie.Need-returns-then-number-ne0
 unfolding partition_marked_with division_refusal
-returns c = let a =
-    c.before.before.before.before.before.before.before.before.before.before.before.before.before.before.before.before.before.before.before.before in
-    left_refused (division_refusal (P a) a.args.block-index a.args.numbers.now (W a)) _ c.before.division-refusal.ensures
-    (P a, W a) (partition_marked (P a) a.args.block-index a.args.numbers.now, cleared_work (W a)) (values a) _ c.if1.true refl
+returns-then-number-ne0 c = let a = c.before.before.before.before.before.before.before.before.before.before.before.before.before.before in
+    left_refused (division_refusal (P a) a.args.block_index a.args.numbers.now (W a)) _ c.division_refusal-t.ensures
+    (P a, W a) (partition_marked (P a) a.args.block_index a.args.numbers.now, cleared_work (W a)) (values a) _ c.if-number-ne0.true refl
 
-clear-three-requires : tie.Need-clear-three-requires
-clear-three-requires c κs = search rules
+clear_three-requires : tie.Need-clear_three-requires
+clear_three-requires c κs = search rules
 
-partition-marked-with-requires : tie.Need-partition-marked-with-requires
-partition-marked-with-requires c κs = let a =
-    c.before.before.before.before.before.before.before.before.before.before.before.before.before.before.before.before.before.before.before.before.before.before.before.before.before.before.before.before.before.before.before.before.before.before.before.before.before.before.before in
-    let q = division_ready (P a) a.args.block-index a.args.numbers.now (works a) _
-    c.before.before.before.before.before.before.before.before.before.before.before.before.before.before.before.before.before.before.before.before.division-refusal.ensures
-    c.before.before.before.before.before.before.before.before.before.before.before.before.before.before.before.before.before.before.before.if1.false in (
+partition_marked_with-c-requires : tie.Need-partition_marked_with-c-requires
+partition_marked_with-c-requires c κs = let a = c.before.before.before.before.before.before.before.before.before.before.before.before.before.before.before.before.before.before.before.before.before.before.before.before.before.before.before.before.before.before.before.before.before in
+    let q = division_ready (P a) a.args.block_index a.args.numbers.now (works a) _
+    c.division_refusal-t.ensures
+    c.if-number-ne0.false in (
       q.ready,
       (
         (
@@ -79,114 +77,113 @@ partition-marked-with-requires c κs = let a =
           omega (
             arith,
             q.rooms.0,
-            c.before.before.before.before.before.before.before.before.before.before.before.before.before.before.before.clear-three.auto.0,
+            c.clear_three.auto.a,
           ),
           omega (
             arith,
             q.rooms.1.0,
-            c.before.before.before.before.before.before.before.before.before.before.before.before.before.before.before.clear-three.auto.1.0,
+            c.clear_three.auto.b,
           ),
           omega (
             arith,
             q.rooms.1.1.0,
-            c.before.before.before.before.before.before.before.before.before.before.before.before.before.before.before.clear-three.auto.1.1.0,
+            c.clear_three.auto.c,
           ),
         ),
         (
-          c.before.before.before.before.before.before.before.before.before.before.before.before.before.before.before.clear-three.ensures.0 ∙
+          c.clear_three.ensures.0 ∙
               ap zeros (sym
-              c.before.before.before.before.before.before.before.before.before.before.before.before.before.before.before.clear-three.auto.0),
-          c.before.before.before.before.before.before.before.before.before.before.before.before.before.before.before.clear-three.ensures.1 ∙
+              c.clear_three.auto.a),
+          c.clear_three.ensures.1 ∙
               ap zeros (sym
-              c.before.before.before.before.before.before.before.before.before.before.before.before.before.before.before.clear-three.auto.1.0),
-          c.before.before.before.before.before.before.before.before.before.before.before.before.before.before.before.clear-three.ensures.2 ∙
+              c.clear_three.auto.b),
+          c.clear_three.ensures.2 ∙
               ap zeros (sym
-              c.before.before.before.before.before.before.before.before.before.before.before.before.before.before.before.clear-three.auto.1.1.0),
+              c.clear_three.auto.c),
         ),
       ),
     )
 
-same-length-7 : tie.Need-same-length-7
-same-length-7 c =
-    c.before.before.before.before.before.before.before.before.before.before.before.before.before.before.before.before.before.before.partition_marked_with_lem.auto.1.1.0
+shape_of-elements : tie.Need-shape_of-elements
+shape_of-elements c =
+    c.partition_marked_with-c.auto.elements
 
-same-length-8 : tie.Need-same-length-8
-same-length-8 c =
-    c.before.before.before.before.before.before.before.before.before.before.before.before.before.before.before.before.before.before.partition_marked_with_lem.auto.1.1.1.0
+shape_of-element_offset : tie.Need-shape_of-element_offset
+shape_of-element_offset c =
+    c.partition_marked_with-c.auto.element_offset
 
-same-length-9 : tie.Need-same-length-9
-same-length-9 c =
-    c.before.before.before.before.before.before.before.before.before.before.before.before.before.before.before.before.before.before.partition_marked_with_lem.auto.1.1.1.1.0
+shape_of-element_to_block : tie.Need-shape_of-element_to_block
+shape_of-element_to_block c =
+    c.partition_marked_with-c.auto.element_to_block
 
-same-length-10 : tie.Need-same-length-10
-same-length-10 c =
-    c.before.before.before.before.before.before.before.before.before.before.before.before.before.before.before.before.before.before.partition_marked_with_lem.auto.1.1.1.1.1.0
+shape_of-begin : tie.Need-shape_of-begin
+shape_of-begin c =
+    c.partition_marked_with-c.auto.begin
 
-same-length-11 : tie.Need-same-length-11
-same-length-11 c =
-    c.before.before.before.before.before.before.before.before.before.before.before.before.before.before.before.before.before.before.partition_marked_with_lem.auto.1.1.1.1.1.1.0
+shape_of-marked_split : tie.Need-shape_of-marked_split
+shape_of-marked_split c =
+    c.partition_marked_with-c.auto.marked_split
 
-same-length-12 : tie.Need-same-length-12
-same-length-12 c =
-    c.before.before.before.before.before.before.before.before.before.before.before.before.before.before.before.before.before.before.partition_marked_with_lem.auto.1.1.1.1.1.1.1.0
+shape_of-end : tie.Need-shape_of-end
+shape_of-end c =
+    c.partition_marked_with-c.auto.end
 
-same-length-13 : tie.Need-same-length-13
-same-length-13 c =
-    c.before.before.before.before.before.before.before.before.before.before.before.before.before.before.before.before.before.before.partition_marked_with_lem.auto.1.1.1.1.1.1.1.1.1.1.0 ∙
-    c.before.before.before.before.before.before.before.before.before.before.before.before.before.before.before.before.before.before.before.before.before.before.before.before.before.before.before.before.before.before.before.before.before.before.clear-three.auto.0
+shape_of-old_elements : tie.Need-shape_of-old_elements
+shape_of-old_elements c =
+    c.partition_marked_with-c.auto.old_elements ∙
+    c.clear_three.auto.a
 
-same-length-14 : tie.Need-same-length-14
-same-length-14 c =
-    c.before.before.before.before.before.before.before.before.before.before.before.before.before.before.before.before.before.before.partition_marked_with_lem.auto.1.1.1.1.1.1.1.1.1.1.1.0 ∙
-    c.before.before.before.before.before.before.before.before.before.before.before.before.before.before.before.before.before.before.before.before.before.before.before.before.before.before.before.before.before.before.before.before.before.before.clear-three.auto.1.0
+shape_of-block_sizes : tie.Need-shape_of-block_sizes
+shape_of-block_sizes c =
+    c.partition_marked_with-c.auto.block_sizes ∙
+    c.clear_three.auto.b
 
-same-length-15 : tie.Need-same-length-15
-same-length-15 c =
-    c.before.before.before.before.before.before.before.before.before.before.before.before.before.before.before.before.before.before.partition_marked_with_lem.auto.1.1.1.1.1.1.1.1.1.1.1.1.0 ∙
-    c.before.before.before.before.before.before.before.before.before.before.before.before.before.before.before.before.before.before.before.before.before.before.before.before.before.before.before.before.before.before.before.before.before.before.clear-three.auto.1.1.0
+shape_of-spare : tie.Need-shape_of-spare
+shape_of-spare c =
+    c.partition_marked_with-c.auto.spare ∙
+    c.clear_three.auto.c
 
-returns-2 : tie.Need-returns-2
+returns : tie.Need-returns
 unfolding partition_marked_with division_refusal
-returns-2 c = let a =
-    c.before.before.before.before.before.before.before.before.before.before.before.before.before.before.before.before.before.before.before.before.before.before.before.before.before.before.before.before.before.before.before.before.before.before.before.before.before.before.before.before.before.before.before.before.before.before.before.before.before.before.before.before.before.before.before.before.before.before in
-    let e = c.before.before.before.before.before.before.before.before.before.before.before.before.before.before.before.before.before.before.partition_marked_with_lem.ensures.0 in
-    let z = c.before.before.before.before.before.before.before.before.before.before.before.before.before.before.before.before.before.before.partition_marked_with_lem.ensures.1 in
+returns c = let a = c.before.before.before.before.before.before.before.before.before.before.before.before.before.before.before.before.before.before.before.before.before.before.before.before.before.before.before.before.before.before.before.before.before.before.before.before.before.before.before.before.before.before.before.before.before.before.before.before.before.before.before.before in
+    let e = c.partition_marked_with-c.ensures.0 in
+    let z = c.partition_marked_with-c.ensures.1 in
     let z0 = z.0 ∙
-    ap zeros c.before.before.before.before.before.before.before.before.before.before.before.before.before.before.before.before.before.before.before.before.before.before.before.before.before.before.before.before.before.before.before.before.before.before.clear-three.auto.0 in
+    ap zeros c.clear_three.auto.a in
     let z1 = z.1 ∙
-    ap zeros c.before.before.before.before.before.before.before.before.before.before.before.before.before.before.before.before.before.before.before.before.before.before.before.before.before.before.before.before.before.before.before.before.before.before.clear-three.auto.1.0 in
+    ap zeros c.clear_three.auto.b in
     let z2 = z.2 ∙
-    ap zeros c.before.before.before.before.before.before.before.before.before.before.before.before.before.before.before.before.before.before.before.before.before.before.before.before.before.before.before.before.before.before.before.before.before.before.clear-three.auto.1.1.0 in
-    left_done (division_refusal (P a) a.args.block-index a.args.numbers.now (W a)) _
-    c.before.before.before.before.before.before.before.before.before.before.before.before.before.before.before.before.before.before.before.before.before.before.before.before.before.before.before.before.before.before.before.before.before.before.before.before.before.before.before.division-refusal.ensures (P a, W a)
-    (partition_marked (P a) a.args.block-index a.args.numbers.now, cleared_work (W a)) (values a) _ _
-    c.before.before.before.before.before.before.before.before.before.before.before.before.before.before.before.before.before.before.before.before.before.before.before.before.before.before.before.before.before.before.before.before.before.before.before.before.before.before.if1.false
-    (ap (λ (c : ℕ). done (a.args.block-index ∷ a.args.partition.count ∷ c ∷ [])) (ap (λ (t : Partition). t.count) e))
+    ap zeros c.clear_three.auto.c in
+    left_done (division_refusal (P a) a.args.block_index a.args.numbers.now (W a)) _
+    c.division_refusal-t.ensures (P a, W a)
+    (partition_marked (P a) a.args.block_index a.args.numbers.now, cleared_work (W a)) (values a) _ _
+    c.if-number-ne0.false
+    (ap (λ (c : ℕ). done (a.args.block_index ∷ a.args.partition.count ∷ c ∷ [])) (ap (λ (t : Partition). t.count) e))
     (λ i. (e i, record { old_elements = z0 i; block_sizes = z1 i; spare = z2 i }))
 
-pub partition-marked-with-spec : {M : Type 1} → statement M
-partition-marked-with-spec =
+pub partition_marked_with_spec : {M : Type 1} → statement M
+partition_marked_with_spec =
     tie.close
     (tie.spec
-    cast-n
-    cast-count
-    division-refusal-requires
-    same_length
-    same-length-2
-    same-length-3
-    same-length-4
-    same-length-5
-    same-length-6
-    returns
-    clear-three-requires
-    partition-marked-with-requires
-    same-length-7
-    same-length-8
-    same-length-9
-    same-length-10
-    same-length-11
-    same-length-12
-    same-length-13
-    same-length-14
-    same-length-15
-    returns-2)
+    overflow_cast-n
+    overflow_cast-count
+    division_refusal-t-requires
+    shape_of-elements-then-number-ne0
+    shape_of-element_offset-then-number-ne0
+    shape_of-element_to_block-then-number-ne0
+    shape_of-begin-then-number-ne0
+    shape_of-marked_split-then-number-ne0
+    shape_of-end-then-number-ne0
+    returns-then-number-ne0
+    clear_three-requires
+    partition_marked_with-c-requires
+    shape_of-elements
+    shape_of-element_offset
+    shape_of-element_to_block
+    shape_of-begin
+    shape_of-marked_split
+    shape_of-end
+    shape_of-old_elements
+    shape_of-block_sizes
+    shape_of-spare
+    returns)

@@ -10,107 +10,104 @@ use Rattle.partition_split.proofs.split_marked.Tie as tie
 abbrev P : tie.Start → Partition
 P a =
     parts a.args.elements.now a.args.element_offset.now a.args.element_to_block.now a.args.begin.now
-    a.args.marked_split_lem.now a.args.end.now a.args.partition.n a.args.partition.count
+    a.args.marked_split.now a.args.end.now a.args.partition.n a.args.partition.count
 
-cast-n : tie.Need-overflow-cast-n
-cast-n c = search rules
+overflow_cast-n : tie.Need-overflow_cast-n
+overflow_cast-n c = search rules
 
-cast-count : tie.Need-overflow-cast-count
-cast-count c = search rules
+overflow_cast-count : tie.Need-overflow_cast-count
+overflow_cast-count c = search rules
 
-argument-refusal-requires : tie.Need-argument-refusal-requires
-argument-refusal-requires c κs = search rules
+argument_refusal-t-requires : tie.Need-argument_refusal-t-requires
+argument_refusal-t-requires c κs = search rules
 
-refusing-number-requires : tie.Need-refusing-number-requires
-refusing-number-requires c κs = search rules
+refusing_number-requires : tie.Need-refusing_number-requires
+refusing_number-requires c κs = search rules
 
-same_length : tie.Need-same-length
-same_length c = search rules
+shape_of-elements-then-refused-ne0 : tie.Need-shape_of-elements-then-refused-ne0
+shape_of-elements-then-refused-ne0 c = search rules
 
-same-length-2 : tie.Need-same-length-2
-same-length-2 c = search rules
+shape_of-element_offset-then-refused-ne0 : tie.Need-shape_of-element_offset-then-refused-ne0
+shape_of-element_offset-then-refused-ne0 c = search rules
 
-same-length-3 : tie.Need-same-length-3
-same-length-3 c = search rules
+shape_of-element_to_block-then-refused-ne0 : tie.Need-shape_of-element_to_block-then-refused-ne0
+shape_of-element_to_block-then-refused-ne0 c = search rules
 
-same-length-4 : tie.Need-same-length-4
-same-length-4 c = search rules
+shape_of-begin-then-refused-ne0 : tie.Need-shape_of-begin-then-refused-ne0
+shape_of-begin-then-refused-ne0 c = search rules
 
-same-length-5 : tie.Need-same-length-5
-same-length-5 c = search rules
+shape_of-marked_split-then-refused-ne0 : tie.Need-shape_of-marked_split-then-refused-ne0
+shape_of-marked_split-then-refused-ne0 c = search rules
 
-same-length-6 : tie.Need-same-length-6
-same-length-6 c = search rules
+shape_of-end-then-refused-ne0 : tie.Need-shape_of-end-then-refused-ne0
+shape_of-end-then-refused-ne0 c = search rules
 
-returns : tie.Need-returns
+returns-then-refused-ne0 : tie.Need-returns-then-refused-ne0
 unfolding split_refusal
-returns c = let a =
-    c.before.before.before.before.before.before.before.before.before.before.before.before.before.before.before.before.before.before in
-    split_refused (P a) a.args.block-index a.args.choice.now _ c.before.before.argument-refusal.ensures
-    c.refusing-number.result c.before.if1.true c.refusing-number.ensures
+returns-then-refused-ne0 c = let a = c.before.before.before.before.before.before.before.before.before.before.before.before in
+    split_refused (P a) a.args.block_index a.args.choice.now _ c.argument_refusal-t.ensures
+    c.refusing_number.result c.if-refused-ne0.true c.refusing_number.ensures
 
-split-marked-requires : tie.Need-split-marked-requires
+split_marked-after-requires : tie.Need-split_marked-after-requires
 unfolding split_refusal
-split-marked-requires c κs = let a =
-    c.before.before.before.before.before.before.before.before.before.before.before.before.before.before.before.before.before.before.before.before.before.before.before in
-    let q = split_ready (P a) a.args.block-index a.args.choice.now _
-    c.before.before.before.before.before.before.before.argument-refusal.ensures
-    c.before.before.before.before.before.before.if1.false in
+split_marked-after-requires c κs = let a = c.before.before.before.before.before.before.before.before.before.before.before.before.before.before.before.before.before in
+    let q = split_ready (P a) a.args.block_index a.args.choice.now _
+    c.argument_refusal-t.ensures
+    c.if-refused-ne0.false in
     (q.sound, (q.known, q.room))
 
 number-requires : tie.Need-number-requires
 number-requires c κs = search rules
 
-same-length-7 : tie.Need-same-length-7
-same-length-7 c = search rules
+shape_of-elements : tie.Need-shape_of-elements
+shape_of-elements c = search rules
 
-same-length-8 : tie.Need-same-length-8
-same-length-8 c = search rules
+shape_of-element_offset : tie.Need-shape_of-element_offset
+shape_of-element_offset c = search rules
 
-same-length-9 : tie.Need-same-length-9
-same-length-9 c = search rules
+shape_of-element_to_block : tie.Need-shape_of-element_to_block
+shape_of-element_to_block c = search rules
 
-same-length-10 : tie.Need-same-length-10
-same-length-10 c = search rules
+shape_of-begin : tie.Need-shape_of-begin
+shape_of-begin c = search rules
 
-same-length-11 : tie.Need-same-length-11
-same-length-11 c = search rules
+shape_of-marked_split : tie.Need-shape_of-marked_split
+shape_of-marked_split c = search rules
 
-same-length-12 : tie.Need-same-length-12
-same-length-12 c = search rules
+shape_of-end : tie.Need-shape_of-end
+shape_of-end c = search rules
 
-returns-2 : tie.Need-returns-2
+returns : tie.Need-returns
 unfolding split_refusal
-returns-2 c = let a =
-    c.before.before.before.before.before.before.before.before.before.before.before.before.before.before.before.before.before.before.before.before.before.before.before.before.before.before.before.before.before.before.before.before.before.before.before.before.before in
-    split_answered (P a) a.args.block-index a.args.choice.now _
-    c.before.before.before.before.before.before.before.before.before.before.before.before.before.before.before.before.before.before.before.before.before.argument-refusal.ensures c.number.result
-    c.before.before.before.before.before.before.before.before.before.before.before.before.before.before.before.before.before.before.before.before.if1.false
-    c.before.before.before.before.before.before.before.before.before.before.before.before.before.split_marked_lem.result
+returns c = let a = c.before.before.before.before.before.before.before.before.before.before.before.before.before.before.before.before.before.before.before.before.before.before.before.before.before.before.before.before.before.before.before in
+    split_answered (P a) a.args.block_index a.args.choice.now _
+    c.argument_refusal-t.ensures c.number.result
+    c.if-refused-ne0.false
+    c.split_marked-after.result
     c.number.ensures _ _ _ _ _ _
-    c.before.before.before.before.before.before.before.before.before.before.before.before.before.split_marked_lem.ensures
+    c.split_marked-after.ensures
 
-pub split-marked-spec : {M : Type 1} → statement M
-split-marked-spec =
+pub split_marked_spec : {M : Type 1} → statement M
+split_marked_spec =
     tie.close
     (tie.spec
-    cast-n
-    cast-count
-    argument-refusal-requires
-    refusing-number-requires
-    same_length
-    same-length-2
-    same-length-3
-    same-length-4
-    same-length-5
-    same-length-6
-    returns
-    split-marked-requires
+    overflow_cast-n
+    overflow_cast-count
+    argument_refusal-t-requires
+    refusing_number-requires
+    shape_of-elements-then-refused-ne0
+    shape_of-element_offset-then-refused-ne0
+    shape_of-element_to_block-then-refused-ne0
+    shape_of-begin-then-refused-ne0
+    shape_of-marked_split-then-refused-ne0
+    shape_of-end-then-refused-ne0
+    returns-then-refused-ne0
+    split_marked-after-requires
     number-requires
-    same-length-7
-    same-length-8
-    same-length-9
-    same-length-10
-    same-length-11
-    same-length-12
-    returns-2)
+    shape_of-elements
+    shape_of-element_offset
+    shape_of-element_to_block
+    shape_of-begin
+    shape_of-marked_split
+    shape_of-end
+    returns)

@@ -22,57 +22,57 @@ L a = lts a.args.table a.args.source.now a.args.label.now a.args.target.now
 abbrev P : tie.Start → Partition
 P a =
     parts a.args.elements.now a.args.element_offset.now a.args.element_to_block.now a.args.begin.now
-    a.args.marked_split_lem.now a.args.end.now a.args.table.n a.args.count
+    a.args.marked_split.now a.args.end.now a.args.table.n a.args.count
 
 abbrev Out : tie.Start → Three
-Out a = (a.args.result-source.now, (a.args.result-label.now, a.args.result-target.now))
+Out a = (a.args.result_source.now, (a.args.result_label.now, a.args.result_target.now))
 
 abbrev Work : tie.Start → List (List ℕ)
 Work a =
     a.args.a.now ∷ a.args.b.now ∷ a.args.c.now ∷ a.args.order.now ∷ a.args.spare.now ∷ a.args.chosen.now ∷ []
 
 -- where the call begins
-abbrev S : tie.After-check → tie.Start
+abbrev S : tie.After-check-t → tie.Start
 S q =
     q.before.before.before.before.before.before.before.before.before.before.before.before.before.before.before.before.before.before.before.before.before.before.before
 
 -- what the check has answered, and what holds where it refuses nothing
-checked : (q : tie.After-check) → q.check.result ≡ quotient_refusal (L (S q)) (P (S q)) (Out (S q)) (Work (S q))
+checked : (q : tie.After-check-t) → q.check-t.result ≡ quotient_refusal (L (S q)) (P (S q)) (Out (S q)) (Work (S q))
 unfolding quotient_refusal
-checked q = q.check.ensures ∙ ap (λ (b : Bool). due (both_tests (L (S q)) (P (S q)) b)) q.before.room_for.ensures
+checked q = q.check-t.ensures ∙ ap (λ (b : Bool). due (both_tests (L (S q)) (P (S q)) b)) q.room_for-room.ensures
 
-ready : (q : tie.After-check) → q.check.result.number ≡ 0 → QuotientReady (L (S q)) (P (S q)) (Out (S q)) (Work (S q))
+ready : (q : tie.After-check-t) → q.check-t.result.number ≡ 0 → QuotientReady (L (S q)) (P (S q)) (Out (S q)) (Work (S q))
 ready q z = quotient_ready (L (S q)) (P (S q)) (Out (S q)) (Work (S q)) _ (checked q) refl z
 
-cast-room-for : tie.Need-overflow-cast-room-for
-cast-room-for c = search rules
+overflow_cast-table : tie.Need-overflow_cast-table
+overflow_cast-table c = search rules
 
-slice-aggregate-room-for : tie.Need-slice-aggregate-room-for
-slice-aggregate-room-for c = search rules
+slice_bounds-room_for-end : tie.Need-slice_bounds-room_for-end
+slice_bounds-room_for-end c = search rules
 
-slice-aggregate-room-for-2 : tie.Need-slice-aggregate-room-for-2
-slice-aggregate-room-for-2 c = search rules
+slice_bounds-room_for-end-2 : tie.Need-slice_bounds-room_for-end-2
+slice_bounds-room_for-end-2 c = search rules
 
-room-for-requires : tie.Need-room-for-requires
-room-for-requires c κs = search rules
+room_for-room-requires : tie.Need-room_for-room-requires
+room_for-room-requires c κs = search rules
 
-check-requires : tie.Need-check-requires
-check-requires c κs = search rules
+check-t-requires : tie.Need-check-t-requires
+check-t-requires c κs = search rules
 
-refusing-table-requires : tie.Need-refusing-table-requires
-refusing-table-requires c κs = search rules
+refusing_table-requires : tie.Need-refusing_table-requires
+refusing_table-requires c κs = search rules
 
-returns : tie.Need-returns
-returns c =
+returns-then-number-ne0 : tie.Need-returns-then-number-ne0
+returns-then-number-ne0 c =
     let q = c.before.before in
     let a = S q in
-    block_refused a.args.branching a.args.eliminate-tau-loops (L a) (P a) (Out a) (Work a) _ (checked q) _
-    c.before.if1.true c.refusing-table.ensures
+    block_refused a.args.branching a.args.eliminate_tau_loops (L a) (P a) (Out a) (Work a) _ (checked q) _
+    c.if-number-ne0.true c.refusing_table.ensures
 
-quotient-block-requires : tie.Need-quotient-block-requires
-quotient-block-requires c κs =
+quotient_block-requires : tie.Need-quotient_block-requires
+quotient_block-requires c κs =
     let q = c.before.before.before.before.before.before.before.before.before.before in
-    let r = ready q c.before.before.before.before.before.before.before.before.before.if1.false in
+    let r = ready q c.if-number-ne0.false in
     let x = r.results in
     let w = r.works in (
       r.valid,
@@ -88,62 +88,62 @@ quotient-block-requires c κs =
       ),
     )
 
-same_length : tie.Need-same-length
-same_length c = search rules
+shape_of-result_source : tie.Need-shape_of-result_source
+shape_of-result_source c = search rules
 
-same-length-2 : tie.Need-same-length-2
-same-length-2 c = search rules
+shape_of-result_label : tie.Need-shape_of-result_label
+shape_of-result_label c = search rules
 
-same-length-3 : tie.Need-same-length-3
-same-length-3 c = search rules
+shape_of-result_target : tie.Need-shape_of-result_target
+shape_of-result_target c = search rules
 
-same-length-4 : tie.Need-same-length-4
-same-length-4 c = search rules
+shape_of-a : tie.Need-shape_of-a
+shape_of-a c = search rules
 
-same-length-5 : tie.Need-same-length-5
-same-length-5 c = search rules
+shape_of-b : tie.Need-shape_of-b
+shape_of-b c = search rules
 
-same-length-6 : tie.Need-same-length-6
-same-length-6 c = search rules
+shape_of-c : tie.Need-shape_of-c
+shape_of-c c = search rules
 
-same-length-7 : tie.Need-same-length-7
-same-length-7 c = search rules
+shape_of-order : tie.Need-shape_of-order
+shape_of-order c = search rules
 
-same-length-8 : tie.Need-same-length-8
-same-length-8 c = search rules
+shape_of-spare : tie.Need-shape_of-spare
+shape_of-spare c = search rules
 
-same-length-9 : tie.Need-same-length-9
-same-length-9 c = search rules
+shape_of-chosen : tie.Need-shape_of-chosen
+shape_of-chosen c = search rules
 
-returns-2 : tie.Need-returns-2
-returns-2 c =
+returns : tie.Need-returns
+returns c =
     let q = c.before.before.before.before.before.before.before.before.before.before.before.before.before.before.before.before.before.before.before.before.before.before.before.before.before.before.before.before.before in
     let a = S q in
-    let r = c.before.before.before.before.before.before.before.before.before.before.before.before.before.before.before.before.before.before.quotient-block.ensures in
+    let r = c.quotient_block.ensures in
     let w = r.1 in
-    block_call_answered a.args.branching a.args.eliminate-tau-loops (L a) (P a) (Out a) (Work a) _ (checked q) _
-    c.before.before.before.before.before.before.before.before.before.before.before.before.before.before.before.before.before.before.before.before.before.before.before.before.before.before.before.before.if1.false _ r.0 _ (λ i. w.0 i ∷
+    block_call_answered a.args.branching a.args.eliminate_tau_loops (L a) (P a) (Out a) (Work a) _ (checked q) _
+    c.if-number-ne0.false _ r.0 _ (λ i. w.0 i ∷
     w.1 i ∷ w.2 i ∷ w.3 i ∷ w.4 i ∷ w.5 i ∷ [])
 
-pub quotient-lts-block-spec : {M : Type 1} → statement M
-quotient-lts-block-spec =
+pub quotient_lts_block_spec : {M : Type 1} → statement M
+quotient_lts_block_spec =
     tie.close
     (tie.spec
-    cast-room-for
-    slice-aggregate-room-for
-    slice-aggregate-room-for-2
-    room-for-requires
-    check-requires
-    refusing-table-requires
-    returns
-    quotient-block-requires
-    same_length
-    same-length-2
-    same-length-3
-    same-length-4
-    same-length-5
-    same-length-6
-    same-length-7
-    same-length-8
-    same-length-9
-    returns-2)
+    overflow_cast-table
+    slice_bounds-room_for-end
+    slice_bounds-room_for-end-2
+    room_for-room-requires
+    check-t-requires
+    refusing_table-requires
+    returns-then-number-ne0
+    quotient_block-requires
+    shape_of-result_source
+    shape_of-result_label
+    shape_of-result_target
+    shape_of-a
+    shape_of-b
+    shape_of-c
+    shape_of-order
+    shape_of-spare
+    shape_of-chosen
+    returns)

@@ -21,14 +21,14 @@ abbrev L : tie.Start → Lts
 L a = lts a.args.table a.args.source.now a.args.label.now a.args.target.now
 
 abbrev out : tie.Start → Three
-out a = (a.args.result-source.now, (a.args.result-label.now, a.args.result-target.now))
+out a = (a.args.result_source.now, (a.args.result_label.now, a.args.result_target.now))
 
 abbrev work : tie.Start → List (List ℕ)
 work a =
     a.args.numbers.now
-    ∷ a.args.mid-source.now
-    ∷ a.args.mid-label.now
-    ∷ a.args.mid-target.now
+    ∷ a.args.mid_source.now
+    ∷ a.args.mid_label.now
+    ∷ a.args.mid_target.now
     ∷ a.args.a.now
     ∷ a.args.b.now
     ∷ a.args.c.now
@@ -41,54 +41,54 @@ abbrev values : tie.Start → List ℕ
 values a =
     components (L a)
     ∷ a.args.table.labels
-    ∷ length (new_rows (L a) a.args.eliminate-tau-selfloops)
-    ∷ new_number (L a) a.args.eliminate-tau-selfloops a.args.table.initial
-    ∷ new_number (L a) a.args.eliminate-tau-selfloops a.args.state
+    ∷ length (new_rows (L a) a.args.eliminate_tau_selfloops)
+    ∷ new_number (L a) a.args.eliminate_tau_selfloops a.args.table.initial
+    ∷ new_number (L a) a.args.eliminate_tau_selfloops a.args.state
     ∷ []
 
 abbrev after : tie.Start → Three × List (List ℕ)
-after a = (rows_over (new_rows (L a) a.args.eliminate-tau-selfloops) (out a), zeroed (work a))
+after a = (rows_over (new_rows (L a) a.args.eliminate_tau_selfloops) (out a), zeroed (work a))
 
 -- the check
-module _ (q : tie.After-argument-refusal) where
-  agrees : q.argument-refusal.result ≡ reorder_refusal (L q.before.before.before.before.before.before.before.before.before.before.before.before.before.before.before.before.before.before.before.before.before) q.before.before.before.before.before.before.before.before.before.before.before.before.before.before.before.before.before.before.before.before.before.args.state (out q.before.before.before.before.before.before.before.before.before.before.before.before.before.before.before.before.before.before.before.before.before) (work q.before.before.before.before.before.before.before.before.before.before.before.before.before.before.before.before.before.before.before.before.before)
+module _ (q : tie.After-argument_refusal-t) where
+  agrees : q.argument_refusal-t.result ≡ reorder_refusal (L q.before.before.before.before.before.before.before.before.before.before.before.before.before.before.before.before.before.before.before.before.before) q.args.state (out q.before.before.before.before.before.before.before.before.before.before.before.before.before.before.before.before.before.before.before.before.before) (work q.before.before.before.before.before.before.before.before.before.before.before.before.before.before.before.before.before.before.before.before.before)
   unfolding reorder_refusal
   agrees =
-      q.argument-refusal.ensures
-      ∙ ap (λ (b : Bool). table_argument_refusal (L q.before.before.before.before.before.before.before.before.before.before.before.before.before.before.before.before.before.before.before.before.before) q.before.before.before.before.before.before.before.before.before.before.before.before.before.before.before.before.before.before.before.before.before.args.state q.before.before.before.before.before.before.before.before.before.before.before.before.before.before.before.before.before.before.before.before.before.args.table.n b) q.before.before.room_for.ensures
+      q.argument_refusal-t.ensures
+      ∙ ap (λ (b : Bool). table_argument_refusal (L q.before.before.before.before.before.before.before.before.before.before.before.before.before.before.before.before.before.before.before.before.before) q.args.state q.args.table.n b) q.room_for-room.ensures
 
-  ready : q.argument-refusal.result.number ≡ 0 → ReadyReorder (L q.before.before.before.before.before.before.before.before.before.before.before.before.before.before.before.before.before.before.before.before.before) q.before.before.before.before.before.before.before.before.before.before.before.before.before.before.before.before.before.before.before.before.before.args.state (lengths_of (out q.before.before.before.before.before.before.before.before.before.before.before.before.before.before.before.before.before.before.before.before.before)) (map length (work q.before.before.before.before.before.before.before.before.before.before.before.before.before.before.before.before.before.before.before.before.before))
+  ready : q.argument_refusal-t.result.number ≡ 0 → ReadyReorder (L q.before.before.before.before.before.before.before.before.before.before.before.before.before.before.before.before.before.before.before.before.before) q.args.state (lengths_of (out q.before.before.before.before.before.before.before.before.before.before.before.before.before.before.before.before.before.before.before.before.before)) (map length (work q.before.before.before.before.before.before.before.before.before.before.before.before.before.before.before.before.before.before.before.before.before))
   unfolding reorder_refusal
   ready z =
-      ready_reorder (L q.before.before.before.before.before.before.before.before.before.before.before.before.before.before.before.before.before.before.before.before.before) q.before.before.before.before.before.before.before.before.before.before.before.before.before.before.before.before.before.before.before.before.before.args.state
-      (lengths_of (out q.before.before.before.before.before.before.before.before.before.before.before.before.before.before.before.before.before.before.before.before.before)) (map length (work q.before.before.before.before.before.before.before.before.before.before.before.before.before.before.before.before.before.before.before.before.before)) q.argument-refusal.result agrees z
+      ready_reorder (L q.before.before.before.before.before.before.before.before.before.before.before.before.before.before.before.before.before.before.before.before.before) q.args.state
+      (lengths_of (out q.before.before.before.before.before.before.before.before.before.before.before.before.before.before.before.before.before.before.before.before.before)) (map length (work q.before.before.before.before.before.before.before.before.before.before.before.before.before.before.before.before.before.before.before.before.before)) q.argument_refusal-t.result agrees z
 
-cast-room-for : tie.Need-overflow-cast-room-for
-cast-room-for c = search rules
+overflow_cast-table : tie.Need-overflow_cast-table
+overflow_cast-table c = search rules
 
-slice-aggregate-room-for : tie.Need-slice-aggregate-room-for
-slice-aggregate-room-for c = search rules
+slice_bounds-room_for-end : tie.Need-slice_bounds-room_for-end
+slice_bounds-room_for-end c = search rules
 
-slice-aggregate-room-for-2 : tie.Need-slice-aggregate-room-for-2
-slice-aggregate-room-for-2 c = search rules
+slice_bounds-room_for-end-2 : tie.Need-slice_bounds-room_for-end-2
+slice_bounds-room_for-end-2 c = search rules
 
-room-for-requires : tie.Need-room-for-requires
-room-for-requires c κs = search rules
+room_for-room-requires : tie.Need-room_for-room-requires
+room_for-room-requires c κs = search rules
 
-cast-argument-refusal : tie.Need-overflow-cast-argument-refusal
-cast-argument-refusal c = search rules
+overflow_cast-table-2 : tie.Need-overflow_cast-table-2
+overflow_cast-table-2 c = search rules
 
-argument-refusal-requires : tie.Need-argument-refusal-requires
-argument-refusal-requires c κs = search rules
+argument_refusal-t-requires : tie.Need-argument_refusal-t-requires
+argument_refusal-t-requires c κs = search rules
 
-returns : tie.Need-returns
+returns-then-refused-ne0 : tie.Need-returns-then-refused-ne0
 unfolding tau_cycle_elimination_and_reorder
-returns c = let a = c.before.before.before.before.before.before.before.before.before.before.before.before.before.before.before.before.before.before.before.before.before.before in
-    left_refused (reorder_refusal (L a) a.args.state (out a) (work a)) c.before.argument-refusal.result (agrees c.before)
-    (out a, work a) (after a) (values a) _ c.if1.true refl
+returns-then-refused-ne0 c = let a = c.before.before.before.before.before.before.before.before.before.before.before.before.before.before.before.before.before.before.before.before.before.before in
+    left_refused (reorder_refusal (L a) a.args.state (out a) (work a)) c.argument_refusal-t.result (agrees c.before)
+    (out a, work a) (after a) (values a) _ c.if-refused-ne0.true refl
 
-tau-cycle-elimination-and-reorder-requires : tie.Need-tau-cycle-elimination-and-reorder-requires
-tau-cycle-elimination-and-reorder-requires c κs = let r = ready c.before.before.before.before.before.before.before.before.before.before.before.before.before c.before.before.before.before.before.before.before.before.before.before.before.before.if1.false in
+tau_cycle_elimination_and_reorder-r-requires : tie.Need-tau_cycle_elimination_and_reorder-r-requires
+tau_cycle_elimination_and_reorder-r-requires c κs = let r = ready c.before.before.before.before.before.before.before.before.before.before.before.before.before c.if-refused-ne0.false in
     let x = r.0.result_room in
     let w = r.0.work_room in (
       (r.0.valid, r.1, omega (arith, w.0)),
@@ -107,82 +107,82 @@ tau-cycle-elimination-and-reorder-requires c κs = let r = ready c.before.before
       ),
     )
 
-cast-t70 : tie.Need-overflow-cast-t70
-cast-t70 c = omega (
+overflow_cast-result : tie.Need-overflow_cast-result
+overflow_cast-result c = omega (
   arith,
-  (ready c.before.before.before.before.before.before.before.before.before.before.before.before.before.before.before.before.before.before.before.before.before.before.before.before.before.before.before.before.before.before.before.before.before.before.before.before.before.before.before c.before.before.before.before.before.before.before.before.before.before.before.before.before.before.before.before.before.before.before.before.before.before.before.before.before.before.before.before.before.before.before.before.before.before.before.before.before.before.if1.false).0.valid.few_labels,
+  (ready c.before.before.before.before.before.before.before.before.before.before.before.before.before.before.before.before.before.before.before.before.before.before.before.before.before.before.before.before.before.before.before.before.before.before.before.before.before.before.before c.if-refused-ne0.false).0.valid.few_labels,
 )
 
-same_length : tie.Need-same-length
-same_length c = c.before.before.before.before.before.before.before.before.before.before.before.before.before.before.before.before.before.before.before.before.before.before.before.before.before.tau_cycle_elimination_and_reorder_lem.auto.1.1.1.1.1.1.0
+shape_of-result_source : tie.Need-shape_of-result_source
+shape_of-result_source c = c.tau_cycle_elimination_and_reorder-r.auto.result_source
 
-same-length-2 : tie.Need-same-length-2
-same-length-2 c = c.before.before.before.before.before.before.before.before.before.before.before.before.before.before.before.before.before.before.before.before.before.before.before.before.before.tau_cycle_elimination_and_reorder_lem.auto.1.1.1.1.1.1.1.0
+shape_of-result_label : tie.Need-shape_of-result_label
+shape_of-result_label c = c.tau_cycle_elimination_and_reorder-r.auto.result_label
 
-same-length-3 : tie.Need-same-length-3
-same-length-3 c = c.before.before.before.before.before.before.before.before.before.before.before.before.before.before.before.before.before.before.before.before.before.before.before.before.before.tau_cycle_elimination_and_reorder_lem.auto.1.1.1.1.1.1.1.1.0
+shape_of-result_target : tie.Need-shape_of-result_target
+shape_of-result_target c = c.tau_cycle_elimination_and_reorder-r.auto.result_target
 
-same-length-4 : tie.Need-same-length-4
-same-length-4 c = c.before.before.before.before.before.before.before.before.before.before.before.before.before.before.before.before.before.before.before.before.before.before.before.before.before.tau_cycle_elimination_and_reorder_lem.auto.1.1.1.1.1.1.1.1.1.0
+shape_of-numbers : tie.Need-shape_of-numbers
+shape_of-numbers c = c.tau_cycle_elimination_and_reorder-r.auto.numbers
 
-same-length-5 : tie.Need-same-length-5
-same-length-5 c = c.before.before.before.before.before.before.before.before.before.before.before.before.before.before.before.before.before.before.before.before.before.before.before.before.before.tau_cycle_elimination_and_reorder_lem.auto.1.1.1.1.1.1.1.1.1.1.0
+shape_of-mid_source : tie.Need-shape_of-mid_source
+shape_of-mid_source c = c.tau_cycle_elimination_and_reorder-r.auto.mid_source
 
-same-length-6 : tie.Need-same-length-6
-same-length-6 c = c.before.before.before.before.before.before.before.before.before.before.before.before.before.before.before.before.before.before.before.before.before.before.before.before.before.tau_cycle_elimination_and_reorder_lem.auto.1.1.1.1.1.1.1.1.1.1.1.0
+shape_of-mid_label : tie.Need-shape_of-mid_label
+shape_of-mid_label c = c.tau_cycle_elimination_and_reorder-r.auto.mid_label
 
-same-length-7 : tie.Need-same-length-7
-same-length-7 c = c.before.before.before.before.before.before.before.before.before.before.before.before.before.before.before.before.before.before.before.before.before.before.before.before.before.tau_cycle_elimination_and_reorder_lem.auto.1.1.1.1.1.1.1.1.1.1.1.1.0
+shape_of-mid_target : tie.Need-shape_of-mid_target
+shape_of-mid_target c = c.tau_cycle_elimination_and_reorder-r.auto.mid_target
 
-same-length-8 : tie.Need-same-length-8
-same-length-8 c = c.before.before.before.before.before.before.before.before.before.before.before.before.before.before.before.before.before.before.before.before.before.before.before.before.before.tau_cycle_elimination_and_reorder_lem.auto.1.1.1.1.1.1.1.1.1.1.1.1.1.0
+shape_of-a : tie.Need-shape_of-a
+shape_of-a c = c.tau_cycle_elimination_and_reorder-r.auto.a
 
-same-length-9 : tie.Need-same-length-9
-same-length-9 c = c.before.before.before.before.before.before.before.before.before.before.before.before.before.before.before.before.before.before.before.before.before.before.before.before.before.tau_cycle_elimination_and_reorder_lem.auto.1.1.1.1.1.1.1.1.1.1.1.1.1.1.0
+shape_of-b : tie.Need-shape_of-b
+shape_of-b c = c.tau_cycle_elimination_and_reorder-r.auto.b
 
-same-length-10 : tie.Need-same-length-10
-same-length-10 c = c.before.before.before.before.before.before.before.before.before.before.before.before.before.before.before.before.before.before.before.before.before.before.before.before.before.tau_cycle_elimination_and_reorder_lem.auto.1.1.1.1.1.1.1.1.1.1.1.1.1.1.1.0
+shape_of-c : tie.Need-shape_of-c
+shape_of-c c = c.tau_cycle_elimination_and_reorder-r.auto.c
 
-same-length-11 : tie.Need-same-length-11
-same-length-11 c = c.before.before.before.before.before.before.before.before.before.before.before.before.before.before.before.before.before.before.before.before.before.before.before.before.before.tau_cycle_elimination_and_reorder_lem.auto.1.1.1.1.1.1.1.1.1.1.1.1.1.1.1.1.0
+shape_of-order : tie.Need-shape_of-order
+shape_of-order c = c.tau_cycle_elimination_and_reorder-r.auto.order
 
-same-length-12 : tie.Need-same-length-12
-same-length-12 c = c.before.before.before.before.before.before.before.before.before.before.before.before.before.before.before.before.before.before.before.before.before.before.before.before.before.tau_cycle_elimination_and_reorder_lem.auto.1.1.1.1.1.1.1.1.1.1.1.1.1.1.1.1.1.0
+shape_of-spare : tie.Need-shape_of-spare
+shape_of-spare c = c.tau_cycle_elimination_and_reorder-r.auto.spare
 
-returns-2 : tie.Need-returns-2
+returns : tie.Need-returns
 unfolding tau_cycle_elimination_and_reorder
-returns-2 c = let a = c.before.before.before.before.before.before.before.before.before.before.before.before.before.before.before.before.before.before.before.before.before.before.before.before.before.before.before.before.before.before.before.before.before.before.before.before.before.before.before.before.before.before.before.before.before.before.before.before.before.before.before.before.before.before.before.before.before.before.before.before in
-    let e = c.before.before.before.before.before.before.before.before.before.before.before.before.before.before.before.before.before.before.before.before.before.before.before.before.before.tau_cycle_elimination_and_reorder_lem.ensures in
+returns c = let a = c.before.before.before.before.before.before.before.before.before.before.before.before.before.before.before.before.before.before.before.before.before.before.before.before.before.before.before.before.before.before.before.before.before.before.before.before.before.before.before.before.before.before.before.before.before.before.before.before.before.before.before.before.before.before.before.before.before.before.before.before in
+    let e = c.tau_cycle_elimination_and_reorder-r.ensures in
     let u = e.1.1.1.0 in
     let w = e.1.1.1.1 in
-    left_done (reorder_refusal (L a) a.args.state (out a) (work a)) c.before.before.before.before.before.before.before.before.before.before.before.before.before.before.before.before.before.before.before.before.before.before.before.before.before.before.before.before.before.before.before.before.before.before.before.before.before.before.before.argument-refusal.result (agrees c.before.before.before.before.before.before.before.before.before.before.before.before.before.before.before.before.before.before.before.before.before.before.before.before.before.before.before.before.before.before.before.before.before.before.before.before.before.before.before)
-    (out a, work a) (after a) (values a) _ _ c.before.before.before.before.before.before.before.before.before.before.before.before.before.before.before.before.before.before.before.before.before.before.before.before.before.before.before.before.before.before.before.before.before.before.before.before.before.before.if1.false
+    left_done (reorder_refusal (L a) a.args.state (out a) (work a)) c.argument_refusal-t.result (agrees c.before.before.before.before.before.before.before.before.before.before.before.before.before.before.before.before.before.before.before.before.before.before.before.before.before.before.before.before.before.before.before.before.before.before.before.before.before.before.before)
+    (out a, work a) (after a) (values a) _ _ c.if-refused-ne0.false
     (λ i. done (e.0.0 i ∷ a.args.table.labels ∷ e.0.1 i ∷ e.1.0.0 i ∷ e.1.0.1 i ∷ []))
     (λ i. (e.1.1.0 i, u.0 i ∷ u.1 i ∷ u.2 i ∷ u.3 i ∷ w.0 i ∷ w.1 i ∷ w.2 i ∷ w.3 i ∷ w.4 i ∷ []))
 
-pub tau-cycle-elimination-and-reorder-spec : {M : Type 1} → statement M
-tau-cycle-elimination-and-reorder-spec =
+pub tau_cycle_elimination_and_reorder_spec : {M : Type 1} → statement M
+tau_cycle_elimination_and_reorder_spec =
     tie.close
     (tie.spec
-    cast-room-for
-    slice-aggregate-room-for
-    slice-aggregate-room-for-2
-    room-for-requires
-    cast-argument-refusal
-    argument-refusal-requires
-    returns
-    tau-cycle-elimination-and-reorder-requires
-    cast-t70
-    same_length
-    same-length-2
-    same-length-3
-    same-length-4
-    same-length-5
-    same-length-6
-    same-length-7
-    same-length-8
-    same-length-9
-    same-length-10
-    same-length-11
-    same-length-12
-    returns-2)
+    overflow_cast-table
+    slice_bounds-room_for-end
+    slice_bounds-room_for-end-2
+    room_for-room-requires
+    overflow_cast-table-2
+    argument_refusal-t-requires
+    returns-then-refused-ne0
+    tau_cycle_elimination_and_reorder-r-requires
+    overflow_cast-result
+    shape_of-result_source
+    shape_of-result_label
+    shape_of-result_target
+    shape_of-numbers
+    shape_of-mid_source
+    shape_of-mid_label
+    shape_of-mid_target
+    shape_of-a
+    shape_of-b
+    shape_of-c
+    shape_of-order
+    shape_of-spare
+    returns)

@@ -9,183 +9,183 @@ use Rattle.refinement_numbers.proofs.Hands.{Hand, give_none, give_few, give_new,
 use Rattle.refinement_numbers.proofs.hand_out.Statement.{statement}
 use Rattle.refinement_numbers.proofs.hand_out.Tie as tie
 
-abbrev invariant-loop : tie.invariant-loop
-invariant-loop n element_to_block block₀ notes₀ next₀ s₀ block notes next s = Hand n element_to_block block₀ notes₀ s block notes next
+abbrev invariant-loop-s : tie.invariant-loop-s
+invariant-loop-s n element_to_block block₀ notes₀ next₀ s₀ block notes next s = Hand n element_to_block block₀ notes₀ s block notes next
 
-abbrev decreases-loop : tie.decreases-loop
-decreases-loop n element_to_block block₀ notes₀ next₀ s₀ block notes next s = n - s
+abbrev decreases-loop-s : tie.decreases-loop-s
+decreases-loop-s n element_to_block block₀ notes₀ next₀ s₀ block notes next s = n - s
 
 -- the block of s is noted in a cell
-room : (q : tie.After-at2 invariant-loop decreases-loop) → q.before.before.at.result < length q.before.before.before.before.loop.notes
+room : (q : tie.After-at-k invariant-loop-s decreases-loop-s) → q.at-b.result < length q.loop-s.notes
 room q =
-    let a = q.before.before.before.before.before.before.before.before in
-    let l = q.before.before.before.before.loop in
+    let a = q in
+    let l = q.loop-s in
     omega (
       arith,
-      q.before.before.at.ensures.0,
-      a.requires.1.0 l.s (omega (arith, q.before.before.before.loop-test)),
+      q.at-b.ensures.0,
+      a.requires.1.0 l.s (omega (arith, q.loop-s-test)),
       l.invariant.size,
     )
 
-few : (q : tie.After-at2 invariant-loop decreases-loop) → q.before.before.before.before.loop.next ≤ q.before.before.before.before.loop.s
-few q = give_few _ _ _ _ _ _ _ _ q.before.before.before.before.loop.invariant
+few : (q : tie.After-at-k invariant-loop-s decreases-loop-s) → q.loop-s.next ≤ q.loop-s.s
+few q = give_few _ _ _ _ _ _ _ _ q.loop-s.invariant
 
-loop-holds : tie.Need-loop-init invariant-loop decreases-loop
-loop-holds c = give_none _ _ _ _ c.before.before.before.requires.1.1
+loop-s-init : tie.Need-loop-s-init invariant-loop-s decreases-loop-s
+loop-s-init c = give_none _ _ _ _ c.requires.1.1
 
-at-requires : tie.Need-at-requires invariant-loop decreases-loop
-at-requires c κs = search rules
+at-b-requires : tie.Need-at-b-requires invariant-loop-s decreases-loop-s
+at-b-requires c κs = search rules
 
-at-requires-2 : tie.Need-at-requires-2 invariant-loop decreases-loop
-at-requires-2 c κs =
-    let a = c.before.before.before.before.before.before.before in
+at-k-requires : tie.Need-at-k-requires invariant-loop-s decreases-loop-s
+at-k-requires c κs =
+    let a = c in
     omega (
       arith,
-      c.before.at.ensures.0,
-      a.requires.1.0 c.before.before.before.loop.s
-          (omega (arith, c.before.before.loop-test)),
-      c.before.before.before.loop.invariant.size,
+      c.at-b.ensures.0,
+      a.requires.1.0 c.loop-s.s
+          (omega (arith, c.loop-s-test)),
+      c.loop-s.invariant.size,
     )
 
-add-notes : tie.Need-overflow-add-notes invariant-loop decreases-loop
-add-notes c =
-    let a = c.before.before.before.before.before.before.before.before.before in
-    let loop-test = c.before.before.before.before.loop-test in
+overflow_add-notes : tie.Need-overflow_add-notes invariant-loop-s decreases-loop-s
+overflow_add-notes c =
+    let a = c in
+    let loop-test = c.loop-s-test in
     record { fits = omega (arith, few c.before, loop-test, a.requires.0) }
 
-cast-notes : tie.Need-overflow-cast-notes invariant-loop decreases-loop
-cast-notes c =
-    let a = c.before.before.before.before.before.before.before.before.before in
-    let loop-test = c.before.before.before.before.loop-test in
+overflow_cast-notes : tie.Need-overflow_cast-notes invariant-loop-s decreases-loop-s
+overflow_cast-notes c =
+    let a = c in
+    let loop-test = c.loop-s-test in
     record { fits = omega (arith, few c.before, loop-test, a.requires.0) }
 
-mul-notes : tie.Need-overflow-mul-notes invariant-loop decreases-loop
-mul-notes c = record { fits = omega (arith, c.before.before.before.at.ensures.1) }
+offset_bounds-notes-b : tie.Need-offset_bounds-notes-b invariant-loop-s decreases-loop-s
+offset_bounds-notes-b c = record { fits = omega (arith, c.at-b.ensures.1) }
 
-slice-write-notes : tie.Need-slice-write-notes invariant-loop decreases-loop
-slice-write-notes c = room c.before
+bounds-notes-b : tie.Need-bounds-notes-b invariant-loop-s decreases-loop-s
+bounds-notes-b c = room c.before
 
-cast-block : tie.Need-overflow-cast-block invariant-loop decreases-loop
-cast-block c =
-    let a = c.before.before.before.before.before.before.before.before.before in
-    let loop-test = c.before.before.before.before.loop-test in
+overflow_cast-block : tie.Need-overflow_cast-block invariant-loop-s decreases-loop-s
+overflow_cast-block c =
+    let a = c in
+    let loop-test = c.loop-s-test in
     record { fits = omega (arith, few c.before, loop-test, a.requires.0) }
 
-mul-block : tie.Need-overflow-mul-block invariant-loop decreases-loop
-mul-block c =
-    let a = c.before.before.before.before.before.before.before.before.before in
-    let loop-test = c.before.before.before.before.loop-test in
+offset_bounds-block-s : tie.Need-offset_bounds-block-s invariant-loop-s decreases-loop-s
+offset_bounds-block-s c =
+    let a = c in
+    let loop-test = c.loop-s-test in
     record { fits = omega (arith, loop-test, a.requires.0) }
 
-slice-write-block : tie.Need-slice-write-block invariant-loop decreases-loop
-slice-write-block c =
-    let a = c.before.before.before.before.before.before.before.before.before in
-    let loop-test = c.before.before.before.before.loop-test in
-    let l = c.before.before.before.before.before.loop in
+bounds-block-s : tie.Need-bounds-block-s invariant-loop-s decreases-loop-s
+bounds-block-s c =
+    let a = c in
+    let loop-test = c.loop-s-test in
+    let l = c.loop-s in
     omega (arith, loop-test, a.requires.0, l.invariant.painted.1.1)
 
-add-next : tie.Need-overflow-add-next invariant-loop decreases-loop
-add-next c =
-    let a = c.before.before.before.before.before.before.before.before.before in
-    let loop-test = c.before.before.before.before.loop-test in
+overflow_add-next : tie.Need-overflow_add-next invariant-loop-s decreases-loop-s
+overflow_add-next c =
+    let a = c in
+    let loop-test = c.loop-s-test in
     record { fits = omega (arith, few c.before, loop-test, a.requires.0) }
 
-add-s : tie.Need-overflow-add-s invariant-loop decreases-loop
-add-s c =
-    let a = c.before.before.before.before.before.before.before.before.before in
-    let loop-test = c.before.before.before.before.loop-test in
+overflow_add-s : tie.Need-overflow_add-s invariant-loop-s decreases-loop-s
+overflow_add-s c =
+    let a = c in
+    let loop-test = c.loop-s-test in
     record { fits = omega (arith, loop-test, a.requires.0) }
 
-loop-less : tie.Need-loop-smaller invariant-loop decreases-loop
-loop-less c = omega (arith, c.before.before.before.before.loop-test)
+loop-s-smaller-then-k-eq0 : tie.Need-loop-s-smaller-then-k-eq0 invariant-loop-s decreases-loop-s
+loop-s-smaller-then-k-eq0 c = omega (arith, c.loop-s-test)
 
-loop-again : tie.Need-loop-preserved invariant-loop decreases-loop
-loop-again c =
-    let a = c.before.before.before.before.before.before.before.before.before in
-    let l = c.before.before.before.before.before.loop in
-    let loop-test = c.before.before.before.before.loop-test in
-    give_new _ _ _ _ _ _ _ _ l.invariant a.requires.0.1 (omega (arith, loop-test)) _ _ c.before.before.before.at.ensures.0
-    c.before.at2.ensures.0 c.if1.true (room c.before)
+loop-s-preserved-then-k-eq0 : tie.Need-loop-s-preserved-then-k-eq0 invariant-loop-s decreases-loop-s
+loop-s-preserved-then-k-eq0 c =
+    let a = c in
+    let l = c.loop-s in
+    let loop-test = c.loop-s-test in
+    give_new _ _ _ _ _ _ _ _ l.invariant a.requires.0.1 (omega (arith, loop-test)) _ _ c.at-b.ensures.0
+    c.at-k.ensures.0 c.if-k-eq0.true (room c.before)
 
-sub-block : tie.Need-overflow-sub-block invariant-loop decreases-loop
-sub-block c = search rules
+overflow_sub-block : tie.Need-overflow_sub-block invariant-loop-s decreases-loop-s
+overflow_sub-block c = search rules
 
-cast-block-2 : tie.Need-overflow-cast-block-2 invariant-loop decreases-loop
-cast-block-2 c = record { fits = omega (arith, c.before.at2.ensures.1) }
+overflow_cast-block-else-k-eq0 : tie.Need-overflow_cast-block-else-k-eq0 invariant-loop-s decreases-loop-s
+overflow_cast-block-else-k-eq0 c = record { fits = omega (arith, c.at-k.ensures.1) }
 
-mul-block-2 : tie.Need-overflow-mul-block-2 invariant-loop decreases-loop
-mul-block-2 c =
-    let a = c.before.before.before.before.before.before.before.before.before in
-    let loop-test = c.before.before.before.before.loop-test in
+offset_bounds-block-s-else-k-eq0 : tie.Need-offset_bounds-block-s-else-k-eq0 invariant-loop-s decreases-loop-s
+offset_bounds-block-s-else-k-eq0 c =
+    let a = c in
+    let loop-test = c.loop-s-test in
     record { fits = omega (arith, loop-test, a.requires.0) }
 
-slice-write-block-2 : tie.Need-slice-write-block-2 invariant-loop decreases-loop
-slice-write-block-2 c =
-    let a = c.before.before.before.before.before.before.before.before.before in
-    let loop-test = c.before.before.before.before.loop-test in
-    let l = c.before.before.before.before.before.loop in
+bounds-block-s-else-k-eq0 : tie.Need-bounds-block-s-else-k-eq0 invariant-loop-s decreases-loop-s
+bounds-block-s-else-k-eq0 c =
+    let a = c in
+    let loop-test = c.loop-s-test in
+    let l = c.loop-s in
     omega (arith, loop-test, a.requires.0, l.invariant.painted.1.1)
 
-add-s-2 : tie.Need-overflow-add-s-2 invariant-loop decreases-loop
-add-s-2 c =
-    let a = c.before.before.before.before.before.before.before.before.before in
-    let loop-test = c.before.before.before.before.loop-test in
+overflow_add-s-else-k-eq0 : tie.Need-overflow_add-s-else-k-eq0 invariant-loop-s decreases-loop-s
+overflow_add-s-else-k-eq0 c =
+    let a = c in
+    let loop-test = c.loop-s-test in
     record { fits = omega (arith, loop-test, a.requires.0) }
 
-loop-less-2 : tie.Need-loop-smaller-2 invariant-loop decreases-loop
-loop-less-2 c = omega (arith, c.before.before.before.before.loop-test)
+loop-s-smaller : tie.Need-loop-s-smaller invariant-loop-s decreases-loop-s
+loop-s-smaller c = omega (arith, c.loop-s-test)
 
-loop-again-2 : tie.Need-loop-preserved-2 invariant-loop decreases-loop
-loop-again-2 c =
-    let a = c.before.before.before.before.before.before.before.before.before in
-    let l = c.before.before.before.before.before.loop in
-    let loop-test = c.before.before.before.before.loop-test in
-    give_old _ _ _ _ _ _ _ _ l.invariant a.requires.0.1 (omega (arith, loop-test)) _ _ c.before.before.before.at.ensures.0
-    c.before.at2.ensures.0 c.if1.false
+loop-s-preserved : tie.Need-loop-s-preserved invariant-loop-s decreases-loop-s
+loop-s-preserved c =
+    let a = c in
+    let l = c.loop-s in
+    let loop-test = c.loop-s-test in
+    give_old _ _ _ _ _ _ _ _ l.invariant a.requires.0.1 (omega (arith, loop-test)) _ _ c.at-b.ensures.0
+    c.at-k.ensures.0 c.if-k-eq0.false
 
-clear-requires : tie.Need-clear-requires invariant-loop decreases-loop
+clear-requires : tie.Need-clear-requires invariant-loop-s decreases-loop-s
 clear-requires c κs = search rules
 
-same_length : tie.Need-same-length invariant-loop decreases-loop
-same_length c = c.before.before.before.before.before.loop.invariant.painted.1.1
+shape_of-block : tie.Need-shape_of-block invariant-loop-s decreases-loop-s
+shape_of-block c = c.loop-s.invariant.painted.1.1
 
-same-length-2 : tie.Need-same-length-2 invariant-loop decreases-loop
-same-length-2 c = c.before.before.clear.auto.0 ∙ c.before.before.before.before.before.loop.invariant.size
+shape_of-notes : tie.Need-shape_of-notes invariant-loop-s decreases-loop-s
+shape_of-notes c = c.clear.auto.a ∙ c.loop-s.invariant.size
 
-returns : tie.Need-returns invariant-loop decreases-loop
+returns : tie.Need-returns invariant-loop-s decreases-loop-s
 returns c =
-    let h = c.before.before.before.before.before.loop.invariant in
-    let done = give_done _ _ _ _ _ _ _ _ h (omega (arith, c.before.before.before.before.loop-test)) in
-    (done.0, done.1, c.before.before.clear.ensures ∙ ap zeros h.size)
+    let h = c.loop-s.invariant in
+    let done = give_done _ _ _ _ _ _ _ _ h (omega (arith, c.loop-s-test)) in
+    (done.0, done.1, c.clear.ensures ∙ ap zeros h.size)
 
-pub hand-out-spec : {M : Type 1} → statement M
-hand-out-spec =
+pub hand_out_spec : {M : Type 1} → statement M
+hand_out_spec =
     tie.close
     (tie.spec
-    invariant-loop
-    decreases-loop
-    loop-holds
-    at-requires
-    at-requires-2
-    add-notes
-    cast-notes
-    mul-notes
-    slice-write-notes
-    cast-block
-    mul-block
-    slice-write-block
-    add-next
-    add-s
-    loop-less
-    loop-again
-    sub-block
-    cast-block-2
-    mul-block-2
-    slice-write-block-2
-    add-s-2
-    loop-less-2
-    loop-again-2
+    invariant-loop-s
+    decreases-loop-s
+    loop-s-init
+    at-b-requires
+    at-k-requires
+    overflow_add-notes
+    overflow_cast-notes
+    offset_bounds-notes-b
+    bounds-notes-b
+    overflow_cast-block
+    offset_bounds-block-s
+    bounds-block-s
+    overflow_add-next
+    overflow_add-s
+    loop-s-smaller-then-k-eq0
+    loop-s-preserved-then-k-eq0
+    overflow_sub-block
+    overflow_cast-block-else-k-eq0
+    offset_bounds-block-s-else-k-eq0
+    bounds-block-s-else-k-eq0
+    overflow_add-s-else-k-eq0
+    loop-s-smaller
+    loop-s-preserved
     clear-requires
-    same_length
-    same-length-2
+    shape_of-block
+    shape_of-notes
     returns)

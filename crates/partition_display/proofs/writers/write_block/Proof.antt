@@ -8,79 +8,79 @@ use Rattle.partition_display.specs.Display.{element_text, block_text}
 use Rattle.partition_display.proofs.writers.write_block.Statement.{statement}
 use Rattle.partition_display.proofs.writers.write_block.Tie as tie
 
-abbrev invariant-loop : tie.invariant-loop
-invariant-loop elements from split to text₀ at size next₀ i₀ text next i =
+abbrev invariant-loop-i : tie.invariant-loop-i
+invariant-loop-i elements from split to text₀ at size next₀ i₀ text next i =
     Joining (λ k. element_text elements split (from + k)) 7 size text₀ next₀ text next i
 
-abbrev decreases-loop : tie.decreases-loop
-decreases-loop elements from split to text₀ at size next₀ i₀ text next i = size - i
+abbrev decreases-loop-i : tie.decreases-loop-i
+decreases-loop-i elements from split to text₀ at size next₀ i₀ text next i = size - i
 
-sub-size : tie.Need-overflow-sub-size invariant-loop decreases-loop
-sub-size c = search rules
+overflow_sub-size : tie.Need-overflow_sub-size invariant-loop-i decreases-loop-i
+overflow_sub-size c = search rules
 
-write-byte-requires : tie.Need-write-byte-requires invariant-loop decreases-loop
-write-byte-requires c κs = search rules
+write_byte-next-requires : tie.Need-write_byte-next-requires invariant-loop-i decreases-loop-i
+write_byte-next-requires c κs = search rules
 
-loop-holds : tie.Need-loop-init invariant-loop decreases-loop
-loop-holds c = (omega arith, (omega arith, separated-none _ _ _))
+loop-i-init : tie.Need-loop-i-init invariant-loop-i decreases-loop-i
+loop-i-init c = (omega arith, (omega arith, separated-none _ _ _))
 
-write-separator-requires : tie.Need-write-separator-requires invariant-loop decreases-loop
-write-separator-requires c κs = search rules
+write_separator-next-requires : tie.Need-write_separator-next-requires invariant-loop-i decreases-loop-i
+write_separator-next-requires c κs = search rules
 
-add-write-element : tie.Need-overflow-add-write-element invariant-loop decreases-loop
-add-write-element c = search rules
+overflow_add-from : tie.Need-overflow_add-from invariant-loop-i decreases-loop-i
+overflow_add-from c = search rules
 
-write-element-requires : tie.Need-write-element-requires invariant-loop decreases-loop
-write-element-requires c κs = search rules
+write_element-next-requires : tie.Need-write_element-next-requires invariant-loop-i decreases-loop-i
+write_element-next-requires c κs = search rules
 
-add-i : tie.Need-overflow-add-i invariant-loop decreases-loop
-add-i c = search rules
+overflow_add-i : tie.Need-overflow_add-i invariant-loop-i decreases-loop-i
+overflow_add-i c = search rules
 
-loop-less : tie.Need-loop-smaller invariant-loop decreases-loop
-loop-less c = search rules
+loop-i-smaller : tie.Need-loop-i-smaller invariant-loop-i decreases-loop-i
+loop-i-smaller c = search rules
 
-loop-again : tie.Need-loop-preserved invariant-loop decreases-loop
-loop-again c = (
+loop-i-preserved : tie.Need-loop-i-preserved invariant-loop-i decreases-loop-i
+loop-i-preserved c = (
   omega arith,
   (
     omega arith,
-    separated_more _ _ c.before.before.before.before.before.before.before.before.before.loop.invariant.1.1
-        c.before.before.before.before.before.before.write-separator.ensures.0 c.before.before.write-element.ensures.0,
+    separated_more _ _ c.loop-i.invariant.1.1
+        c.write_separator-next.ensures.0 c.write_element-next.ensures.0,
   ),
 )
 
-write-byte-requires-2 : tie.Need-write-byte-requires-2 invariant-loop decreases-loop
-write-byte-requires-2 c κs = search rules
+write_byte-requires : tie.Need-write_byte-requires invariant-loop-i decreases-loop-i
+write_byte-requires c κs = search rules
 
-same_length : tie.Need-same-length invariant-loop decreases-loop
-same_length c = wrote_length c.before.before.write-byte2.ensures.0 ∙
-    wrote_length c.before.before.before.before.before.loop.invariant.1.1 ∙
-    wrote_length c.before.before.before.before.before.before.before.before.write_byte.ensures.0
+shape_of-text : tie.Need-shape_of-text invariant-loop-i decreases-loop-i
+shape_of-text c = wrote_length c.write_byte.ensures.0 ∙
+    wrote_length c.loop-i.invariant.1.1 ∙
+    wrote_length c.write_byte-next.ensures.0
 
-returns : tie.Need-returns invariant-loop decreases-loop
+returns : tie.Need-returns invariant-loop-i decreases-loop-i
 unfolding block_text
-returns c = let a = c.before.before.before.before.before.before.before.before.before.before.before.before in
-    let e : c.before.before.before.before.before.loop.i ≡ a.args.to - a.args.from = omega arith in (
-      separated_done _ _ _ c.before.before.before.before.before.before.before.before.write_byte.ensures.0
-          c.before.before.before.before.before.loop.invariant.1.1 c.before.before.write-byte2.ensures.0 e,
+returns c = let a = c in
+    let e : c.loop-i.i ≡ a.args.to - a.args.from = omega arith in (
+      separated_done _ _ _ c.write_byte-next.ensures.0
+          c.loop-i.invariant.1.1 c.write_byte.ensures.0 e,
       omega arith,
     )
 
-pub write-block-spec : {M : Type 1} → statement M
-write-block-spec =
+pub write_block_spec : {M : Type 1} → statement M
+write_block_spec =
     tie.close
     (tie.spec
-    invariant-loop
-    decreases-loop
-    sub-size
-    write-byte-requires
-    loop-holds
-    write-separator-requires
-    add-write-element
-    write-element-requires
-    add-i
-    loop-less
-    loop-again
-    write-byte-requires-2
-    same_length
+    invariant-loop-i
+    decreases-loop-i
+    overflow_sub-size
+    write_byte-next-requires
+    loop-i-init
+    write_separator-next-requires
+    overflow_add-from
+    write_element-next-requires
+    overflow_add-i
+    loop-i-smaller
+    loop-i-preserved
+    write_byte-requires
+    shape_of-text
     returns)

@@ -10,91 +10,89 @@ use Rattle.partition_display.specs.Display.{block_text, blocks_text}
 use Rattle.partition_display.proofs.writers.write_blocks.Statement.{statement}
 use Rattle.partition_display.proofs.writers.write_blocks.Tie as tie
 
-abbrev invariant-loop : tie.invariant-loop
-invariant-loop count elements begin marked_split_lem end text₀ next₀ b₀ text next b =
+abbrev invariant-loop-b : tie.invariant-loop-b
+invariant-loop-b count elements begin marked_split_lem end text₀ next₀ b₀ text next b =
     Joining (λ k. block_text elements (get_or begin k 0) (get_or marked_split_lem k 0) (get_or end k 0)) (7 * 65535 + 4) count text₀ next₀ text next b
 
-abbrev decreases-loop : tie.decreases-loop
-decreases-loop count elements begin marked_split_lem end text₀ next₀ b₀ text next b = count - b
+abbrev decreases-loop-b : tie.decreases-loop-b
+decreases-loop-b count elements begin marked_split_lem end text₀ next₀ b₀ text next b = count - b
 
-write-byte-requires : tie.Need-write-byte-requires invariant-loop decreases-loop
-write-byte-requires c κs = search rules
+write_byte-next-requires : tie.Need-write_byte-next-requires invariant-loop-b decreases-loop-b
+write_byte-next-requires c κs = search rules
 
-loop-holds : tie.Need-loop-init invariant-loop decreases-loop
-loop-holds c = (omega arith, (omega arith, separated-none _ _ _))
+loop-b-init : tie.Need-loop-b-init invariant-loop-b decreases-loop-b
+loop-b-init c = (omega arith, (omega arith, separated-none _ _ _))
 
-at-requires : tie.Need-at-requires invariant-loop decreases-loop
-at-requires c κs = search rules
+at-from-requires : tie.Need-at-from-requires invariant-loop-b decreases-loop-b
+at-from-requires c κs = search rules
 
-at-requires-2 : tie.Need-at-requires-2 invariant-loop decreases-loop
-at-requires-2 c κs = search rules
+at-split-requires : tie.Need-at-split-requires invariant-loop-b decreases-loop-b
+at-split-requires c κs = search rules
 
-at-requires-3 : tie.Need-at-requires-3 invariant-loop decreases-loop
-at-requires-3 c κs = search rules
+at-to-requires : tie.Need-at-to-requires invariant-loop-b decreases-loop-b
+at-to-requires c κs = search rules
 
-write-separator-requires : tie.Need-write-separator-requires invariant-loop decreases-loop
-write-separator-requires c κs = search rules
+write_separator-next-requires : tie.Need-write_separator-next-requires invariant-loop-b decreases-loop-b
+write_separator-next-requires c κs = search rules
 
-write-block-requires : tie.Need-write-block-requires invariant-loop decreases-loop
-write-block-requires c κs = let a =
-    c.before.before.before.before.before.before.before.before.before.before.before.before.before.before.before.before.before.before.before in
-    let q = a.pre.blocks c.before.before.before.before.before.before.before.before.before.loop.b (omega arith) in
+write_block-next-requires : tie.Need-write_block-next-requires invariant-loop-b decreases-loop-b
+write_block-next-requires c κs = let a = c in
+    let q = a.requires.blocks c.loop-b.b (omega arith) in
     omega arith
 
-add-b : tie.Need-overflow-add-b invariant-loop decreases-loop
-add-b c = search rules
+overflow_add-b : tie.Need-overflow_add-b invariant-loop-b decreases-loop-b
+overflow_add-b c = search rules
 
-loop-less : tie.Need-loop-smaller invariant-loop decreases-loop
-loop-less c = search rules
+loop-b-smaller : tie.Need-loop-b-smaller invariant-loop-b decreases-loop-b
+loop-b-smaller c = search rules
 
-loop-again : tie.Need-loop-preserved invariant-loop decreases-loop
-loop-again c = (
+loop-b-preserved : tie.Need-loop-b-preserved invariant-loop-b decreases-loop-b
+loop-b-preserved c = (
   omega arith,
   (
     omega arith,
-    separated_more _ _ c.before.before.before.before.before.before.before.before.before.before.before.before.loop.invariant.1.1
-        c.before.before.before.before.before.before.write-separator.ensures.0
+    separated_more _ _ c.loop-b.invariant.1.1
+        c.write_separator-next.ensures.0
         (rw (
-          c.before.before.before.before.before.before.before.before.before.before.at.ensures.0,
-          c.before.before.before.before.before.before.before.before.before.at2.ensures.0,
-          c.before.before.before.before.before.before.before.before.at3.ensures.0,
+          c.at-from.ensures.0,
+          c.at-split.ensures.0,
+          c.at-to.ensures.0,
         )
-        at c.before.before.write-block.ensures.0),
+        at c.write_block-next.ensures.0),
   ),
 )
 
-write-byte-requires-2 : tie.Need-write-byte-requires-2 invariant-loop decreases-loop
-write-byte-requires-2 c κs = search rules
+write_byte-requires : tie.Need-write_byte-requires invariant-loop-b decreases-loop-b
+write_byte-requires c κs = search rules
 
-same_length : tie.Need-same-length invariant-loop decreases-loop
-same_length c = wrote_length c.before.before.write-byte2.ensures.0 ∙
-    wrote_length c.before.before.before.before.before.loop.invariant.1.1 ∙
-    wrote_length c.before.before.before.before.before.before.before.before.write_byte.ensures.0
+shape_of-text : tie.Need-shape_of-text invariant-loop-b decreases-loop-b
+shape_of-text c = wrote_length c.write_byte.ensures.0 ∙
+    wrote_length c.loop-b.invariant.1.1 ∙
+    wrote_length c.write_byte-next.ensures.0
 
-returns : tie.Need-returns invariant-loop decreases-loop
+returns : tie.Need-returns invariant-loop-b decreases-loop-b
 unfolding blocks_text
-returns c = let a =
-    c.before.before.before.before.before.before.before.before.before.before.before.before.before.before.before in
-    let e : c.before.before.before.before.before.loop.b ≡ a.args.count = omega arith in
-    separated_done _ _ _ c.before.before.before.before.before.before.before.before.write_byte.ensures.0
-    c.before.before.before.before.before.loop.invariant.1.1 c.before.before.write-byte2.ensures.0 e
+returns c = let a = c in
+    let e : c.loop-b.b ≡ a.args.count = omega arith in
+    separated_done _ _ _ c.write_byte-next.ensures.0
+    c.loop-b.invariant.1.1 c.write_byte.ensures.0 e
 
-pub write-blocks-spec : {M : Type 1} → statement M
-write-blocks-spec =
+pub write_blocks_spec : {M : Type 1} → statement M
+write_blocks_spec =
     tie.close
     (tie.spec
-    invariant-loop
-    decreases-loop
-    write-byte-requires
-    loop-holds
-    at-requires
-    at-requires-2
-    at-requires-3
-    write-separator-requires
-    write-block-requires
-    add-b
-    loop-less
-    loop-again
-    write-byte-requires-2
-    same_length
+    invariant-loop-b
+    decreases-loop-b
+    write_byte-next-requires
+    loop-b-init
+    at-from-requires
+    at-split-requires
+    at-to-requires
+    write_separator-next-requires
+    write_block-next-requires
+    overflow_add-b
+    loop-b-smaller
+    loop-b-preserved
+    write_byte-requires
+    shape_of-text
     returns)

@@ -5,31 +5,31 @@ use Rattle.partition_display.proofs.Writes.{wrote_byte, wrote_out}
 use Rattle.partition_display.proofs.writers.write_byte.Statement.{statement}
 use Rattle.partition_display.proofs.writers.write_byte.Tie as tie
 
-add-result : tie.Need-overflow-add-result
-add-result c = search rules
+overflow_add-result : tie.Need-overflow_add-result
+overflow_add-result c = search rules
+
+returns-then-text-at : tie.Need-returns-then-text-at
+returns-then-text-at c = (wrote_out _ _ _ c.if-text-at.true, refl)
+
+bounds-text-at : tie.Need-bounds-text-at
+bounds-text-at c = search rules
+
+overflow_add-result-2 : tie.Need-overflow_add-result-2
+overflow_add-result-2 c = search rules
+
+shape_of-text : tie.Need-shape_of-text
+shape_of-text c = search rules
 
 returns : tie.Need-returns
-returns c = (wrote_out _ _ _ c.if1.true, refl)
+returns c = (wrote_byte _ _ _, refl)
 
-slice-write-text : tie.Need-slice-write-text
-slice-write-text c = search rules
-
-add-result-2 : tie.Need-overflow-add-result-2
-add-result-2 c = search rules
-
-same_length : tie.Need-same-length
-same_length c = search rules
-
-returns-2 : tie.Need-returns-2
-returns-2 c = (wrote_byte _ _ _, refl)
-
-pub write-byte-spec : {M : Type 1} → statement M
-write-byte-spec =
+pub write_byte_spec : {M : Type 1} → statement M
+write_byte_spec =
     tie.close
     (tie.spec
-    add-result
-    returns
-    slice-write-text
-    add-result-2
-    same_length
-    returns-2)
+    overflow_add-result
+    returns-then-text-at
+    bounds-text-at
+    overflow_add-result-2
+    shape_of-text
+    returns)

@@ -7,37 +7,37 @@ use Rattle.partition_display.specs.Display.{digit}
 use Rattle.partition_display.proofs.writers.write_digit.Statement.{statement}
 use Rattle.partition_display.proofs.writers.write_digit.Tie as tie
 
+returns-then-x-unit : tie.Need-returns-then-x-unit
+unfolding digit
+returns-then-x-unit c = (rw (lt-ltb _ _ c.if-x-unit.true) (wrote_none _ _), omega arith)
+
+nonzero_div-x : tie.Need-nonzero_div-x
+nonzero_div-x c = search rules
+
+overflow_cast-x : tie.Need-overflow_cast-x
+overflow_cast-x c = search rules
+
+overflow_add-x : tie.Need-overflow_add-x
+overflow_add-x c = search rules
+
+write_byte-requires : tie.Need-write_byte-requires
+write_byte-requires c κs = search rules
+
+shape_of-text : tie.Need-shape_of-text
+shape_of-text c = search rules
+
 returns : tie.Need-returns
 unfolding digit
-returns c = (rw (lt-ltb _ _ c.if1.true) (wrote_none _ _), omega arith)
+returns c = (rw (le-ltb _ _ c.if-x-unit.false) c.write_byte.ensures.0, omega arith)
 
-div-write-byte : tie.Need-nonzero-div-write-byte
-div-write-byte c = search rules
-
-cast-write-byte : tie.Need-overflow-cast-write-byte
-cast-write-byte c = search rules
-
-add-write-byte : tie.Need-overflow-add-write-byte
-add-write-byte c = search rules
-
-write-byte-requires : tie.Need-write-byte-requires
-write-byte-requires c κs = search rules
-
-same_length : tie.Need-same-length
-same_length c = search rules
-
-returns-2 : tie.Need-returns-2
-unfolding digit
-returns-2 c = (rw (le-ltb _ _ c.before.before.before.before.if1.false) c.before.before.write_byte.ensures.0, omega arith)
-
-pub write-digit-spec : {M : Type 1} → statement M
-write-digit-spec =
+pub write_digit_spec : {M : Type 1} → statement M
+write_digit_spec =
     tie.close
     (tie.spec
-    returns
-    div-write-byte
-    cast-write-byte
-    add-write-byte
-    write-byte-requires
-    same_length
-    returns-2)
+    returns-then-x-unit
+    nonzero_div-x
+    overflow_cast-x
+    overflow_add-x
+    write_byte-requires
+    shape_of-text
+    returns)

@@ -7,49 +7,49 @@ use Rattle.partition_display.specs.Display.{element_text}
 use Rattle.partition_display.proofs.writers.write_element.Statement.{statement}
 use Rattle.partition_display.proofs.writers.write_element.Tie as tie
 
-at-requires : tie.Need-at-requires
-at-requires c κs = search rules
+at-x-requires : tie.Need-at-x-requires
+at-x-requires c κs = search rules
 
-write-number-requires : tie.Need-write-number-requires
-write-number-requires c κs = search rules
+write_number-next-requires : tie.Need-write_number-next-requires
+write_number-next-requires c κs = search rules
 
-same_length : tie.Need-same-length
-same_length c = search rules
+shape_of-text-then-k-split : tie.Need-shape_of-text-then-k-split
+shape_of-text-then-k-split c = search rules
+
+returns-then-k-split : tie.Need-returns-then-k-split
+unfolding element_text
+returns-then-k-split c = (
+  rw (lt-leb _ _ c.if-k-split.true, ← c.at-x.ensures.0)
+      (wrote_then c.write_number-next.ensures.0 (wrote_none _ _)),
+  omega arith,
+)
+
+write_byte-requires : tie.Need-write_byte-requires
+write_byte-requires c κs = search rules
+
+shape_of-text : tie.Need-shape_of-text
+shape_of-text c = search rules
 
 returns : tie.Need-returns
 unfolding element_text
 returns c = (
-  rw (lt-leb _ _ c.if1.true, ← c.before.before.before.before.before.at.ensures.0)
-      (wrote_then c.before.before.before.write-number.ensures.0 (wrote_none _ _)),
-  omega arith,
-)
-
-write-byte-requires : tie.Need-write-byte-requires
-write-byte-requires c κs = search rules
-
-same-length-2 : tie.Need-same-length-2
-same-length-2 c = search rules
-
-returns-2 : tie.Need-returns-2
-unfolding element_text
-returns-2 c = (
   rw (
-    le-leb _ _ c.before.before.before.before.if1.false,
-    ← c.before.before.before.before.before.before.before.before.before.at.ensures.0,
+    le-leb _ _ c.if-k-split.false,
+    ← c.at-x.ensures.0,
   )
-      (wrote_then c.before.before.before.before.before.before.before.write-number.ensures.0
-      c.before.before.write_byte.ensures.0),
+      (wrote_then c.write_number-next.ensures.0
+      c.write_byte.ensures.0),
   omega arith,
 )
 
-pub write-element-spec : {M : Type 1} → statement M
-write-element-spec =
+pub write_element_spec : {M : Type 1} → statement M
+write_element_spec =
     tie.close
     (tie.spec
-    at-requires
-    write-number-requires
-    same_length
-    returns
-    write-byte-requires
-    same-length-2
-    returns-2)
+    at-x-requires
+    write_number-next-requires
+    shape_of-text-then-k-split
+    returns-then-k-split
+    write_byte-requires
+    shape_of-text
+    returns)

@@ -6,26 +6,26 @@ use Rattle.partition_display.specs.Display.{decimal}
 use Rattle.partition_display.proofs.writers.write_number.Statement.{statement}
 use Rattle.partition_display.proofs.writers.write_number.Tie as tie
 
-write-digit-requires : tie.Need-write-digit-requires
-write-digit-requires c κs = search rules
+write_digit-a-requires : tie.Need-write_digit-a-requires
+write_digit-a-requires c κs = search rules
 
-write-digit-requires-2 : tie.Need-write-digit-requires-2
-write-digit-requires-2 c κs = search rules
+write_digit-b-requires : tie.Need-write_digit-b-requires
+write_digit-b-requires c κs = search rules
 
-write-digit-requires-3 : tie.Need-write-digit-requires-3
-write-digit-requires-3 c κs = search rules
+write_digit-c-requires : tie.Need-write_digit-c-requires
+write_digit-c-requires c κs = search rules
 
-cast-write-byte : tie.Need-overflow-cast-write-byte
-cast-write-byte c = search rules
+overflow_cast-x : tie.Need-overflow_cast-x
+overflow_cast-x c = search rules
 
-add-write-byte : tie.Need-overflow-add-write-byte
-add-write-byte c = search rules
+overflow_add-x : tie.Need-overflow_add-x
+overflow_add-x c = search rules
 
-write-byte-requires : tie.Need-write-byte-requires
-write-byte-requires c κs = search rules
+write_byte-requires : tie.Need-write_byte-requires
+write_byte-requires c κs = search rules
 
-same_length : tie.Need-same-length
-same_length c = search rules
+shape_of-text : tie.Need-shape_of-text
+shape_of-text c = search rules
 
 returns : tie.Need-returns
 unfolding decimal
@@ -33,20 +33,20 @@ returns c = (
   wrote_then
       (wrote_then
       (wrote_then
-      c.before.before.before.before.before.before.before.before.before.before.before.before.before.before.write-digit.ensures.0 c.before.before.before.before.before.before.before.before.before.before.write-digit2.ensures.0)
-      c.before.before.before.before.before.before.write-digit3.ensures.0) c.before.before.write_byte.ensures.0,
+      c.write_digit-a.ensures.0 c.write_digit-b.ensures.0)
+      c.write_digit-c.ensures.0) c.write_byte.ensures.0,
   omega arith,
 )
 
-pub write-number-spec : {M : Type 1} → statement M
-write-number-spec =
+pub write_number_spec : {M : Type 1} → statement M
+write_number_spec =
     tie.close
     (tie.spec
-    write-digit-requires
-    write-digit-requires-2
-    write-digit-requires-3
-    cast-write-byte
-    add-write-byte
-    write-byte-requires
-    same_length
+    write_digit-a-requires
+    write_digit-b-requires
+    write_digit-c-requires
+    overflow_cast-x
+    overflow_add-x
+    write_byte-requires
+    shape_of-text
     returns)

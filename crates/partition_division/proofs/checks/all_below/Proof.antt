@@ -1,7 +1,8 @@
 -- `all_below` meets its contract.
+use mathlib.Core.Bool.{not}
 use Rattle.std.specs.Prelude.{◌≡◌, ◌-◌, ◌≤◌, true, cond, ltb, get_or}
 use native.Mathlib.Omega.{arith}
-use mathlib.Core.Path.{sym, ◌∙◌}
+use mathlib.Core.Path.{ap, sym, ◌∙◌}
 use Rattle.columns.proofs.All.{all_none, all_more, all_fails, all_done}
 use Rattle.columns.specs.Counting.{all}
 use Rattle.partition.specs.Marked.{marked_from}
@@ -9,54 +10,54 @@ use borrow.Author.Tests.{not-true, not-false}
 use Rattle.partition_division.proofs.checks.all_below.Statement.{statement}
 use Rattle.partition_division.proofs.checks.all_below.Tie as tie
 
-abbrev invariant-loop : tie.invariant-loop
-invariant-loop n offset block b m k numbers s₀ s = (s ≤ n) ×
+abbrev invariant-loop-s : tie.invariant-loop-s
+invariant-loop-s n offset block b m k numbers s₀ s = (s ≤ n) ×
     (all s (λ s. cond (marked_from offset block b m s) (ltb (get_or numbers s 0) k) true) ≡ true)
 
-abbrev decreases-loop : tie.decreases-loop
-decreases-loop n offset block b m k numbers s₀ s = n - s
+abbrev decreases-loop-s : tie.decreases-loop-s
+decreases-loop-s n offset block b m k numbers s₀ s = n - s
 
-loop-holds : tie.Need-loop-init invariant-loop decreases-loop
-loop-holds c = (omega arith, all_none _)
+loop-s-init : tie.Need-loop-s-init invariant-loop-s decreases-loop-s
+loop-s-init c = (omega arith, all_none _)
 
-below-at-requires : tie.Need-below-at-requires invariant-loop decreases-loop
-below-at-requires c κs = omega arith
+below_at-requires : tie.Need-below_at-requires invariant-loop-s decreases-loop-s
+below_at-requires c κs = omega arith
 
-returns : tie.Need-returns invariant-loop decreases-loop
-returns c = let a = c.before.before.before.before.before.before.before.args in
+returns-then-not-below_at : tie.Need-returns-then-not-below_at invariant-loop-s decreases-loop-s
+returns-then-not-below_at c = let a = c.args in
     sym (all_fails (λ s. cond (marked_from a.element_offset.now a.element_to_block.now a.b a.m s)
-    (ltb (get_or a.numbers.now s 0) a.k) true) a.n c.before.before.before.loop.s c.before.before.loop-test.true
-    (sym c.before.below_at.ensures ∙ not-true _ c.if1.true))
+    (ltb (get_or a.numbers.now s 0) a.k) true) a.n c.loop-s.s c.loop-s-test.true
+    (sym c.below_at.ensures ∙ c.if-not-below_at.true))
 
-add-s : tie.Need-overflow-add-s invariant-loop decreases-loop
-add-s c = omega arith
+overflow_add-s : tie.Need-overflow_add-s invariant-loop-s decreases-loop-s
+overflow_add-s c = omega arith
 
-loop-less : tie.Need-loop-smaller invariant-loop decreases-loop
-loop-less c = omega arith
+loop-s-smaller : tie.Need-loop-s-smaller invariant-loop-s decreases-loop-s
+loop-s-smaller c = omega arith
 
-loop-again : tie.Need-loop-preserved invariant-loop decreases-loop
-loop-again c = let a = c.before.before.before.before.before.before.before.args in (
+loop-s-preserved : tie.Need-loop-s-preserved invariant-loop-s decreases-loop-s
+loop-s-preserved c = let a = c.args in (
   omega arith,
   all_more (λ s. cond (marked_from a.element_offset.now a.element_to_block.now a.b a.m s)
-      (ltb (get_or a.numbers.now s 0) a.k) true) c.before.before.before.loop.s c.before.before.before.loop.invariant.1
-      (sym c.before.below_at.ensures ∙ not-false _ c.if1.false),
+      (ltb (get_or a.numbers.now s 0) a.k) true) c.loop-s.s c.loop-s.invariant.1
+      (sym c.below_at.ensures ∙ c.if-not-below_at.false),
 )
 
-returns-2 : tie.Need-returns-2 invariant-loop decreases-loop
-returns-2 c = let a = c.before.before.before.before.before.args in
+returns : tie.Need-returns invariant-loop-s decreases-loop-s
+returns c = let a = c.args in
     all_done (λ s. cond (marked_from a.element_offset.now a.element_to_block.now a.b a.m s)
-    (ltb (get_or a.numbers.now s 0) a.k) true) c.before.loop.s a.n c.before.loop.invariant.1 (omega arith)
+    (ltb (get_or a.numbers.now s 0) a.k) true) c.loop-s.s a.n c.loop-s.invariant.1 (omega arith)
 
-pub all-below-spec : {M : Type 1} → statement M
-all-below-spec =
+pub all_below_spec : {M : Type 1} → statement M
+all_below_spec =
     tie.close
     (tie.spec
-    invariant-loop
-    decreases-loop
-    loop-holds
-    below-at-requires
-    returns
-    add-s
-    loop-less
-    loop-again
-    returns-2)
+    invariant-loop-s
+    decreases-loop-s
+    loop-s-init
+    below_at-requires
+    returns-then-not-below_at
+    overflow_add-s
+    loop-s-smaller
+    loop-s-preserved
+    returns)

@@ -19,7 +19,7 @@ use Rattle.partition_division.proofs.checks.division_refusal.Tie as tie
 abbrev P : tie.Start → Partition
 P a =
     parts a.args.elements.now a.args.element_offset.now a.args.element_to_block.now a.args.begin.now
-    a.args.marked_split_lem.now a.args.end.now a.args.n a.args.count
+    a.args.marked_split.now a.args.end.now a.args.n a.args.count
 
 abbrev Works : tie.Start → List ℕ
 Works a = a.args.old_elements ∷ a.args.block_sizes ∷ a.args.spare ∷ []
@@ -30,34 +30,34 @@ Room a = roomb a.args.n (length a.args.numbers.now) (Works a)
 abbrev Front : tie.Start → List Test
 Front a = partition_tests (P a) (Room a) ++ (index_test a.args.b a.args.count ∷ [])
 
-add-long : tie.Need-overflow-add-long
-add-long c = search rules
+overflow_add-n : tie.Need-overflow_add-n
+overflow_add-n c = search rules
 
-slice-aggregate-long : tie.Need-slice-aggregate-long
-slice-aggregate-long c = search rules
+slice_bounds-long-end : tie.Need-slice_bounds-long-end
+slice_bounds-long-end c = search rules
 
-long-requires : tie.Need-long-requires
-long-requires c κs = search rules
+long-works-requires : tie.Need-long-works-requires
+long-works-requires c κs = search rules
 
-argument-refusal-requires : tie.Need-argument-refusal-requires
-argument-refusal-requires c κs = search rules
+argument_refusal-t-requires : tie.Need-argument_refusal-t-requires
+argument_refusal-t-requires c κs = search rules
 
 -- the room that is tested is that of the definition
 abbrev Asked : tie.Start → Bool → Refusal
 Asked a works =
     argument_refusal (P a) a.args.b a.args.count (leb a.args.n (length a.args.numbers.now) && works)
 
-returns : tie.Need-returns
+returns-then-number-ne0 : tie.Need-returns-then-number-ne0
 unfolding refusal_for roomb argument_refusal
-returns c = let a = c.before.before.before.before.before.before.before.before.before.before.before in
+returns-then-number-ne0 c = let a = c.before.before.before.before.before.before.before.before.before.before.before in
     ends (Front a) (unfit_tests (P a) a.args.b a.args.numbers.now) refl _
-    (c.before.argument-refusal.ensures ∙ ap (Asked a) c.before.before.long.ensures) c.if1.true
+    (c.argument_refusal-t.ensures ∙ ap (Asked a) c.long-works.ensures) c.if-number-ne0.true
 
-unfit-refusal-requires : tie.Need-unfit-refusal-requires
+unfit_refusal-requires : tie.Need-unfit_refusal-requires
 unfolding roomb
-unfit-refusal-requires c κs = let a = c.before.before.before.before.before.before.before.before.before.before.before in
+unfit_refusal-requires c κs = let a = c.before.before.before.before.before.before.before.before.before.before.before in
     let q = argument_ready (P a) a.args.b a.args.count (Room a) _
-    (c.before.argument-refusal.ensures ∙ ap (Asked a) c.before.before.long.ensures) c.if1.false in
+    (c.argument_refusal-t.ensures ∙ ap (Asked a) c.long-works.ensures) c.if-number-ne0.false in
     let w = q.sound.consistent.bounds a.args.b q.known in
     let l : a.args.n ≤ length a.args.numbers.now
     = leb-true _ _ (and_left (leb a.args.n (length a.args.numbers.now)) (all_long (a.args.n + 1) (Works a)) q.enough) in (
@@ -70,21 +70,21 @@ unfit-refusal-requires c κs = let a = c.before.before.before.before.before.befo
       (q.sound.long.element_offset, q.sound.long.element_to_block, l, q.sound.small),
     )
 
-returns-2 : tie.Need-returns-2
+returns : tie.Need-returns
 unfolding refusal_for roomb argument_refusal
-returns-2 c = let a = c.before.before.before.before.before.before.before.before.before.before.before.before in
-    c.unfit-refusal.ensures a.args.elements.now a.args.count
+returns c = let a = c.before.before.before.before.before.before.before.before.before.before.before.before in
+    c.unfit_refusal.ensures a.args.elements.now a.args.count
     ∙ goes_on_lem (Front a) (unfit_tests (P a) a.args.b a.args.numbers.now) refl _
-    (c.before.before.argument-refusal.ensures ∙ ap (Asked a) c.before.before.before.long.ensures) c.before.if1.false
+    (c.argument_refusal-t.ensures ∙ ap (Asked a) c.long-works.ensures) c.if-number-ne0.false
 
-pub division-refusal-spec : {M : Type 1} → statement M
-division-refusal-spec =
+pub division_refusal_spec : {M : Type 1} → statement M
+division_refusal_spec =
     tie.close
     (tie.spec
-    add-long
-    slice-aggregate-long
-    long-requires
-    argument-refusal-requires
-    returns
-    unfit-refusal-requires
-    returns-2)
+    overflow_add-n
+    slice_bounds-long-end
+    long-works-requires
+    argument_refusal-t-requires
+    returns-then-number-ne0
+    unfit_refusal-requires
+    returns)

@@ -7,27 +7,27 @@ use Rattle.columns.proofs.Counting.{first_cong}
 use Rattle.partition_division.proofs.checks.least_missing.Statement.{statement}
 use Rattle.partition_division.proofs.checks.least_missing.Tie as tie
 
-slice-aggregate-note : tie.Need-slice-aggregate-note
-slice-aggregate-note c = search rules
+slice_bounds-note-end : tie.Need-slice_bounds-note-end
+slice_bounds-note-end c = search rules
 
 note-requires : tie.Need-note-requires
-note-requires c κs = (c.before.before.before.before.requires, zeros_at max_states)
+note-requires c κs = (c.requires, zeros_at max_states)
 
-slice-aggregate-first-zero : tie.Need-slice-aggregate-first-zero
-slice-aggregate-first-zero c = search rules
+slice_bounds-first_zero-end : tie.Need-slice_bounds-first_zero-end
+slice_bounds-first_zero-end c = search rules
 
-first-zero-requires : tie.Need-first-zero-requires
-first-zero-requires c κs = search rules
+first_zero-requires : tie.Need-first_zero-requires
+first_zero-requires c κs = search rules
 
 returns : tie.Need-returns
-returns c = c.first-zero.ensures ∙ first_cong _ _ _ c.before.before.before.note.ensures
+returns c = c.first_zero.ensures ∙ first_cong _ _ _ c.note.ensures
 
-pub least-missing-spec : {M : Type 1} → statement M
-least-missing-spec =
+pub least_missing_spec : {M : Type 1} → statement M
+least_missing_spec =
     tie.close
     (tie.spec
-    slice-aggregate-note
+    slice_bounds-note-end
     note-requires
-    slice-aggregate-first-zero
-    first-zero-requires
+    slice_bounds-first_zero-end
+    first_zero-requires
     returns)

@@ -4,20 +4,20 @@ use borrow.Author.Rules.{rules}
 use Rattle.partition_division.proofs.checks.note_one.Statement.{statement}
 use Rattle.partition_division.proofs.checks.note_one.Tie as tie
 
-mul-seen : tie.Need-overflow-mul-seen
-mul-seen c = search rules
+offset_bounds-seen-k : tie.Need-offset_bounds-seen-k
+offset_bounds-seen-k c = search rules
 
-slice-write-seen : tie.Need-slice-write-seen
-slice-write-seen c = search rules
+bounds-seen-k : tie.Need-bounds-seen-k
+bounds-seen-k c = search rules
 
-same_length : tie.Need-same-length
-same_length c = search rules
+shape_of-seen : tie.Need-shape_of-seen
+shape_of-seen c = search rules
 
-returns : tie.Need-returns
-returns c = note_in c.before.args.seen.now _ _ c.if1.true
+returns-then-k-n : tie.Need-returns-then-k-n
+returns-then-k-n c = note_in c.args.seen.now _ _ c.if-k-n.true
 
-returns-2 : tie.Need-returns-2
-returns-2 c = note_out c.before.args.seen.now _ _ c.if1.false
+returns-else-k-n : tie.Need-returns-else-k-n
+returns-else-k-n c = note_out c.args.seen.now _ _ c.if-k-n.false
 
-pub note-one-spec : {M : Type 1} → statement M
-note-one-spec = tie.close (tie.spec mul-seen slice-write-seen same_length returns returns-2)
+pub note_one_spec : {M : Type 1} → statement M
+note_one_spec = tie.close (tie.spec offset_bounds-seen-k bounds-seen-k shape_of-seen returns-then-k-n returns-else-k-n)

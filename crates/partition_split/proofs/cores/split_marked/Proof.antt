@@ -1,4 +1,5 @@
 -- `cores.split_marked` meets its contract.
+use borrow.Author.Tests.{eq-eqb, ne_eqb}
 use borrow.Author.Rules.{rules}
 use native.Mathlib.Omega.{arith}
 use Rattle.partition.specs.Partition.{Partition, parts}
@@ -13,191 +14,183 @@ use Rattle.partition_split.proofs.cores.split_marked.Tie as tie
 abbrev P : tie.Start → Partition
 P a =
     parts a.args.elements.now a.args.element_offset.now a.args.element_to_block.now a.args.begin.now
-    a.args.marked_split_lem.now a.args.end.now a.args.n a.args.count
+    a.args.marked_split.now a.args.end.now a.args.n a.args.count
 
-at-requires : tie.Need-at-requires
-at-requires c κs = search rules
+at-x-requires : tie.Need-at-x-requires
+at-x-requires c κs = search rules
 
-at-requires-2 : tie.Need-at-requires-2
-at-requires-2 c κs = search rules
+at-m-requires : tie.Need-at-m-requires
+at-m-requires c κs = search rules
 
-at-requires-3 : tie.Need-at-requires-3
-at-requires-3 c κs = search rules
+at-z-requires : tie.Need-at-z-requires
+at-z-requires c κs = search rules
 
-sift-requires : tie.Need-sift-requires
-sift-requires c κs = let a =
-    c.before.before.before.before.before.before.before.before.before.before.before.before.before.before.before in
-    sift_ready (P a) a.pre.0 _ a.pre.1.0 a.args.choice.now a.pre.1.1 _ _ _
-    c.before.before.before.before.before.before.at.ensures.0 c.before.before.before.before.at2.ensures.0
-    c.before.before.at3.ensures.0
+sift-e-requires : tie.Need-sift-e-requires
+sift-e-requires c κs = let a = c.before.before.before.before.before.before.before.before.before.before.before.before in
+    sift_ready (P a) a.requires.0 _ a.requires.1.0 a.args.choice.now a.requires.1.1 _ _ _
+    c.at-x.ensures.0 c.at-m.ensures.0
+    c.at-z.ensures.0
 
-same_length : tie.Need-same-length
-same_length c = search rules
+shape_of-elements-then-e-z : tie.Need-shape_of-elements-then-e-z
+shape_of-elements-then-e-z c = search rules
 
-same-length-2 : tie.Need-same-length-2
-same-length-2 c = search rules
+shape_of-element_offset-then-e-z : tie.Need-shape_of-element_offset-then-e-z
+shape_of-element_offset-then-e-z c = search rules
 
-same-length-3 : tie.Need-same-length-3
-same-length-3 c = search rules
+shape_of-begin-then-e-z : tie.Need-shape_of-begin-then-e-z
+shape_of-begin-then-e-z c = search rules
 
-same-length-4 : tie.Need-same-length-4
-same-length-4 c = search rules
+shape_of-marked_split-then-e-z : tie.Need-shape_of-marked_split-then-e-z
+shape_of-marked_split-then-e-z c = search rules
 
-same-length-5 : tie.Need-same-length-5
-same-length-5 c = search rules
+shape_of-end-then-e-z : tie.Need-shape_of-end-then-e-z
+shape_of-end-then-e-z c = search rules
 
-returns : tie.Need-returns
-returns c = let a =
-    c.before.before.before.before.before.before.before.before.before.before.before.before.before.before.before.before.before.before.before.before.before in nothing-chosen (P a) a.pre.0 _ a.pre.1.0 a.args.choice.now a.pre.1.1 _ _ _
-    c.before.before.before.before.before.before.before.before.before.before.before.before.at.ensures.0
-    c.before.before.before.before.before.before.before.before.before.before.at2.ensures.0
-    c.before.before.before.before.before.before.before.before.at3.ensures.0 _ _ _
-    c.before.before.before.before.before.sift.ensures c.if1.true
+returns-then-e-z : tie.Need-returns-then-e-z
+returns-then-e-z c = let a = c.before.before.before.before.before.before.before.before.before.before.before.before.before.before.before.before.before.before in nothing-chosen (P a) a.requires.0 _ a.requires.1.0 a.args.choice.now a.requires.1.1 _ _ _
+    c.at-x.ensures.0
+    c.at-m.ensures.0
+    c.at-z.ensures.0 _ _ _
+    c.sift-e.ensures c.if-e-z.true
 
-marks-then-requires : tie.Need-marks-then-requires
-marks-then-requires c κs = let a =
-    c.before.before.before.before.before.before.before.before.before.before.before.before.before.before.before.before.before.before.before.before.before in (
+marks_then-requires : tie.Need-marks_then-requires
+marks_then-requires c κs = let a = c.before.before.before.before.before.before.before.before.before.before.before.before.before.before.before.before.before.before in (
       omega arith,
-      place_small (P a) a.pre.0 _ a.pre.1.0 a.args.choice.now
-          a.pre.1.1 _ _ _
-          c.before.before.before.before.before.before.before.before.before.before.before.before.at.ensures.0
-          c.before.before.before.before.before.before.before.before.before.before.at2.ensures.0
-          c.before.before.before.before.before.before.before.before.at3.ensures.0 _ _ _
-          c.before.before.before.before.before.sift.ensures,
+      place_small (P a) a.requires.0 _ a.requires.1.0 a.args.choice.now
+          a.requires.1.1 _ _ _
+          c.at-x.ensures.0
+          c.at-m.ensures.0
+          c.at-z.ensures.0 _ _ _
+          c.sift-e.ensures,
     )
 
-cast-marked-split : tie.Need-overflow-cast-marked-split
-cast-marked-split c = search rules
+overflow_cast-marked_split : tie.Need-overflow_cast-marked_split
+overflow_cast-marked_split c = search rules
 
-mul-marked-split : tie.Need-overflow-mul-marked-split
-mul-marked-split c = search rules
+offset_bounds-marked_split-b : tie.Need-offset_bounds-marked_split-b
+offset_bounds-marked_split-b c = search rules
 
-slice-write-marked-split : tie.Need-slice-write-marked-split
-slice-write-marked-split c = search rules
+bounds-marked_split-b : tie.Need-bounds-marked_split-b
+bounds-marked_split-b c = search rules
 
-same-length-6 : tie.Need-same-length-6
-same-length-6 c = search rules
+shape_of-elements-then-all : tie.Need-shape_of-elements-then-all
+shape_of-elements-then-all c = search rules
 
-same-length-7 : tie.Need-same-length-7
-same-length-7 c = search rules
+shape_of-element_offset-then-all : tie.Need-shape_of-element_offset-then-all
+shape_of-element_offset-then-all c = search rules
 
-same-length-8 : tie.Need-same-length-8
-same-length-8 c = search rules
+shape_of-begin-then-all : tie.Need-shape_of-begin-then-all
+shape_of-begin-then-all c = search rules
 
-same-length-9 : tie.Need-same-length-9
-same-length-9 c = search rules
+shape_of-marked_split-then-all : tie.Need-shape_of-marked_split-then-all
+shape_of-marked_split-then-all c = search rules
 
-same-length-10 : tie.Need-same-length-10
-same-length-10 c = search rules
+shape_of-end-then-all : tie.Need-shape_of-end-then-all
+shape_of-end-then-all c = search rules
 
-returns-2 : tie.Need-returns-2
-returns-2 c = let a =
-    c.before.before.before.before.before.before.before.before.before.before.before.before.before.before.before.before.before.before.before.before.before.before.before in all-chosen (P a) a.pre.0 _ a.pre.1.0 a.args.choice.now
-    a.pre.1.1 _ _ _
-    c.before.before.before.before.before.before.before.before.before.before.before.before.before.before.at.ensures.0
-    c.before.before.before.before.before.before.before.before.before.before.before.before.at2.ensures.0
-    c.before.before.before.before.before.before.before.before.before.before.at3.ensures.0 _ _ _
-    c.before.before.before.before.before.before.before.sift.ensures _ c.before.Marks-then.ensures.0 c.if2.true
+returns-then-all : tie.Need-returns-then-all
+returns-then-all c = let a = c.before.before.before.before.before.before.before.before.before.before.before.before.before.before.before.before.before.before.before.before in all-chosen (P a) a.requires.0 _ a.requires.1.0 a.args.choice.now
+    a.requires.1.1 _ _ _
+    c.at-x.ensures.0
+    c.at-m.ensures.0
+    c.at-z.ensures.0 _ _ _
+    c.sift-e.ensures _ c.marks_then.ensures.0 (eq-eqb _ _ c.if-all.true)
 
 cut-requires : tie.Need-cut-requires
-cut-requires c κs = let a =
-    c.before.before.before.before.before.before.before.before.before.before.before.before.before.before.before.before.before.before.before.before.before.before.before.before.before.before in
-    let q = cut_ready (P a) a.pre.0 _ a.pre.1.0 a.args.choice.now a.pre.1.1 _ _ _
-    c.before.before.before.before.before.before.before.before.before.before.before.before.before.before.before.before.before.at.ensures.0
-    c.before.before.before.before.before.before.before.before.before.before.before.before.before.before.before.at2.ensures.0
-    c.before.before.before.before.before.before.before.before.before.before.before.before.before.at3.ensures.0 _ _ _
-    c.before.before.before.before.before.before.before.before.before.before.sift.ensures
-    c.before.before.before.before.before.if1.false c.before.before.before.if2.false in (
+cut-requires c κs = let a = c.before.before.before.before.before.before.before.before.before.before.before.before.before.before.before.before.before.before.before.before.before.before.before in
+    let q = cut_ready (P a) a.requires.0 _ a.requires.1.0 a.args.choice.now a.requires.1.1 _ _ _
+    c.at-x.ensures.0
+    c.at-m.ensures.0
+    c.at-z.ensures.0 _ _ _
+    c.sift-e.ensures
+    c.if-e-z.false (ne_eqb _ _ c.if-all.false) in (
       (omega arith, omega arith, omega arith),
       (
         omega arith,
-        lt-length-set a.args.marked_split_lem.now a.args.b _ (omega arith),
+        lt-length-set a.args.marked_split.now a.args.b _ (omega arith),
         omega arith,
       ),
     )
 
 renumber-requires : tie.Need-renumber-requires
-renumber-requires c κs = let a =
-    c.before.before.before.before.before.before.before.before.before.before.before.before.before.before.before.before.before.before.before.before.before.before.before.before.before.before.before.before.before.before.before.before.before.before.before in
-    let q = cut_ready (P a) a.pre.0 _ a.pre.1.0 a.args.choice.now a.pre.1.1 _ _ _
-    c.before.before.before.before.before.before.before.before.before.before.before.before.before.before.before.before.before.before.before.before.before.before.before.before.before.before.at.ensures.0
-    c.before.before.before.before.before.before.before.before.before.before.before.before.before.before.before.before.before.before.before.before.before.before.before.before.at2.ensures.0
-    c.before.before.before.before.before.before.before.before.before.before.before.before.before.before.before.before.before.before.before.before.before.before.at3.ensures.0 _ _ _
-    c.before.before.before.before.before.before.before.before.before.before.before.before.before.before.before.before.before.before.before.sift.ensures
-    c.before.before.before.before.before.before.before.before.before.before.before.before.before.before.if1.false
-    c.before.before.before.before.before.before.before.before.before.before.before.before.if2.false in
+renumber-requires c κs = let a = c.before.before.before.before.before.before.before.before.before.before.before.before.before.before.before.before.before.before.before.before.before.before.before.before.before.before.before.before.before.before.before in
+    let q = cut_ready (P a) a.requires.0 _ a.requires.1.0 a.args.choice.now a.requires.1.1 _ _ _
+    c.at-x.ensures.0
+    c.at-m.ensures.0
+    c.at-z.ensures.0 _ _ _
+    c.sift-e.ensures
+    c.if-e-z.false
+    (ne_eqb _ _ c.if-all.false) in
     ((omega arith, q.long, omega arith), q.known)
 
-add-result : tie.Need-overflow-add-result
-add-result c = let a =
-    c.before.before.before.before.before.before.before.before.before.before.before.before.before.before.before.before.before.before.before.before.before.before.before.before.before.before.before.before.before.before.before.before.before.before.before.before.before.before in omega (arith, a.pre.0.consistent.most, a.pre.0.small)
+overflow_add-result : tie.Need-overflow_add-result
+overflow_add-result c = let a = c in omega (arith, a.requires.0.consistent.most, a.requires.0.small)
 
-same-length-11 : tie.Need-same-length-11
-same-length-11 c = search rules
+shape_of-elements : tie.Need-shape_of-elements
+shape_of-elements c = search rules
 
-same-length-12 : tie.Need-same-length-12
-same-length-12 c = search rules
+shape_of-element_offset : tie.Need-shape_of-element_offset
+shape_of-element_offset c = search rules
 
-same-length-13 : tie.Need-same-length-13
-same-length-13 c = search rules
+shape_of-element_to_block : tie.Need-shape_of-element_to_block
+shape_of-element_to_block c = search rules
 
-same-length-14 : tie.Need-same-length-14
-same-length-14 c = search rules
+shape_of-begin : tie.Need-shape_of-begin
+shape_of-begin c = search rules
 
-same-length-15 : tie.Need-same-length-15
-same-length-15 c = c.before.before.before.before.before.before.before.before.before.before.before.cut.auto.1.1.0 ∙
+shape_of-marked_split : tie.Need-shape_of-marked_split
+shape_of-marked_split c = c.cut.auto.marked_split ∙
     simp length-set
 
-same-length-16 : tie.Need-same-length-16
-same-length-16 c = search rules
+shape_of-end : tie.Need-shape_of-end
+shape_of-end c = search rules
 
-returns-3 : tie.Need-returns-3
-returns-3 c = let a =
-    c.before.before.before.before.before.before.before.before.before.before.before.before.before.before.before.before.before.before.before.before.before.before.before.before.before.before.before.before.before.before.before.before.before.before.before.before.before.before in
-    split_done (P a) a.pre.0 _ a.pre.1.0 a.args.choice.now a.pre.1.1 _ _ _
-    c.before.before.before.before.before.before.before.before.before.before.before.before.before.before.before.before.before.before.before.before.before.before.before.before.before.before.before.before.before.at.ensures.0
-    c.before.before.before.before.before.before.before.before.before.before.before.before.before.before.before.before.before.before.before.before.before.before.before.before.before.before.before.at2.ensures.0
-    c.before.before.before.before.before.before.before.before.before.before.before.before.before.before.before.before.before.before.before.before.before.before.before.before.before.at3.ensures.0 _ _ _
-    c.before.before.before.before.before.before.before.before.before.before.before.before.before.before.before.before.before.before.before.before.before.before.sift.ensures
-    c.before.before.before.before.before.before.before.before.before.before.before.before.before.before.before.before.before.if1.false
-    c.before.before.before.before.before.before.before.before.before.before.before.before.before.before.before.if2.false _ _ _ _ _
-    c.before.before.before.before.before.before.before.before.before.before.before.before.before.before.before.before.Marks-then.ensures.0
-    c.before.before.before.before.before.before.before.before.before.before.before.cut.ensures.0
-    c.before.before.before.before.before.before.before.before.before.before.before.cut.ensures.1
-    c.before.before.before.before.before.before.before.before.before.before.before.cut.ensures.2
-    c.before.before.renumber.ensures
+returns : tie.Need-returns
+returns c = let a = c.before.before.before.before.before.before.before.before.before.before.before.before.before.before.before.before.before.before.before.before.before.before.before.before.before.before.before.before.before.before.before.before.before.before in
+    split_done (P a) a.requires.0 _ a.requires.1.0 a.args.choice.now a.requires.1.1 _ _ _
+    c.at-x.ensures.0
+    c.at-m.ensures.0
+    c.at-z.ensures.0 _ _ _
+    c.sift-e.ensures
+    c.if-e-z.false
+    (ne_eqb _ _ c.if-all.false) _ _ _ _ _
+    c.marks_then.ensures.0
+    c.cut.ensures.0
+    c.cut.ensures.1
+    c.cut.ensures.2
+    c.renumber.ensures
 
-pub split-marked-spec : {M : Type 1} → statement M
-split-marked-spec =
+pub split_marked_spec : {M : Type 1} → statement M
+split_marked_spec =
     tie.close
     (tie.spec
-    at-requires
-    at-requires-2
-    at-requires-3
-    sift-requires
-    same_length
-    same-length-2
-    same-length-3
-    same-length-4
-    same-length-5
-    returns
-    marks-then-requires
-    cast-marked-split
-    mul-marked-split
-    slice-write-marked-split
-    same-length-6
-    same-length-7
-    same-length-8
-    same-length-9
-    same-length-10
-    returns-2
+    at-x-requires
+    at-m-requires
+    at-z-requires
+    sift-e-requires
+    shape_of-elements-then-e-z
+    shape_of-element_offset-then-e-z
+    shape_of-begin-then-e-z
+    shape_of-marked_split-then-e-z
+    shape_of-end-then-e-z
+    returns-then-e-z
+    marks_then-requires
+    overflow_cast-marked_split
+    offset_bounds-marked_split-b
+    bounds-marked_split-b
+    shape_of-elements-then-all
+    shape_of-element_offset-then-all
+    shape_of-begin-then-all
+    shape_of-marked_split-then-all
+    shape_of-end-then-all
+    returns-then-all
     cut-requires
     renumber-requires
-    add-result
-    same-length-11
-    same-length-12
-    same-length-13
-    same-length-14
-    same-length-15
-    same-length-16
-    returns-3)
+    overflow_add-result
+    shape_of-elements
+    shape_of-element_offset
+    shape_of-element_to_block
+    shape_of-begin
+    shape_of-marked_split
+    shape_of-end
+    returns)

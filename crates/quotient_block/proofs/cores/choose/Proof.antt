@@ -15,20 +15,20 @@ abbrev U : tie.Start → ℕ
 U a =
     bottom_from (lts a.args.table a.args.source.now a.args.label.now a.args.target.now) a.args.home.now a.args.s
 
+returns-then-not-branching : tie.Need-returns-then-not-branching
+returns-then-not-branching c =
+    let a = c.before.before.before.before.before in
+    (choice-first a.args.branching (U a) a.args.s (c.if-not-branching.true), omega (arith, a.requires.2))
+
+find_bottom-requires : tie.Need-find_bottom-requires
+find_bottom-requires c κs = search rules
+
 returns : tie.Need-returns
 returns c =
-    let a = c.before.before.before.before.before in
-    (choice-first a.args.branching (U a) a.args.s (not-true _ c.if1.true), omega (arith, a.requires.2))
-
-find-bottom-requires : tie.Need-find-bottom-requires
-find-bottom-requires c κs = search rules
-
-returns-2 : tie.Need-returns-2
-returns-2 c =
     let a = c.before.before.before.before.before.before in (
-      c.find-bottom.ensures.0 ∙ choice-walked a.args.branching (U a) a.args.s (not-false _ c.before.if1.false),
-      c.find-bottom.ensures.1,
+      c.find_bottom.ensures.0 ∙ choice-walked a.args.branching (U a) a.args.s (c.if-not-branching.false),
+      c.find_bottom.ensures.1,
     )
 
 pub choose_spec : {M : Type 1} → statement M
-choose_spec = tie.close (tie.spec returns find-bottom-requires returns-2)
+choose_spec = tie.close (tie.spec returns-then-not-branching find_bottom-requires returns)

@@ -9,19 +9,19 @@ use Rattle.table.specs.Tables.{rows_over}
 use Rattle.quotient_block.proofs.cores.chosen_rows.Statement.{statement}
 use Rattle.quotient_block.proofs.cores.chosen_rows.Tie as tie
 
-select-chosen-requires : tie.Need-select-chosen-requires
-select-chosen-requires c κs = search rules
+select_chosen-d-requires : tie.Need-select_chosen-d-requires
+select_chosen-d-requires c κs = search rules
 
-lay-rows-requires : tie.Need-lay-rows-requires
-lay-rows-requires c κs =
-    let p = c.before.before.before.before.before.before.before.before.before.before.before.before.before.before.before.before.before.before.before.before.before.before.before.before.before.before.before.before.before.before.before.requires
+lay_rows-requires : tie.Need-lay_rows-requires
+lay_rows-requires c κs =
+    let p = c.requires
     in
-    let d = c.before.before.before.before.before.before.before.before.before.before.before.before.before.before.Select-Chosen in
+    let d = c.select_chosen-d in
     let few = d.ensures.1 in (
       (
-        omega (arith, few, p.1.1.1.0.0, d.kept.1.1.1.1.1.1.1.0),
-        omega (arith, few, p.1.1.1.0.1, d.kept.1.1.1.1.1.1.1.1.0),
-        omega (arith, few, p.1.1.1.0.2, d.kept.1.1.1.1.1.1.1.1.1.0),
+        omega (arith, few, p.1.1.1.0.0, d.auto.a),
+        omega (arith, few, p.1.1.1.0.1, d.auto.b),
+        omega (arith, few, p.1.1.1.0.2, d.auto.c),
         omega (arith, few, p.0.0.few_rows),
       ),
       (
@@ -30,61 +30,61 @@ lay-rows-requires c κs =
       ),
     )
 
-same_length : tie.Need-same-length
-same_length c = search rules
+shape_of-result_source : tie.Need-shape_of-result_source
+shape_of-result_source c = search rules
 
-same-length-2 : tie.Need-same-length-2
-same-length-2 c = search rules
+shape_of-result_label : tie.Need-shape_of-result_label
+shape_of-result_label c = search rules
 
-same-length-3 : tie.Need-same-length-3
-same-length-3 c = search rules
+shape_of-result_target : tie.Need-shape_of-result_target
+shape_of-result_target c = search rules
 
-same-length-4 : tie.Need-same-length-4
-same-length-4 c = search rules
+shape_of-a : tie.Need-shape_of-a
+shape_of-a c = search rules
 
-same-length-5 : tie.Need-same-length-5
-same-length-5 c = search rules
+shape_of-b : tie.Need-shape_of-b
+shape_of-b c = search rules
 
-same-length-6 : tie.Need-same-length-6
-same-length-6 c = search rules
+shape_of-c : tie.Need-shape_of-c
+shape_of-c c = search rules
 
-same-length-7 : tie.Need-same-length-7
-same-length-7 c = search rules
+shape_of-order : tie.Need-shape_of-order
+shape_of-order c = search rules
 
-same-length-8 : tie.Need-same-length-8
-same-length-8 c = search rules
+shape_of-spare : tie.Need-shape_of-spare
+shape_of-spare c = search rules
 
 returns : tie.Need-returns
 returns c =
-    let a = c.before.before.before.before.before.before.before.before.before.before.before.before.before.before.before.before.before.before.before.before.before.before.before.before.before.before.before.before.before.before.before.before.before.before.before.before.before.before.before.before.before.before.before.before.before.before.before.before.args in
-    let d = c.before.before.before.before.before.before.before.before.before.before.before.before.before.before.before.before.before.before.before.before.before.before.before.before.before.before.before.before.before.before.before.Select-Chosen in
-    let r = c.before.before.before.before.before.before.before.before.before.before.before.before.before.before.before.before.lay-rows.ensures in
+    let a = c.args in
+    let d = c.select_chosen-d in
+    let r = c.lay_rows.ensures in
     let e = d.ensures.0 in (
       (
         r.0.0 ∙ ap length e,
-        r.0.1 ∙ ap (λ (l : List Row). rows_over l (a.result-source.now, (a.result-label.now, a.result-target.now))) e,
+        r.0.1 ∙ ap (λ (l : List Row). rows_over l (a.result_source.now, (a.result_label.now, a.result_target.now))) e,
       ),
       (
-        r.1.0 ∙ ap zeros d.kept.1.1.1.1.1.1.1.0,
-        r.1.1 ∙ ap zeros d.kept.1.1.1.1.1.1.1.1.0,
-        r.1.2 ∙ ap zeros d.kept.1.1.1.1.1.1.1.1.1.0,
+        r.1.0 ∙ ap zeros d.auto.a,
+        r.1.1 ∙ ap zeros d.auto.b,
+        r.1.2 ∙ ap zeros d.auto.c,
         r.1.3,
         r.1.4,
       ),
     )
 
-pub chosen-rows-spec : {M : Type 1} → statement M
-chosen-rows-spec =
+pub chosen_rows_spec : {M : Type 1} → statement M
+chosen_rows_spec =
     tie.close
     (tie.spec
-    select-chosen-requires
-    lay-rows-requires
-    same_length
-    same-length-2
-    same-length-3
-    same-length-4
-    same-length-5
-    same-length-6
-    same-length-7
-    same-length-8
+    select_chosen-d-requires
+    lay_rows-requires
+    shape_of-result_source
+    shape_of-result_label
+    shape_of-result_target
+    shape_of-a
+    shape_of-b
+    shape_of-c
+    shape_of-order
+    shape_of-spare
     returns)

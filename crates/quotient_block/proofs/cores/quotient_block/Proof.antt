@@ -17,13 +17,13 @@ abbrev L : tie.Start → Lts
 L a = lts a.args.table a.args.source.now a.args.label.now a.args.target.now
 
 abbrev Out : tie.Start → Three
-Out a = (a.args.result-source.now, (a.args.result-label.now, a.args.result-target.now))
+Out a = (a.args.result_source.now, (a.args.result_label.now, a.args.result_target.now))
 
-choose-all-requires : tie.Need-choose-all-requires
-choose-all-requires c κs = search rules
+choose_all-without-requires : tie.Need-choose_all-without-requires
+choose_all-without-requires c κs = search rules
 
-clear-five-requires : tie.Need-clear-five-requires
-clear-five-requires c κs = search rules
+clear_five-requires : tie.Need-clear_five-requires
+clear_five-requires c κs = search rules
 
 clear-requires : tie.Need-clear-requires
 clear-requires c κs = search rules
@@ -31,58 +31,58 @@ clear-requires c κs = search rules
 refuse-requires : tie.Need-refuse-requires
 refuse-requires c κs = search rules
 
-refusing-table-requires : tie.Need-refusing-table-requires
-refusing-table-requires c κs = search rules
+refusing_table-requires : tie.Need-refusing_table-requires
+refusing_table-requires c κs = search rules
 
-same_length : tie.Need-same-length
-same_length c = search rules
+shape_of-a-then-without-count : tie.Need-shape_of-a-then-without-count
+shape_of-a-then-without-count c = search rules
 
-same-length-2 : tie.Need-same-length-2
-same-length-2 c = search rules
+shape_of-b-then-without-count : tie.Need-shape_of-b-then-without-count
+shape_of-b-then-without-count c = search rules
 
-same-length-3 : tie.Need-same-length-3
-same-length-3 c = search rules
+shape_of-c-then-without-count : tie.Need-shape_of-c-then-without-count
+shape_of-c-then-without-count c = search rules
 
-same-length-4 : tie.Need-same-length-4
-same-length-4 c = search rules
+shape_of-order-then-without-count : tie.Need-shape_of-order-then-without-count
+shape_of-order-then-without-count c = search rules
 
-same-length-5 : tie.Need-same-length-5
-same-length-5 c = search rules
+shape_of-spare-then-without-count : tie.Need-shape_of-spare-then-without-count
+shape_of-spare-then-without-count c = search rules
 
-same-length-6 : tie.Need-same-length-6
-same-length-6 c = search rules
+shape_of-chosen-then-without-count : tie.Need-shape_of-chosen-then-without-count
+shape_of-chosen-then-without-count c = search rules
 
-returns : tie.Need-returns
-returns c =
+returns-then-without-count : tie.Need-returns-then-without-count
+returns-then-without-count c =
     let a = c.before.before.before.before.before.before.before.before.before.before.before.before.before.before.before.before.before.before.before.before.before.before.before.before.before.before.before.before.before.before.before.before.before.before.before.before.before.before.before.before.before.before in
     let g = a.args in
-    let q = c.before.before.before.before.before.before.before.before.before.before.before.before.before.before.before.before.before.before.before.before.before.before.before.before.before.choose-all in
-    let w = c.before.before.before.before.before.before.before.before.before.before.before.before.before.before.before.before.clear-five.ensures in (
+    let q = c.choose_all-without in
+    let w = c.clear_five.ensures in (
       block_lacks g.branching g.loops (L a) g.home.now g.elements.now g.begin.now g.count (Out a) q.result
-          q.ensures.0 c.before.before.before.before.before.before.before.before.before.before.before.before.before.before.before.before.before.before.before.before.before.before.if1.true _
-          (c.refusing-table.ensures ∙ ap (λ (r : Refusal). refused r.number r.place) c.before.refuse.ensures),
+          q.ensures.0 c.if-without-count.true _
+          (c.refusing_table.ensures ∙ ap (λ (r : Refusal). refused r.number r.place) c.refuse.ensures),
       (
         w.0,
         w.1,
         w.2,
         w.3,
         w.4,
-        c.before.before.before.before.clear.ensures ∙ ap zeros q.kept.1.1.1.1.1.1.1.1.1.0,
+        c.clear.ensures ∙ ap zeros q.auto.chosen,
       ),
     )
 
-cast-at : tie.Need-overflow-cast-at
-cast-at c = search rules
+overflow_cast-table : tie.Need-overflow_cast-table
+overflow_cast-table c = search rules
 
-at-requires : tie.Need-at-requires
-at-requires c κs =
-    let a = c.before.before.before.before.before.before.before.before.before.before.before.before.before.before.before.before.before.before.before.before.before in omega (arith, a.pre.0.initial, a.pre.1.0.0.homes)
+at-initial-requires : tie.Need-at-initial-requires
+at-initial-requires c κs =
+    let a = c in omega (arith, a.requires.0.initial, a.requires.1.0.0.homes)
 
-chosen-rows-requires : tie.Need-chosen-rows-requires
-chosen-rows-requires c κs =
-    let p = c.before.before.before.before.before.before.before.before.before.before.before.before.before.before.before.before.before.before.before.before.before.before.before.before.before.before.before.before.before.before.before.requires
+chosen_rows-m-requires : tie.Need-chosen_rows-m-requires
+chosen_rows-m-requires c κs =
+    let p = c.requires
     in
-    let long = c.before.before.before.before.before.before.before.before.before.before.before.before.before.before.choose-all.auto.1.1.1.1.1.1.1.1.1.0 in (
+    let long = c.choose_all-without.auto.chosen in (
       (p.0, p.1.0.0.homes),
       (
         λ s h. omega (arith, p.1.0.0.below s h, p.1.0.1, long),
@@ -93,57 +93,57 @@ chosen-rows-requires c κs =
 clear-requires-2 : tie.Need-clear-requires-2
 clear-requires-2 c κs = search rules
 
-cast-table-of : tie.Need-overflow-cast-table-of
-cast-table-of c = search rules
+overflow_cast-table-2 : tie.Need-overflow_cast-table-2
+overflow_cast-table-2 c = search rules
 
-table-of-requires : tie.Need-table-of-requires
-table-of-requires c κs = search rules
+table_of-requires : tie.Need-table_of-requires
+table_of-requires c κs = search rules
 
-same-length-7 : tie.Need-same-length-7
-same-length-7 c = search rules
+shape_of-result_source : tie.Need-shape_of-result_source
+shape_of-result_source c = search rules
 
-same-length-8 : tie.Need-same-length-8
-same-length-8 c = search rules
+shape_of-result_label : tie.Need-shape_of-result_label
+shape_of-result_label c = search rules
 
-same-length-9 : tie.Need-same-length-9
-same-length-9 c = search rules
+shape_of-result_target : tie.Need-shape_of-result_target
+shape_of-result_target c = search rules
 
-same-length-10 : tie.Need-same-length-10
-same-length-10 c = search rules
+shape_of-a : tie.Need-shape_of-a
+shape_of-a c = search rules
 
-same-length-11 : tie.Need-same-length-11
-same-length-11 c = search rules
+shape_of-b : tie.Need-shape_of-b
+shape_of-b c = search rules
 
-same-length-12 : tie.Need-same-length-12
-same-length-12 c = search rules
+shape_of-c : tie.Need-shape_of-c
+shape_of-c c = search rules
 
-same-length-13 : tie.Need-same-length-13
-same-length-13 c = search rules
+shape_of-order : tie.Need-shape_of-order
+shape_of-order c = search rules
 
-same-length-14 : tie.Need-same-length-14
-same-length-14 c = search rules
+shape_of-spare : tie.Need-shape_of-spare
+shape_of-spare c = search rules
 
-same-length-15 : tie.Need-same-length-15
-same-length-15 c =
-    c.before.before.before.before.clear2.auto.0 ∙ c.before.before.before.before.before.before.before.before.before.before.before.before.before.before.before.before.before.before.before.before.before.before.before.before.before.before.before.before.before.before.before.before.before.before.before.before.before.choose-all.auto.1.1.1.1.1.1.1.1.1.0
+shape_of-chosen : tie.Need-shape_of-chosen
+shape_of-chosen c =
+    c.clear-2.auto.a ∙ c.choose_all-without.auto.chosen
 
-returns-2 : tie.Need-returns-2
-returns-2 c =
-    let all : c.before.before.before.before.before.before.before.before.before.before.before.before.before.before.before.before.before.before.before.before.before.before.before.before.before.before.before.before.before.before.before.before.before.before.before.before.before.before.before.before.before.before.before.before.before.before.before.before.before.before.before.before.before.before.args.count ≤ c.before.before.before.before.before.before.before.before.before.before.before.before.before.before.before.before.before.before.before.before.before.before.before.before.before.before.before.before.before.before.before.before.before.before.before.before.before.choose-all.result =
+returns : tie.Need-returns
+returns c =
+    let all : c.args.count ≤ c.choose_all-without.result =
     omega (
       arith,
-      c.before.before.before.before.before.before.before.before.before.before.before.before.before.before.before.before.before.before.before.before.before.before.before.before.before.before.before.before.before.before.before.before.before.before.if1.false,
+      c.if-without-count.false,
     ) in
-    let a = c.before.before.before.before.before.before.before.before.before.before.before.before.before.before.before.before.before.before.before.before.before.before.before.before.before.before.before.before.before.before.before.before.before.before.before.before.before.before.before.before.before.before.before.before.before.before.before.before.before.before.before.before.before.before in
+    let a = c.before.before.before.before.before.before.before.before.before.before.before.before.before.before.before.before.before.before.before.before.before.before.before.before.before.before.before.before.before.before.before.before.before.before.before.before.before.before.before.before.before.before.before.before.before.before.before.before.before.before.before.before.before in
     let g = a.args in
-    let q = c.before.before.before.before.before.before.before.before.before.before.before.before.before.before.before.before.before.before.before.before.before.before.before.before.before.before.before.before.before.before.before.before.before.before.before.before.before.choose-all in
-    let r = c.before.before.before.before.before.before.before.before.before.before.before.before.before.before.before.before.before.before.before.before.before.before.chosen-rows.ensures in (
+    let q = c.choose_all-without in
+    let r = c.chosen_rows-m.ensures in (
       block_done g.branching g.loops (L a) g.home.now g.elements.now g.begin.now g.count (Out a) q.result
           q.ensures.0 all _ _ _
           (block_rows_lem g.branching g.loops (L a) g.home.now g.elements.now g.begin.now g.count (Out a) q.result
-          q.ensures.0 a.pre.0 a.pre.1.0.0 all q.last.1.1.1.1.1.1.1.1.1.0 g.chosen.now q.ensures.1)
+          q.ensures.0 a.requires.0 a.requires.1.0.0 all q.new.chosen g.chosen.now q.ensures.1)
           (c.table_of.ensures
-          ∙ ap₂ (λ (m i : ℕ). done (g.count ∷ g.table.labels ∷ m ∷ i ∷ [])) r.0.0 c.before.before.before.before.before.before.before.before.before.before.before.before.before.before.before.before.before.before.before.before.before.before.before.before.before.before.before.before.before.before.before.before.at.ensures.0)
+          ∙ ap₂ (λ (m i : ℕ). done (g.count ∷ g.table.labels ∷ m ∷ i ∷ [])) r.0.0 c.at-initial.ensures.0)
           r.0.1,
       (
         r.1.0,
@@ -151,39 +151,39 @@ returns-2 c =
         r.1.2,
         r.1.3,
         r.1.4,
-        c.before.before.before.before.clear2.ensures ∙ ap zeros q.kept.1.1.1.1.1.1.1.1.1.0,
+        c.clear-2.ensures ∙ ap zeros q.auto.chosen,
       ),
     )
 
-pub quotient-block-spec : {M : Type 1} → statement M
-quotient-block-spec =
+pub quotient_block_spec : {M : Type 1} → statement M
+quotient_block_spec =
     tie.close
     (tie.spec
-    choose-all-requires
-    clear-five-requires
+    choose_all-without-requires
+    clear_five-requires
     clear-requires
     refuse-requires
-    refusing-table-requires
-    same_length
-    same-length-2
-    same-length-3
-    same-length-4
-    same-length-5
-    same-length-6
-    returns
-    cast-at
-    at-requires
-    chosen-rows-requires
+    refusing_table-requires
+    shape_of-a-then-without-count
+    shape_of-b-then-without-count
+    shape_of-c-then-without-count
+    shape_of-order-then-without-count
+    shape_of-spare-then-without-count
+    shape_of-chosen-then-without-count
+    returns-then-without-count
+    overflow_cast-table
+    at-initial-requires
+    chosen_rows-m-requires
     clear-requires-2
-    cast-table-of
-    table-of-requires
-    same-length-7
-    same-length-8
-    same-length-9
-    same-length-10
-    same-length-11
-    same-length-12
-    same-length-13
-    same-length-14
-    same-length-15
-    returns-2)
+    overflow_cast-table-2
+    table_of-requires
+    shape_of-result_source
+    shape_of-result_label
+    shape_of-result_target
+    shape_of-a
+    shape_of-b
+    shape_of-c
+    shape_of-order
+    shape_of-spare
+    shape_of-chosen
+    returns)

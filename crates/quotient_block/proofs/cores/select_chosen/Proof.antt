@@ -12,29 +12,29 @@ use Rattle.quotient_block.proofs.cores.select_chosen.Statement.{statement}
 use Rattle.columns.specs.Rows.{row_in}
 use Rattle.quotient_block.proofs.cores.select_chosen.Tie as tie
 
-abbrev invariant-loop : tie.invariant-loop
-invariant-loop source label target home chosen loops a₀ b₀ c₀ m i₀ d₀ a b c i d =
+abbrev invariant-loop-i : tie.invariant-loop-i
+invariant-loop-i source label target home chosen loops a₀ b₀ c₀ m i₀ d₀ a b c i d =
     RowPicking (of_chosen loops (λ b. get_or chosen b 0) (block_of home)) (between (block_of home)) source label target a₀ b₀ c₀ m i d a b c
 
-abbrev decreases-loop : tie.decreases-loop
-decreases-loop source label target home chosen loops a₀ b₀ c₀ m i₀ d₀ a b c i d = m - i
+abbrev decreases-loop-i : tie.decreases-loop-i
+decreases-loop-i source label target home chosen loops a₀ b₀ c₀ m i₀ d₀ a b c i d = m - i
 
 -- the row at i is in range
-abbrev S : tie.In-loop invariant-loop decreases-loop → tie.Start invariant-loop decreases-loop
+abbrev S : tie.In-loop-i invariant-loop-i decreases-loop-i → tie.Start invariant-loop-i decreases-loop-i
 S c = c.before.before.before.before.before.before.before.before.before.before.before
 
-in_range_lem : (c : tie.In-loop invariant-loop decreases-loop)
-    → Fields (lts (S c).args.table (S c).args.source.now (S c).args.label.now (S c).args.target.now) c.before.loop.i
-in_range_lem c = (S c).requires.0.0.fields c.before.loop.i (omega arith)
+in_range_lem : (c : tie.In-loop-i invariant-loop-i decreases-loop-i)
+    → Fields (lts (S c).args.table (S c).args.source.now (S c).args.label.now (S c).args.target.now) c.loop-i.i
+in_range_lem c = (S c).requires.0.0.fields c.loop-i.i (omega arith)
 
-cast-m : tie.Need-overflow-cast-m invariant-loop decreases-loop
-cast-m c = search rules
+overflow_cast-m : tie.Need-overflow_cast-m invariant-loop-i decreases-loop-i
+overflow_cast-m c = search rules
 
-loop-holds : tie.Need-loop-init invariant-loop decreases-loop
-loop-holds c = pick_start _ _ _ _ _ _ _ _ _
+loop-i-init : tie.Need-loop-i-init invariant-loop-i decreases-loop-i
+loop-i-init c = pick_start _ _ _ _ _ _ _ _ _
 
-row-chosen-requires : tie.Need-row-chosen-requires invariant-loop decreases-loop
-row-chosen-requires c κs =
+row_chosen-requires : tie.Need-row_chosen-requires invariant-loop-i decreases-loop-i
+row_chosen-requires c κs =
     let v = (S c).requires.0.0 in
     let f = in_range_lem c in (
       (omega (arith, v.long.source), omega (arith, v.long.label), omega (arith, v.long.target)),
@@ -44,11 +44,11 @@ row-chosen-requires c κs =
       ),
     )
 
-push-row-requires : tie.Need-push-row-requires invariant-loop decreases-loop
-push-row-requires c κs =
+push_row-requires : tie.Need-push_row-requires invariant-loop-i decreases-loop-i
+push_row-requires c κs =
     let q = c.before.before.before.before.before in
     let v = (S q).requires.0.0 in
-    let l = q.before.loop.invariant in
+    let l = q.loop-i.invariant in
     let f = in_range_lem q in (
       (omega (arith, v.long.source), omega (arith, v.long.label), omega (arith, v.long.target)),
       (
@@ -61,68 +61,68 @@ push-row-requires c κs =
       ),
     )
 
-add-d : tie.Need-overflow-add-d invariant-loop decreases-loop
-add-d c = search rules
+overflow_add-d : tie.Need-overflow_add-d invariant-loop-i decreases-loop-i
+overflow_add-d c = search rules
 
-add-i : tie.Need-overflow-add-i invariant-loop decreases-loop
-add-i c = search rules
+overflow_add-i : tie.Need-overflow_add-i invariant-loop-i decreases-loop-i
+overflow_add-i c = search rules
 
-loop-less : tie.Need-loop-smaller invariant-loop decreases-loop
-loop-less c = search rules
+loop-i-smaller-then-row_chosen : tie.Need-loop-i-smaller-then-row_chosen invariant-loop-i decreases-loop-i
+loop-i-smaller-then-row_chosen c = search rules
 
-loop-again : tie.Need-loop-preserved invariant-loop decreases-loop
+loop-i-preserved-then-row_chosen : tie.Need-loop-i-preserved-then-row_chosen invariant-loop-i decreases-loop-i
 unfolding between row_in
-loop-again c =
+loop-i-preserved-then-row_chosen c =
     let q = c.before.before.before.before.before.before.before.before.before.before.before.before in
-    let k = q.before.loop.invariant in
-    let e = c.before.before.before.before.before.before.push_row.ensures in
-    pick_more _ _ _ _ _ _ _ _ _ _ _ _ _ _ k (omega arith) (sym c.before.before.before.before.before.before.before.before.before.before.if1.true ∙ c.before.before.before.before.before.before.before.before.before.before.before.row_chosen.ensures)
+    let k = q.loop-i.invariant in
+    let e = c.push_row.ensures in
+    pick_more _ _ _ _ _ _ _ _ _ _ _ _ _ _ k (omega arith) (sym c.if-row_chosen.true ∙ c.row_chosen.ensures)
     (omega (arith, (S q).requires.1.1.0, k.few, k.first)) (omega (arith, (S q).requires.1.1.1, k.few, k.second))
     (omega (arith, (S q).requires.1.1.2, k.few, k.third)) _ _ _ e.0 e.1.0 e.1.1
 
-add-i-2 : tie.Need-overflow-add-i-2 invariant-loop decreases-loop
-add-i-2 c = search rules
+overflow_add-i-else-row_chosen : tie.Need-overflow_add-i-else-row_chosen invariant-loop-i decreases-loop-i
+overflow_add-i-else-row_chosen c = search rules
 
-loop-less-2 : tie.Need-loop-smaller-2 invariant-loop decreases-loop
-loop-less-2 c = search rules
+loop-i-smaller : tie.Need-loop-i-smaller invariant-loop-i decreases-loop-i
+loop-i-smaller c = search rules
 
-loop-again-2 : tie.Need-loop-preserved-2 invariant-loop decreases-loop
-loop-again-2 c =
-    pick_pass _ _ _ _ _ _ _ _ _ _ _ _ _ _ c.before.before.before.loop.invariant (omega arith) (sym c.if1.false ∙ c.before.row_chosen.ensures)
+loop-i-preserved : tie.Need-loop-i-preserved invariant-loop-i decreases-loop-i
+loop-i-preserved c =
+    pick_pass _ _ _ _ _ _ _ _ _ _ _ _ _ _ c.loop-i.invariant (omega arith) (sym c.if-row_chosen.false ∙ c.row_chosen.ensures)
 
-same_length : tie.Need-same-length invariant-loop decreases-loop
-same_length c = c.before.loop.invariant.first
+shape_of-a : tie.Need-shape_of-a invariant-loop-i decreases-loop-i
+shape_of-a c = c.loop-i.invariant.first
 
-same-length-2 : tie.Need-same-length-2 invariant-loop decreases-loop
-same-length-2 c = c.before.loop.invariant.second
+shape_of-b : tie.Need-shape_of-b invariant-loop-i decreases-loop-i
+shape_of-b c = c.loop-i.invariant.second
 
-same-length-3 : tie.Need-same-length-3 invariant-loop decreases-loop
-same-length-3 c = c.before.loop.invariant.third
+shape_of-c : tie.Need-shape_of-c invariant-loop-i decreases-loop-i
+shape_of-c c = c.loop-i.invariant.third
 
-returns : tie.Need-returns invariant-loop decreases-loop
+returns : tie.Need-returns invariant-loop-i decreases-loop-i
 unfolding chosen_rows
 returns c =
-    let l = c.before.loop.invariant in
+    let l = c.loop-i.invariant in
     (pick_done _ _ _ _ _ _ _ _ _ _ _ _ _ _ l (omega arith), omega (arith, l.few, l.high))
 
-pub select-chosen-spec : {M : Type 1} → statement M
-select-chosen-spec =
+pub select_chosen_spec : {M : Type 1} → statement M
+select_chosen_spec =
     tie.close
     (tie.spec
-    invariant-loop
-    decreases-loop
-    cast-m
-    loop-holds
-    row-chosen-requires
-    push-row-requires
-    add-d
-    add-i
-    loop-less
-    loop-again
-    add-i-2
-    loop-less-2
-    loop-again-2
-    same_length
-    same-length-2
-    same-length-3
+    invariant-loop-i
+    decreases-loop-i
+    overflow_cast-m
+    loop-i-init
+    row_chosen-requires
+    push_row-requires
+    overflow_add-d
+    overflow_add-i
+    loop-i-smaller-then-row_chosen
+    loop-i-preserved-then-row_chosen
+    overflow_add-i-else-row_chosen
+    loop-i-smaller
+    loop-i-preserved
+    shape_of-a
+    shape_of-b
+    shape_of-c
     returns)

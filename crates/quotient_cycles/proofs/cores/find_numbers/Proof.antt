@@ -21,8 +21,8 @@ again n f g l m e =
     ap (λ (x : List ℕ). written n f x) e
     ∙ over_again (listed n f) (listed n g) m (omega (arith, length-listed n f, length-listed n g))
 
-tau-scc-decomposition-requires : tie.Need-tau-scc-decomposition-requires
-tau-scc-decomposition-requires c κs = let p = c.before.before.before.before.before.before.before.before.before.before.before.before.before.before.before.before.before.before.before.before.requires in
+tau_scc_decomposition-count-requires : tie.Need-tau_scc_decomposition-count-requires
+tau_scc_decomposition-count-requires c κs = let p = c.requires in
     let r = p.1.1 in (
       (p.0.0, p.0.1, r.1.1.0),
       (
@@ -34,11 +34,11 @@ tau-scc-decomposition-requires c κs = let p = c.before.before.before.before.bef
       ),
     )
 
-order-components-requires : tie.Need-order-components-requires
-order-components-requires c κs = let a = c.before.before.before.before.before.before.before.before.before.before.before.before.before.before.before.before.before.before.before.before.before.before.before.before.before.before.before.before.before.before.before.before.before.before.before.before.before.before.before.before.before.before.before.before.before.before in
-    let p = a.pre in
+order_components-requires : tie.Need-order_components-requires
+order_components-requires c κs = let a = c.before.before.before.before.before.before.before.before.before.before.before.before.before.before.before.before.before.before.before.before.before.before.before.before.before.before.before.before.before.before.before.before.before.before.before.before.before.before.before.before.before.before.before.before.before.before in
+    let p = a.requires in
     let r = p.1.1 in
-    let q = c.before.before.before.before.before.before.before.before.before.before.before.before.before.before.before.before.before.before.before.before.before.before.before.before.before.tau_scc_decomposition_lem in (
+    let q = c.tau_scc_decomposition-count in (
       (p.0.0, q.ensures.0),
       (
         λ s h.
@@ -46,81 +46,81 @@ order-components-requires c κs = let a = c.before.before.before.before.before.b
             ∙ written_at a.args.table.n (component (L a)) a.args.numbers.now s h,
         (
           (
-            omega (arith, p.0.1, q.kept.1.1.1.1.0),
-            omega (arith, p.1.0.0, q.kept.1.1.1.1.1.1.0),
+            omega (arith, p.0.1, q.auto.numbers),
+            omega (arith, p.1.0.0, q.auto.back_source),
             omega (
               arith,
               p.1.0.1,
-              q.kept.1.1.1.1.1.1.1.0,
+              q.auto.back_label,
             ),
           ),
           (
-            (omega (arith, r.0.0, q.kept.1.1.1.1.1.1.1.1.0), omega (arith, r.0.1, q.kept.1.1.1.1.1.1.1.1.1.0)),
+            (omega (arith, r.0.0, q.auto.back_target), omega (arith, r.0.1, q.auto.forward)),
             (
               (
-                omega (arith, r.1.0.0, q.kept.1.1.1.1.1.1.1.1.1.1.0),
+                omega (arith, r.1.0.0, q.auto.backward),
                 omega (
                   arith,
                   r.1.0.1,
-                  q.kept.1.1.1.1.1.1.1.1.1.1.1.0,
+                  q.auto.queue,
                 ),
               ),
-              (omega (arith, r.1.1.0, q.kept.1.1.1.1.1.0), r.1.1.1),
+              (omega (arith, r.1.1.0, q.auto.order), r.1.1.1),
             ),
           ),
         ),
       ),
     )
 
-same_length : tie.Need-same-length
-same_length c = c.before.before.before.before.before.before.before.before.before.before.before.before.before.before.before.before.before.before.order-components.auto.1.1.1.1.1.1.0 ∙ c.before.before.before.before.before.before.before.before.before.before.before.before.before.before.before.before.before.before.before.before.before.before.before.before.before.before.before.before.before.before.before.before.before.before.before.before.before.before.before.before.before.before.before.before.tau_scc_decomposition_lem.auto.1.1.1.1.0
+shape_of-numbers : tie.Need-shape_of-numbers
+shape_of-numbers c = c.order_components.auto.numbers ∙ c.tau_scc_decomposition-count.auto.numbers
 
-same-length-2 : tie.Need-same-length-2
-same-length-2 c = c.before.before.before.before.before.before.before.before.before.before.before.before.before.before.before.before.before.before.order-components.auto.1.1.1.1.1.1.1.0 ∙ c.before.before.before.before.before.before.before.before.before.before.before.before.before.before.before.before.before.before.before.before.before.before.before.before.before.before.before.before.before.before.before.before.before.before.before.before.before.before.before.before.before.before.before.before.tau_scc_decomposition_lem.auto.1.1.1.1.1.1.0
+shape_of-mid_source : tie.Need-shape_of-mid_source
+shape_of-mid_source c = c.order_components.auto.mid_source ∙ c.tau_scc_decomposition-count.auto.back_source
 
-same-length-3 : tie.Need-same-length-3
-same-length-3 c = c.before.before.before.before.before.before.before.before.before.before.before.before.before.before.before.before.before.before.order-components.auto.1.1.1.1.1.1.1.1.0 ∙ c.before.before.before.before.before.before.before.before.before.before.before.before.before.before.before.before.before.before.before.before.before.before.before.before.before.before.before.before.before.before.before.before.before.before.before.before.before.before.before.before.before.before.before.before.tau_scc_decomposition_lem.auto.1.1.1.1.1.1.1.0
+shape_of-mid_label : tie.Need-shape_of-mid_label
+shape_of-mid_label c = c.order_components.auto.mid_label ∙ c.tau_scc_decomposition-count.auto.back_label
 
-same-length-4 : tie.Need-same-length-4
-same-length-4 c = c.before.before.before.before.before.before.before.before.before.before.before.before.before.before.before.before.before.before.order-components.auto.1.1.1.1.1.1.1.1.1.0 ∙ c.before.before.before.before.before.before.before.before.before.before.before.before.before.before.before.before.before.before.before.before.before.before.before.before.before.before.before.before.before.before.before.before.before.before.before.before.before.before.before.before.before.before.before.before.tau_scc_decomposition_lem.auto.1.1.1.1.1.1.1.1.0
+shape_of-mid_target : tie.Need-shape_of-mid_target
+shape_of-mid_target c = c.order_components.auto.mid_target ∙ c.tau_scc_decomposition-count.auto.back_target
 
-same-length-5 : tie.Need-same-length-5
-same-length-5 c = c.before.before.before.before.before.before.before.before.before.before.before.before.before.before.before.before.before.before.order-components.auto.1.1.1.1.1.1.1.1.1.1.0 ∙ c.before.before.before.before.before.before.before.before.before.before.before.before.before.before.before.before.before.before.before.before.before.before.before.before.before.before.before.before.before.before.before.before.before.before.before.before.before.before.before.before.before.before.before.before.tau_scc_decomposition_lem.auto.1.1.1.1.1.1.1.1.1.0
+shape_of-a : tie.Need-shape_of-a
+shape_of-a c = c.order_components.auto.a ∙ c.tau_scc_decomposition-count.auto.forward
 
-same-length-6 : tie.Need-same-length-6
-same-length-6 c = c.before.before.before.before.before.before.before.before.before.before.before.before.before.before.before.before.before.before.order-components.auto.1.1.1.1.1.1.1.1.1.1.1.0 ∙ c.before.before.before.before.before.before.before.before.before.before.before.before.before.before.before.before.before.before.before.before.before.before.before.before.before.before.before.before.before.before.before.before.before.before.before.before.before.before.before.before.before.before.before.before.tau_scc_decomposition_lem.auto.1.1.1.1.1.1.1.1.1.1.0
+shape_of-b : tie.Need-shape_of-b
+shape_of-b c = c.order_components.auto.b ∙ c.tau_scc_decomposition-count.auto.backward
 
-same-length-7 : tie.Need-same-length-7
-same-length-7 c = c.before.before.before.before.before.before.before.before.before.before.before.before.before.before.before.before.before.before.order-components.auto.1.1.1.1.1.1.1.1.1.1.1.1.0 ∙ c.before.before.before.before.before.before.before.before.before.before.before.before.before.before.before.before.before.before.before.before.before.before.before.before.before.before.before.before.before.before.before.before.before.before.before.before.before.before.before.before.before.before.before.before.tau_scc_decomposition_lem.auto.1.1.1.1.1.1.1.1.1.1.1.0
+shape_of-c : tie.Need-shape_of-c
+shape_of-c c = c.order_components.auto.c ∙ c.tau_scc_decomposition-count.auto.queue
 
-same-length-8 : tie.Need-same-length-8
-same-length-8 c = c.before.before.before.before.before.before.before.before.before.before.before.before.before.before.before.before.before.before.order-components.auto.1.1.1.1.1.1.1.1.1.1.1.1.1.0 ∙ c.before.before.before.before.before.before.before.before.before.before.before.before.before.before.before.before.before.before.before.before.before.before.before.before.before.before.before.before.before.before.before.before.before.before.before.before.before.before.before.before.before.before.before.before.tau_scc_decomposition_lem.auto.1.1.1.1.1.0
+shape_of-order : tie.Need-shape_of-order
+shape_of-order c = c.order_components.auto.order ∙ c.tau_scc_decomposition-count.auto.order
 
-same-length-9 : tie.Need-same-length-9
-same-length-9 c = c.before.before.before.before.before.before.before.before.before.before.before.before.before.before.before.before.before.before.order-components.auto.1.1.1.1.1.1.1.1.1.1.1.1.1.1.0
+shape_of-spare : tie.Need-shape_of-spare
+shape_of-spare c = c.order_components.auto.spare
 
 returns : tie.Need-returns
 returns c = let a = c.before.before.before.before.before.before.before.before.before.before.before.before.before.before.before.before.before.before.before.before.before.before.before.before.before.before.before.before.before.before.before.before.before.before.before.before.before.before.before.before.before.before.before.before.before.before.before.before.before.before.before.before.before.before.before.before.before.before.before.before.before.before.before.before.before in
-    let q = c.before.before.before.before.before.before.before.before.before.before.before.before.before.before.before.before.before.before.before.before.before.before.before.before.before.before.before.before.before.before.before.before.before.before.before.before.before.before.before.before.before.before.before.before.tau_scc_decomposition_lem in (
+    let q = c.tau_scc_decomposition-count in (
       q.ensures.0,
-      c.before.before.before.before.before.before.before.before.before.before.before.before.before.before.before.before.before.before.order-components.ensures
-          ∙ again a.args.table.n (new_number (L a) a.args.eliminate-tau-selfloops) (component (L a)) q.last.1.1.1.1.0 a.args.numbers.now
+      c.order_components.ensures
+          ∙ again a.args.table.n (new_number (L a) a.args.eliminate_tau_selfloops) (component (L a)) q.new.numbers a.args.numbers.now
           q.ensures.1.0,
     )
 
-pub find-numbers-spec : {M : Type 1} → statement M
-find-numbers-spec =
+pub find_numbers_spec : {M : Type 1} → statement M
+find_numbers_spec =
     tie.close
     (tie.spec
-    tau-scc-decomposition-requires
-    order-components-requires
-    same_length
-    same-length-2
-    same-length-3
-    same-length-4
-    same-length-5
-    same-length-6
-    same-length-7
-    same-length-8
-    same-length-9
+    tau_scc_decomposition-count-requires
+    order_components-requires
+    shape_of-numbers
+    shape_of-mid_source
+    shape_of-mid_label
+    shape_of-mid_target
+    shape_of-a
+    shape_of-b
+    shape_of-c
+    shape_of-order
+    shape_of-spare
     returns)

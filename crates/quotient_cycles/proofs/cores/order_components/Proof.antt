@@ -18,54 +18,54 @@ valid : (a : tie.Start) → Valid (L a)
 valid a = a.requires.0.0
 
 -- the quotient by components
-module _ (q : tie.After-quotient-rows) where
+module _ (q : tie.After-quotient_rows-m) where
   abbrev mid : Three
   mid = (
-    q.quotient-rows.new.1.1.1.1.1.1.1.0,
+    q.quotient_rows-m.new.result_source,
     (
-      q.quotient-rows.new.1.1.1.1.1.1.1.1.0,
-      q.quotient-rows.new.1.1.1.1.1.1.1.1.1.0,
+      q.quotient_rows-m.new.result_label,
+      q.quotient_rows-m.new.result_target,
     ),
   )
 
   abbrev out : Three
   out = (
-    q.before.before.before.before.before.before.before.before.before.before.before.before.before.before.before.before.before.before.before.before.before.before.before.before.args.mid-source.now,
+    q.args.mid_source.now,
     (
-      q.before.before.before.before.before.before.before.before.before.before.before.before.before.before.before.before.before.before.before.before.before.before.before.before.args.mid-label.now,
-      q.before.before.before.before.before.before.before.before.before.before.before.before.before.before.before.before.before.before.before.before.before.before.before.before.args.mid-target.now,
+      q.args.mid_label.now,
+      q.args.mid_target.now,
     ),
   )
 
-  few : q.quotient-rows.result ≤ q.before.before.before.before.before.before.before.before.before.before.before.before.before.before.before.before.before.before.before.before.before.before.before.before.args.table.m
+  few : q.quotient_rows-m.result ≤ q.args.table.m
   few = omega (
     arith,
-    q.quotient-rows.ensures.0.0,
-    few_middle (L q.before.before.before.before.before.before.before.before.before.before.before.before.before.before.before.before.before.before.before.before.before.before.before.before) (valid q.before.before.before.before.before.before.before.before.before.before.before.before.before.before.before.before.before.before.before.before.before.before.before.before) q.before.before.before.before.before.before.before.before.before.before.before.before.before.before.before.before.before.before.before.before.before.before.before.before.args.eliminate-tau-selfloops q.before.before.before.before.before.before.before.before.before.before.before.before.before.before.before.before.before.before.before.before.before.before.before.before.args.numbers.now q.before.before.before.before.before.before.before.before.before.before.before.before.before.before.before.before.before.before.before.before.before.before.before.before.pre.1.0,
+    q.quotient_rows-m.ensures.0.0,
+    few_middle (L q.before.before.before.before.before.before.before.before.before.before.before.before.before.before.before.before.before.before.before.before.before.before.before) (valid q.before.before.before.before.before.before.before.before.before.before.before.before.before.before.before.before.before.before.before.before.before.before.before) q.args.eliminate_tau_selfloops q.args.numbers.now q.requires.1.0,
   )
 
-  counted : q.before.before.before.before.before.before.before.before.before.before.before.before.before.before.before.before.before.before.before.before.before.before.before.before.args.count ≤ q.before.before.before.before.before.before.before.before.before.before.before.before.before.before.before.before.before.before.before.before.before.before.before.before.args.table.n
+  counted : q.args.count ≤ q.args.table.n
   counted = omega (
     arith,
-    q.before.before.before.before.before.before.before.before.before.before.before.before.before.before.before.before.before.before.before.before.before.before.before.before.pre.0.1,
-    components_few (L q.before.before.before.before.before.before.before.before.before.before.before.before.before.before.before.before.before.before.before.before.before.before.before.before) (valid q.before.before.before.before.before.before.before.before.before.before.before.before.before.before.before.before.before.before.before.before.before.before.before.before),
+    q.requires.0.1,
+    components_few (L q.before.before.before.before.before.before.before.before.before.before.before.before.before.before.before.before.before.before.before.before.before.before.before) (valid q.before.before.before.before.before.before.before.before.before.before.before.before.before.before.before.before.before.before.before.before.before.before.before),
   )
 
-cast-initial : tie.Need-overflow-cast-initial
-cast-initial c = search rules
+overflow_cast-initial : tie.Need-overflow_cast-initial
+overflow_cast-initial c = search rules
 
-mul-initial : tie.Need-overflow-mul-initial
-mul-initial c = let v = valid c.before.before.before.before.before.before.before.before.before.before.before.before.before in omega (arith, v.initial, v.few_states)
+offset_bounds-numbers-table : tie.Need-offset_bounds-numbers-table
+offset_bounds-numbers-table c = let v = valid c.before.before.before.before.before.before.before.before.before.before.before.before.before in omega (arith, v.initial, v.few_states)
 
-slice-read-initial : tie.Need-slice-read-initial
-slice-read-initial c = let v = valid c.before.before.before.before.before.before.before.before.before.before.before.before.before.before in omega (
+bounds-numbers-table : tie.Need-bounds-numbers-table
+bounds-numbers-table c = let v = valid c.before.before.before.before.before.before.before.before.before.before.before.before.before.before in omega (
   arith,
   v.initial,
-  c.before.before.before.before.before.before.before.before.before.before.before.before.before.before.requires.1.1.0.0,
+  c.requires.1.1.0.0,
 )
 
-quotient-rows-requires : tie.Need-quotient-rows-requires
-quotient-rows-requires c κs = let p = c.before.before.before.before.before.before.before.before.before.before.before.before.before.before.before.before.before.before.before.before.before.before.before.requires in
+quotient_rows-m-requires : tie.Need-quotient_rows-m-requires
+quotient_rows-m-requires c κs = let p = c.requires in
     let r = p.1.1 in (
       (p.0.0, r.0.0),
       (
@@ -74,125 +74,125 @@ quotient-rows-requires c κs = let p = c.before.before.before.before.before.befo
       ),
     )
 
-cast-t22 : tie.Need-overflow-cast-t22
-cast-t22 c = omega (
+overflow_cast-middle : tie.Need-overflow_cast-middle
+overflow_cast-middle c = omega (
   arith,
   counted c.before.before.before.before.before.before.before.before.before.before.before.before.before.before.before.before,
-  (valid c.before.before.before.before.before.before.before.before.before.before.before.before.before.before.before.before.before.before.before.before.before.before.before.before.before.before.before.before.before.before.before.before.before.before.before.before.before.before.before.before).few_states,
+  (valid c.before.before.before.before.before.before.before.before.before.before.before.before.before.before.before.before.before.before.before.before.before.before.before.before.before.before.before.before.before.before.before.before.before.before.before.before.before.before.before).few_states,
 )
 
-cast-t41 : tie.Need-overflow-cast-t41
-cast-t41 c = omega (
+overflow_cast-middle-2 : tie.Need-overflow_cast-middle-2
+overflow_cast-middle-2 c = omega (
   arith,
   few c.before.before.before.before.before.before.before.before.before.before.before.before.before.before.before.before,
-  (valid c.before.before.before.before.before.before.before.before.before.before.before.before.before.before.before.before.before.before.before.before.before.before.before.before.before.before.before.before.before.before.before.before.before.before.before.before.before.before.before.before).few_rows,
+  (valid c.before.before.before.before.before.before.before.before.before.before.before.before.before.before.before.before.before.before.before.before.before.before.before.before.before.before.before.before.before.before.before.before.before.before.before.before.before.before.before).few_rows,
 )
 
-sort-topological-requires : tie.Need-sort-topological-requires
-sort-topological-requires c κs = let a = c.before.before.before.before.before.before.before.before.before.before.before.before.before.before.before.before.before.before.before.before.before.before.before.before.before.before.before.before.before.before.before.before.before.before.before.before.before.before.before.before.before.before.before.before.before.before in
-    let q = c.before.before.before.before.before.before.before.before.before.before.before.before.before.before.before.before.before.before.before.before.before.before.quotient-rows in
-    let r = a.pre.1.1.1 in (
-      middle_valid (L a) (valid a) a.args.eliminate-tau-selfloops a.args.numbers.now a.pre.1.0 a.args.count q.result
-          _ (out c.before.before.before.before.before.before.before.before.before.before.before.before.before.before.before.before.before.before.before.before.before.before)
-          (mid c.before.before.before.before.before.before.before.before.before.before.before.before.before.before.before.before.before.before.before.before.before.before) a.pre.0.1 q.ensures.0.0 refl q.ensures.0.1,
+sort_topological-requires : tie.Need-sort_topological-requires
+sort_topological-requires c κs = let a = c.before.before.before.before.before.before.before.before.before.before.before.before.before.before.before.before.before.before.before.before.before.before.before.before.before.before.before.before.before.before.before.before.before.before.before.before.before.before.before.before.before.before in
+    let q = c.quotient_rows-m in
+    let r = a.requires.1.1.1 in (
+      middle_valid (L a) (valid a) a.args.eliminate_tau_selfloops a.args.numbers.now a.requires.1.0 a.args.count q.result
+          _ (out c.before.before.before.before.before.before.before.before.before.before.before.before.before.before.before.before.before.before.before)
+          (mid c.before.before.before.before.before.before.before.before.before.before.before.before.before.before.before.before.before.before.before) a.requires.0.1 q.ensures.0.0 refl q.ensures.0.1,
       (
         omega (
           arith,
-          counted c.before.before.before.before.before.before.before.before.before.before.before.before.before.before.before.before.before.before.before.before.before.before,
+          counted c.before.before.before.before.before.before.before.before.before.before.before.before.before.before.before.before.before.before.before,
           r.0.1,
-          q.kept.1.1.1.1.1.1.1.1.1.1.0,
+          q.auto.a,
         ),
         omega (
           arith,
-          counted c.before.before.before.before.before.before.before.before.before.before.before.before.before.before.before.before.before.before.before.before.before.before,
+          counted c.before.before.before.before.before.before.before.before.before.before.before.before.before.before.before.before.before.before.before,
           r.1.0.0,
-          q.kept.1.1.1.1.1.1.1.1.1.1.1.0,
+          q.auto.b,
         ),
         omega (
           arith,
-          few c.before.before.before.before.before.before.before.before.before.before.before.before.before.before.before.before.before.before.before.before.before.before,
+          few c.before.before.before.before.before.before.before.before.before.before.before.before.before.before.before.before.before.before.before,
           r.1.0.1,
-          q.kept.1.1.1.1.1.1.1.1.1.1.1.1.0,
+          q.auto.c,
         ),
       ),
     )
 
-cast-renumber : tie.Need-overflow-cast-renumber
-cast-renumber c = search rules
+overflow_cast-table : tie.Need-overflow_cast-table
+overflow_cast-table c = search rules
 
 renumber-requires : tie.Need-renumber-requires
-renumber-requires c κs = let a = c.before.before.before.before.before.before.before.before.before.before.before.before.before.before.before.before.before.before.before.before.before.before.before.before.before.before.before.before.before.before.before.before.before.before.before.before.before.before.before.before.before.before.before.before.before.before.before.before.before.before.before.before.before.before.before.before in
-    let q = c.before.before.before.before.before.before.before.before.before.before.before.before.before.before.before.before.before.before.before.before.before.before.before.before.before.before.before.before.before.before.before.before.quotient-rows.auto.1.1.1.1.1.1.1.1.1.1.0 in
-    let p = c.before.before.before.before.before.before.before.before.before.sort_topological_lem.auto.1.1.1.1.1.1.0 in (
-      (a.pre.1.1.0.0, omega (arith, (valid a).few_states)),
+renumber-requires c κs = let a = c.before.before.before.before.before.before.before.before.before.before.before.before.before.before.before.before.before.before.before.before.before.before.before.before.before.before.before.before.before.before.before.before.before.before.before.before.before.before.before.before.before.before.before.before.before.before.before.before.before.before.before in
+    let q = c.quotient_rows-m.auto.a in
+    let p = c.sort_topological.auto.places in (
+      (a.requires.1.1.0.0, omega (arith, (valid a).few_states)),
       λ s h.
           omega (
             arith,
-            a.pre.1.0 s h,
+            a.requires.1.0 s h,
             component-below (L a) (valid a) s h,
             components_few (L a) (valid a),
-            a.pre.1.1.1.0.1,
+            a.requires.1.1.1.0.1,
             q,
             p,
           ),
     )
 
-same_length : tie.Need-same-length
-same_length c = c.before.before.renumber.auto.1.1.0
+shape_of-numbers : tie.Need-shape_of-numbers
+shape_of-numbers c = c.renumber.auto.numbers
 
-same-length-2 : tie.Need-same-length-2
-same-length-2 c = c.before.before.before.before.before.before.before.before.before.before.before.before.before.before.before.before.before.before.before.before.before.before.before.before.before.before.before.before.before.before.before.before.before.before.before.quotient-rows.auto.1.1.1.1.1.1.1.0
+shape_of-mid_source : tie.Need-shape_of-mid_source
+shape_of-mid_source c = c.quotient_rows-m.auto.result_source
 
-same-length-3 : tie.Need-same-length-3
-same-length-3 c = c.before.before.before.before.before.before.before.before.before.before.before.before.before.before.before.before.before.before.before.before.before.before.before.before.before.before.before.before.before.before.before.before.before.before.before.quotient-rows.auto.1.1.1.1.1.1.1.1.0
+shape_of-mid_label : tie.Need-shape_of-mid_label
+shape_of-mid_label c = c.quotient_rows-m.auto.result_label
 
-same-length-4 : tie.Need-same-length-4
-same-length-4 c = c.before.before.before.before.before.before.before.before.before.before.before.before.before.before.before.before.before.before.before.before.before.before.before.before.before.before.before.before.before.before.before.before.before.before.before.quotient-rows.auto.1.1.1.1.1.1.1.1.1.0
+shape_of-mid_target : tie.Need-shape_of-mid_target
+shape_of-mid_target c = c.quotient_rows-m.auto.result_target
 
-same-length-5 : tie.Need-same-length-5
-same-length-5 c = c.before.before.before.before.before.before.before.before.before.before.before.before.sort_topological_lem.auto.1.1.1.1.1.1.0 ∙ c.before.before.before.before.before.before.before.before.before.before.before.before.before.before.before.before.before.before.before.before.before.before.before.before.before.before.before.before.before.before.before.before.before.before.before.quotient-rows.auto.1.1.1.1.1.1.1.1.1.1.0
+shape_of-a : tie.Need-shape_of-a
+shape_of-a c = c.sort_topological.auto.places ∙ c.quotient_rows-m.auto.a
 
-same-length-6 : tie.Need-same-length-6
-same-length-6 c = c.before.before.before.before.before.before.before.before.before.before.before.before.sort_topological_lem.auto.1.1.1.1.1.1.1.0 ∙ c.before.before.before.before.before.before.before.before.before.before.before.before.before.before.before.before.before.before.before.before.before.before.before.before.before.before.before.before.before.before.before.before.before.before.before.quotient-rows.auto.1.1.1.1.1.1.1.1.1.1.1.0
+shape_of-b : tie.Need-shape_of-b
+shape_of-b c = c.sort_topological.auto.marks ∙ c.quotient_rows-m.auto.b
 
-same-length-7 : tie.Need-same-length-7
-same-length-7 c = c.before.before.before.before.before.before.before.before.before.before.before.before.sort_topological_lem.auto.1.1.1.1.1.1.1.1.0 ∙ c.before.before.before.before.before.before.before.before.before.before.before.before.before.before.before.before.before.before.before.before.before.before.before.before.before.before.before.before.before.before.before.before.before.before.before.quotient-rows.auto.1.1.1.1.1.1.1.1.1.1.1.1.0
+shape_of-c : tie.Need-shape_of-c
+shape_of-c c = c.sort_topological.auto.stack ∙ c.quotient_rows-m.auto.c
 
-same-length-8 : tie.Need-same-length-8
-same-length-8 c = c.before.before.before.before.before.before.before.before.before.before.before.before.before.before.before.before.before.before.before.before.before.before.before.before.before.before.before.before.before.before.before.before.before.before.before.quotient-rows.auto.1.1.1.1.1.1.1.1.1.1.1.1.1.0
+shape_of-order : tie.Need-shape_of-order
+shape_of-order c = c.quotient_rows-m.auto.order
 
-same-length-9 : tie.Need-same-length-9
-same-length-9 c = c.before.before.before.before.before.before.before.before.before.before.before.before.before.before.before.before.before.before.before.before.before.before.before.before.before.before.before.before.before.before.before.before.before.before.before.quotient-rows.auto.1.1.1.1.1.1.1.1.1.1.1.1.1.1.0
+shape_of-spare : tie.Need-shape_of-spare
+shape_of-spare c = c.quotient_rows-m.auto.spare
 
 returns : tie.Need-returns
-returns c = let a = c.before.before.before.before.before.before.before.before.before.before.before.before.before.before.before.before.before.before.before.before.before.before.before.before.before.before.before.before.before.before.before.before.before.before.before.before.before.before.before.before.before.before.before.before.before.before.before.before.before.before.before.before.before.before.before.before.before.before.before in
-    let q = c.before.before.before.before.before.before.before.before.before.before.before.before.before.before.before.before.before.before.before.before.before.before.before.before.before.before.before.before.before.before.before.before.before.before.before.quotient-rows in
-    c.before.before.renumber.ensures
-    ∙ new_numbers (L a) (valid a) a.args.eliminate-tau-selfloops a.args.numbers.now a.pre.1.0 a.args.count q.result _
-    (out c.before.before.before.before.before.before.before.before.before.before.before.before.before.before.before.before.before.before.before.before.before.before.before.before.before.before.before.before.before.before.before.before.before.before.before)
-    (mid c.before.before.before.before.before.before.before.before.before.before.before.before.before.before.before.before.before.before.before.before.before.before.before.before.before.before.before.before.before.before.before.before.before.before.before) a.pre.0.1 q.ensures.0.0 refl q.ensures.0.1 q.last.1.1.1.1.1.1.1.1.1.1.0 c.before.before.before.before.before.before.before.before.before.before.before.before.sort_topological_lem.new.1.1.1.1.1.1.0
-    c.before.before.before.before.before.before.before.before.before.before.before.before.sort_topological_lem.ensures.1.0
+returns c = let a = c.before.before.before.before.before.before.before.before.before.before.before.before.before.before.before.before.before.before.before.before.before.before.before.before.before.before.before.before.before.before.before.before.before.before.before.before.before.before.before.before.before.before.before.before.before.before.before.before.before.before.before.before.before.before in
+    let q = c.quotient_rows-m in
+    c.renumber.ensures
+    ∙ new_numbers (L a) (valid a) a.args.eliminate_tau_selfloops a.args.numbers.now a.requires.1.0 a.args.count q.result _
+    (out c.before.before.before.before.before.before.before.before.before.before.before.before.before.before.before.before.before.before.before.before.before.before.before.before.before.before.before.before.before.before.before)
+    (mid c.before.before.before.before.before.before.before.before.before.before.before.before.before.before.before.before.before.before.before.before.before.before.before.before.before.before.before.before.before.before.before) a.requires.0.1 q.ensures.0.0 refl q.ensures.0.1 q.new.a c.sort_topological.new.places
+    c.sort_topological.ensures.1.0
 
-pub order-components-spec : {M : Type 1} → statement M
-order-components-spec =
+pub order_components_spec : {M : Type 1} → statement M
+order_components_spec =
     tie.close
     (tie.spec
-    cast-initial
-    mul-initial
-    slice-read-initial
-    quotient-rows-requires
-    cast-t22
-    cast-t41
-    sort-topological-requires
-    cast-renumber
+    overflow_cast-initial
+    offset_bounds-numbers-table
+    bounds-numbers-table
+    quotient_rows-m-requires
+    overflow_cast-middle
+    overflow_cast-middle-2
+    sort_topological-requires
+    overflow_cast-table
     renumber-requires
-    same_length
-    same-length-2
-    same-length-3
-    same-length-4
-    same-length-5
-    same-length-6
-    same-length-7
-    same-length-8
-    same-length-9
+    shape_of-numbers
+    shape_of-mid_source
+    shape_of-mid_label
+    shape_of-mid_target
+    shape_of-a
+    shape_of-b
+    shape_of-c
+    shape_of-order
+    shape_of-spare
     returns)

@@ -11,89 +11,89 @@ use Rattle.quotient_cycles.proofs.cores.renumber.Tie as tie
 abbrev value : List ℕ → List ℕ → ℕ → ℕ
 value places numbers s = get_or places (get_or numbers s 0) 0
 
-abbrev invariant-loop : tie.invariant-loop
-invariant-loop n places numbers₀ s₀ numbers s = Painted (value places numbers₀) n numbers₀ s numbers
+abbrev invariant-loop-s : tie.invariant-loop-s
+invariant-loop-s n places numbers₀ s₀ numbers s = Painted (value places numbers₀) n numbers₀ s numbers
 
-abbrev decreases-loop : tie.decreases-loop
-decreases-loop n places numbers₀ s₀ numbers s = n - s
+abbrev decreases-loop-s : tie.decreases-loop-s
+decreases-loop-s n places numbers₀ s₀ numbers s = n - s
 
 -- the number that is read
-module _ (q : tie.After-at invariant-loop decreases-loop) where
-  below : q.before.before.before.loop.s < q.before.before.before.before.before.before.args.n
-  below = omega (arith, q.before.before.loop-test)
+module _ (q : tie.After-at-b invariant-loop-s decreases-loop-s) where
+  below : q.loop-s.s < q.args.n
+  below = omega (arith, q.loop-s-test)
 
-  old : q.at.result ≡ get_or q.before.before.before.before.before.before.args.numbers.now q.before.before.before.loop.s 0
-  old = q.at.ensures.0 ∙ painted_rest _ _ _ _ _ q.before.before.before.loop.inv
+  old : q.at-b.result ≡ get_or q.args.numbers.now q.loop-s.s 0
+  old = q.at-b.ensures.0 ∙ painted_rest _ _ _ _ _ q.loop-s.invariant
 
-loop-holds : tie.Need-loop-init invariant-loop decreases-loop
-loop-holds c = let a = c.before.before in painted_none (value a.args.places.now a.args.numbers.now) a.args.n a.args.numbers.now
+loop-s-init : tie.Need-loop-s-init invariant-loop-s decreases-loop-s
+loop-s-init c = let a = c in painted_none (value a.args.places.now a.args.numbers.now) a.args.n a.args.numbers.now
 
-at-requires : tie.Need-at-requires invariant-loop decreases-loop
-at-requires c κs = omega (
+at-b-requires : tie.Need-at-b-requires invariant-loop-s decreases-loop-s
+at-b-requires c κs = omega (
   arith,
-  c.before.loop-test,
-  c.before.before.loop.invariant.1.1,
-  c.before.before.before.before.before.requires.0.0,
+  c.loop-s-test,
+  c.loop-s.invariant.1.1,
+  c.requires.0.0,
 )
 
-mul-numbers : tie.Need-overflow-mul-numbers invariant-loop decreases-loop
-mul-numbers c = omega (arith, c.at.ensures.1)
+offset_bounds-places-b : tie.Need-offset_bounds-places-b invariant-loop-s decreases-loop-s
+offset_bounds-places-b c = omega (arith, c.at-b.ensures.1)
 
-shared-slice-read-numbers : tie.Need-shared-slice-read-numbers invariant-loop decreases-loop
-shared-slice-read-numbers c = omega (
+bounds-places-b : tie.Need-bounds-places-b invariant-loop-s decreases-loop-s
+bounds-places-b c = omega (
   arith,
   old c.before,
-  c.before.before.before.before.before.before.before.requires.1 c.before.before.before.before.loop.s (below c.before),
+  c.requires.1 c.loop-s.s (below c.before),
 )
 
-mul-numbers-2 : tie.Need-overflow-mul-numbers-2 invariant-loop decreases-loop
-mul-numbers-2 c = omega (arith, below c.before, c.before.before.before.before.before.before.before.requires.0.1)
+offset_bounds-numbers-s : tie.Need-offset_bounds-numbers-s invariant-loop-s decreases-loop-s
+offset_bounds-numbers-s c = omega (arith, below c.before, c.requires.0.1)
 
-slice-write-numbers : tie.Need-slice-write-numbers invariant-loop decreases-loop
-slice-write-numbers c = omega (
+bounds-numbers-s : tie.Need-bounds-numbers-s invariant-loop-s decreases-loop-s
+bounds-numbers-s c = omega (
   arith,
   below c.before,
-  c.before.before.before.before.before.before.before.requires.0.0,
-  c.before.before.before.before.loop.invariant.1.1,
+  c.requires.0.0,
+  c.loop-s.invariant.1.1,
 )
 
-add-s : tie.Need-overflow-add-s invariant-loop decreases-loop
-add-s c = omega (arith, below c.before, c.before.before.before.before.before.before.before.requires.0.1)
+overflow_add-s : tie.Need-overflow_add-s invariant-loop-s decreases-loop-s
+overflow_add-s c = omega (arith, below c.before, c.requires.0.1)
 
-loop-less : tie.Need-loop-smaller invariant-loop decreases-loop
-loop-less c = omega (arith, below c.before)
+loop-s-smaller : tie.Need-loop-s-smaller invariant-loop-s decreases-loop-s
+loop-s-smaller c = omega (arith, below c.before)
 
-loop-again : tie.Need-loop-preserved invariant-loop decreases-loop
-loop-again c = let a = c.before.before.before.before.before.before.before in
+loop-s-preserved : tie.Need-loop-s-preserved invariant-loop-s decreases-loop-s
+loop-s-preserved c = let a = c in
     painted_more (value a.args.places.now a.args.numbers.now) _ _ _ _ _ a.requires.0.0 (below c.before)
-    (ap (λ (b : ℕ). get_or a.args.places.now b 0) (old c.before)) c.before.before.before.before.loop.invariant
+    (ap (λ (b : ℕ). get_or a.args.places.now b 0) (old c.before)) c.loop-s.invariant
 
-same_length : tie.Need-same-length invariant-loop decreases-loop
-same_length c = c.before.loop.invariant.1.1
+shape_of-numbers : tie.Need-shape_of-numbers invariant-loop-s decreases-loop-s
+shape_of-numbers c = c.loop-s.invariant.1.1
 
-returns : tie.Need-returns invariant-loop decreases-loop
+returns : tie.Need-returns invariant-loop-s decreases-loop-s
 unfolding written
-returns c = let a = c.before.before.before.before in
+returns c = let a = c in
     let f = value a.args.places.now a.args.numbers.now in
-    painted_done f a.args.n a.args.numbers.now _ _ (listed a.args.n f) c.before.loop.invariant (omega (
+    painted_done f a.args.n a.args.numbers.now _ _ (listed a.args.n f) c.loop-s.invariant (omega (
       arith,
-      c.loop-test,
+      c.loop-s-test,
     )) refl
 
-pub renumber-spec : {M : Type 1} → statement M
-renumber-spec =
+pub renumber_spec : {M : Type 1} → statement M
+renumber_spec =
     tie.close
     (tie.spec
-    invariant-loop
-    decreases-loop
-    loop-holds
-    at-requires
-    mul-numbers
-    shared-slice-read-numbers
-    mul-numbers-2
-    slice-write-numbers
-    add-s
-    loop-less
-    loop-again
-    same_length
+    invariant-loop-s
+    decreases-loop-s
+    loop-s-init
+    at-b-requires
+    offset_bounds-places-b
+    bounds-places-b
+    offset_bounds-numbers-s
+    bounds-numbers-s
+    overflow_add-s
+    loop-s-smaller
+    loop-s-preserved
+    shape_of-numbers
     returns)

@@ -10,8 +10,8 @@ at-requires c κs = search rules
 at-requires-2 : tie.Need-at-requires-2
 at-requires-2 c κs = search rules
 
-returns : tie.Need-returns
-returns c = pair_differs _ _ _ _ _ _ c.before.before.at.ensures.0 c.before.at2.ensures.0 c.if1.true
+returns-then-at : tie.Need-returns-then-at
+returns-then-at c = pair_differs _ _ _ _ _ _ c.at.ensures.0 c.at-2.ensures.0 c.if-at.true
 
 at-requires-3 : tie.Need-at-requires-3
 at-requires-3 c κs = search rules
@@ -19,12 +19,12 @@ at-requires-3 c κs = search rules
 at-requires-4 : tie.Need-at-requires-4
 at-requires-4 c κs = search rules
 
-returns-2 : tie.Need-returns-2
-returns-2 c =
-    let read = c.before.before.before.before.at in
-    pair_rest _ _ _ _ _ _ read.ensures.0 c.before.before.before.at2.ensures.0 c.before.before.if1.false _ _
-    c.before.at3.ensures.0 c.at4.ensures.0
+returns : tie.Need-returns
+returns c =
+    let read = c.at in
+    pair_rest _ _ _ _ _ _ read.ensures.0 c.at-2.ensures.0 c.if-at.false _ _
+    c.at-3.ensures.0 c.at-4.ensures.0
 
-pub pair-same-spec : {M : Type 1} → statement M
-pair-same-spec =
-    tie.close (tie.spec at-requires at-requires-2 returns at-requires-3 at-requires-4 returns-2)
+pub pair_same_spec : {M : Type 1} → statement M
+pair_same_spec =
+    tie.close (tie.spec at-requires at-requires-2 returns-then-at at-requires-3 at-requires-4 returns)

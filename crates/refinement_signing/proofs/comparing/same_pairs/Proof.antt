@@ -11,52 +11,52 @@ use Rattle.refinement_signing.specs.Stored.{pair_same}
 use Rattle.refinement_signing.proofs.comparing.same_pairs.Statement.{statement}
 use Rattle.refinement_signing.proofs.comparing.same_pairs.Tie as tie
 
-abbrev invariant-loop : tie.invariant-loop
-invariant-loop labels blocks x v k i₀ i = (i ≤ k) × (all i (λ j. pair_same labels blocks (x + j) (v + j)) ≡ true)
+abbrev invariant-loop-i : tie.invariant-loop-i
+invariant-loop-i labels blocks x v k i₀ i = (i ≤ k) × (all i (λ j. pair_same labels blocks (x + j) (v + j)) ≡ true)
 
-abbrev decreases-loop : tie.decreases-loop
-decreases-loop labels blocks x v k i₀ i = k - i
+abbrev decreases-loop-i : tie.decreases-loop-i
+decreases-loop-i labels blocks x v k i₀ i = k - i
 
-loop-holds : tie.Need-loop-init invariant-loop decreases-loop
-loop-holds c = (omega arith, all_none _)
+loop-i-init : tie.Need-loop-i-init invariant-loop-i decreases-loop-i
+loop-i-init c = (omega arith, all_none _)
 
-add-pair-same : tie.Need-overflow-add-pair-same invariant-loop decreases-loop
-add-pair-same c = search rules
+overflow_add-x : tie.Need-overflow_add-x invariant-loop-i decreases-loop-i
+overflow_add-x c = search rules
 
-add-pair-same-2 : tie.Need-overflow-add-pair-same-2 invariant-loop decreases-loop
-add-pair-same-2 c = search rules
+overflow_add-v : tie.Need-overflow_add-v invariant-loop-i decreases-loop-i
+overflow_add-v c = search rules
 
-pair-same-requires : tie.Need-pair-same-requires invariant-loop decreases-loop
-pair-same-requires c κs = search rules
+pair_same-requires : tie.Need-pair_same-requires invariant-loop-i decreases-loop-i
+pair_same-requires c κs = search rules
 
-returns : tie.Need-returns invariant-loop decreases-loop
-returns c = sym (all_fails _ _ _ (omega arith) (sym c.before.pair_same_lem.ensures ∙ not-true _ c.if1.true))
+returns-then-not-pair_same : tie.Need-returns-then-not-pair_same invariant-loop-i decreases-loop-i
+returns-then-not-pair_same c = sym (all_fails _ _ _ (omega arith) (sym c.pair_same.ensures ∙ c.if-not-pair_same.true))
 
-add-i : tie.Need-overflow-add-i invariant-loop decreases-loop
-add-i c = search rules
+overflow_add-i : tie.Need-overflow_add-i invariant-loop-i decreases-loop-i
+overflow_add-i c = search rules
 
-loop-less : tie.Need-loop-smaller invariant-loop decreases-loop
-loop-less c = search rules
+loop-i-smaller : tie.Need-loop-i-smaller invariant-loop-i decreases-loop-i
+loop-i-smaller c = search rules
 
-loop-again : tie.Need-loop-preserved invariant-loop decreases-loop
-loop-again c =
-    (omega arith, all_more _ _ c.before.before.before.loop.invariant.1 (sym c.before.pair_same_lem.ensures ∙ not-false _ c.if1.false))
+loop-i-preserved : tie.Need-loop-i-preserved invariant-loop-i decreases-loop-i
+loop-i-preserved c =
+    (omega arith, all_more _ _ c.loop-i.invariant.1 (sym c.pair_same.ensures ∙ c.if-not-pair_same.false))
 
-returns-2 : tie.Need-returns-2 invariant-loop decreases-loop
-returns-2 c = all_done _ _ _ c.before.loop.invariant.1 (omega arith)
+returns : tie.Need-returns invariant-loop-i decreases-loop-i
+returns c = all_done _ _ _ c.loop-i.invariant.1 (omega arith)
 
-pub same-pairs-spec : {M : Type 1} → statement M
-same-pairs-spec =
+pub same_pairs_spec : {M : Type 1} → statement M
+same_pairs_spec =
     tie.close
     (tie.spec
-    invariant-loop
-    decreases-loop
-    loop-holds
-    add-pair-same
-    add-pair-same-2
-    pair-same-requires
-    returns
-    add-i
-    loop-less
-    loop-again
-    returns-2)
+    invariant-loop-i
+    decreases-loop-i
+    loop-i-init
+    overflow_add-x
+    overflow_add-v
+    pair_same-requires
+    returns-then-not-pair_same
+    overflow_add-i
+    loop-i-smaller
+    loop-i-preserved
+    returns)

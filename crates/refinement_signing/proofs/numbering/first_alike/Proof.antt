@@ -12,84 +12,84 @@ use Rattle.refinement_signing.proofs.Numberings.{at_tested}
 use Rattle.refinement_signing.proofs.numbering.first_alike.Statement.{statement}
 use Rattle.refinement_signing.proofs.numbering.first_alike.Tie as tie
 
-abbrev invariant-loop : tie.invariant-loop
-invariant-loop n elements labels blocks d begins x j s i₀ i = (i ≤ j) × NoneBelow (λ t. alike_at elements (store n labels blocks d begins) x t j) i
+abbrev invariant-loop-i : tie.invariant-loop-i
+invariant-loop-i n elements labels blocks d begins x j s i₀ i = (i ≤ j) × NoneBelow (λ t. alike_at elements (store n labels blocks d begins) x t j) i
 
-abbrev decreases-loop : tie.decreases-loop
-decreases-loop n elements labels blocks d begins x j s i₀ i = j - i
+abbrev decreases-loop-i : tie.decreases-loop-i
+decreases-loop-i n elements labels blocks d begins x j s i₀ i = j - i
 
 -- the test, of each before j
-abbrev F : tie.Start invariant-loop decreases-loop → ℕ → Bool
+abbrev F : tie.Start invariant-loop-i decreases-loop-i → ℕ → Bool
 F a t =
     let g = a.args in
     alike_at g.elements.now (store g.n g.labels.now g.blocks.now g.d g.begins.now) g.x t g.j
 
-tested : (q : tie.After-same-signature invariant-loop decreases-loop) → q.same_signature.result
-    ≡ F q.before.before.before.before.before.before.before.before.before q.before.before.before.loop.i
+tested : (q : tie.After-same_signature invariant-loop-i decreases-loop-i) → q.same_signature.result
+    ≡ F q.before.before.before.before.before.before.before.before.before q.loop-i.i
 tested q =
-    let read = q.before.before.before.before.at in
-    at_tested _ _ _ _ _ _ _ _ q.before.at2.ensures.0 read.ensures.0 q.same_signature.ensures
+    let read = q.at-s in
+    at_tested _ _ _ _ _ _ _ _ q.at-u.ensures.0 read.ensures.0 q.same_signature.ensures
 
-add_at : tie.Need-overflow-add-at invariant-loop decreases-loop
-add_at c = search rules
+overflow_add-x : tie.Need-overflow_add-x invariant-loop-i decreases-loop-i
+overflow_add-x c = search rules
 
-at-requires : tie.Need-at-requires invariant-loop decreases-loop
-at-requires c κs = search rules
+at-s-requires : tie.Need-at-s-requires invariant-loop-i decreases-loop-i
+at-s-requires c κs = search rules
 
-loop-holds : tie.Need-loop-init invariant-loop decreases-loop
-loop-holds c = (omega arith, λ k l. absurd (omega (arith, l)))
+loop-i-init : tie.Need-loop-i-init invariant-loop-i decreases-loop-i
+loop-i-init c = (omega arith, λ k l. absurd (omega (arith, l)))
 
-add-at-2 : tie.Need-overflow-add-at-2 invariant-loop decreases-loop
-add-at-2 c = search rules
+overflow_add-x-in-loop-i : tie.Need-overflow_add-x-in-loop-i invariant-loop-i decreases-loop-i
+overflow_add-x-in-loop-i c = search rules
 
-at-requires-2 : tie.Need-at-requires-2 invariant-loop decreases-loop
-at-requires-2 c κs = search rules
+at-u-requires : tie.Need-at-u-requires invariant-loop-i decreases-loop-i
+at-u-requires c κs = search rules
 
-same-signature-requires : tie.Need-same-signature-requires invariant-loop decreases-loop
-same-signature-requires c κs =
-    let a = c.before.before.before.before.before.before.before.before in (
+same_signature-requires : tie.Need-same_signature-requires invariant-loop-i decreases-loop-i
+same_signature-requires c κs =
+    let a = c in (
       a.requires.0,
-      omega (arith, c.at2.ensures.0, a.requires.1.below c.before.before.loop.i (omega arith)),
+      omega (arith, c.at-u.ensures.0, a.requires.1.below c.loop-i.i (omega arith)),
       omega
-          (arith, c.before.before.before.at.ensures.0, a.requires.1.below a.args.j (omega arith)),
+          (arith, c.at-s.ensures.0, a.requires.1.below a.args.j (omega arith)),
     )
 
-returns : tie.Need-returns invariant-loop decreases-loop
+returns-then-same_signature : tie.Need-returns-then-same_signature invariant-loop-i decreases-loop-i
+unfolding least
+returns-then-same_signature c =
+    let a = c.before.before.before.before.before.before.before.before.before.before in
+    let l = c.loop-i in
+    first_hit a.args.j (F a) l.i (omega arith) l.invariant.1 (sym (tested c.before) ∙ c.if-same_signature.true)
+
+overflow_add-i : tie.Need-overflow_add-i invariant-loop-i decreases-loop-i
+overflow_add-i c = search rules
+
+loop-i-smaller : tie.Need-loop-i-smaller invariant-loop-i decreases-loop-i
+loop-i-smaller c = search rules
+
+loop-i-preserved : tie.Need-loop-i-preserved invariant-loop-i decreases-loop-i
+loop-i-preserved c = (omega arith, none_more _ _ c.loop-i.invariant.1 (sym (tested c.before) ∙ c.if-same_signature.false))
+
+returns : tie.Need-returns invariant-loop-i decreases-loop-i
 unfolding least
 returns c =
-    let a = c.before.before.before.before.before.before.before.before.before.before in
-    let l = c.before.before.before.before.loop in
-    first_hit a.args.j (F a) l.i (omega arith) l.invariant.1 (sym (tested c.before) ∙ c.if1.true)
-
-add-i : tie.Need-overflow-add-i invariant-loop decreases-loop
-add-i c = search rules
-
-loop-less : tie.Need-loop-smaller invariant-loop decreases-loop
-loop-less c = search rules
-
-loop-again : tie.Need-loop-preserved invariant-loop decreases-loop
-loop-again c = (omega arith, none_more _ _ c.before.before.before.before.loop.invariant.1 (sym (tested c.before) ∙ c.if1.false))
-
-returns-2 : tie.Need-returns-2 invariant-loop decreases-loop
-unfolding least
-returns-2 c =
     let a = c.before.before.before.before.before.before.before in
-    first_past _ (F a) _ (omega arith) c.before.loop.invariant.1 c.before.loop.invariant.0
+    first_past _ (F a) _ (omega arith) c.loop-i.invariant.1 c.loop-i.invariant.0
 
-pub first-alike-spec : {M : Type 1} → statement M
-first-alike-spec =
+pub first_alike_spec : {M : Type 1} → statement M
+first_alike_spec =
     tie.close
     (tie.spec
-    invariant-loop
-    decreases-loop
-    add_at
-    at-requires
-    loop-holds
-    add-at-2
-    at-requires-2
-    same-signature-requires
-    returns
-    add-i
-    loop-less
-    loop-again
-    returns-2)
+    invariant-loop-i
+    decreases-loop-i
+    overflow_add-x
+    at-s-requires
+    loop-i-init
+    overflow_add-x-in-loop-i
+    at-u-requires
+    same_signature-requires
+    returns-then-same_signature
+    overflow_add-i
+    loop-i-smaller
+    loop-i-preserved
+    returns)

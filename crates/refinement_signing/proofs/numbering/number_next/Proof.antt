@@ -25,106 +25,106 @@ equal a = alike_equivalence _ _ _
 few : (a : tie.Start) → a.args.next ≤ a.args.j
 few a = number_few (F a) (equal a) _ a.args.n _ _ _ _ a.requires.1
 
-add_at : tie.Need-overflow-add-at
-add_at c = search rules
+overflow_add-x : tie.Need-overflow_add-x
+overflow_add-x c = search rules
 
-at-requires : tie.Need-at-requires
-at-requires c κs = search rules
+at-s-requires : tie.Need-at-s-requires
+at-s-requires c κs = search rules
 
-first-alike-requires : tie.Need-first-alike-requires
-first-alike-requires c κs = search rules
+first_alike-i-requires : tie.Need-first_alike-i-requires
+first_alike-i-requires c κs = search rules
 
-add-at-2 : tie.Need-overflow-add-at-2
-add-at-2 c = search rules
+overflow_add-x-then-i-j : tie.Need-overflow_add-x-then-i-j
+overflow_add-x-then-i-j c = search rules
 
-at-requires-2 : tie.Need-at-requires-2
-at-requires-2 c κs = search rules
+at-u-requires : tie.Need-at-u-requires
+at-u-requires c κs = search rules
 
-mul-k : tie.Need-overflow-mul-k
-mul-k c = search rules
+offset_bounds-numbers-u : tie.Need-offset_bounds-numbers-u
+offset_bounds-numbers-u c = search rules
 
-slice-read-k : tie.Need-slice-read-k
-slice-read-k c =
-    let a = c.before.before.before.before.before.before.before.before.before.before in
+bounds-numbers-u : tie.Need-bounds-numbers-u
+bounds-numbers-u c =
+    let a = c in
     omega (
       arith,
-      c.before.at2.ensures.0,
-      a.requires.0.1.below c.before.before.before.first_alike.result (omega arith),
+      c.at-u.ensures.0,
+      a.requires.0.1.below c.first_alike-i.result (omega arith),
       a.requires.0.2,
     )
 
-mul-numbers : tie.Need-overflow-mul-numbers
-mul-numbers c = search rules
+offset_bounds-numbers-s : tie.Need-offset_bounds-numbers-s
+offset_bounds-numbers-s c = search rules
 
-slice-write-numbers : tie.Need-slice-write-numbers
-slice-write-numbers c =
-    let a = c.before.before.before.before.before.before.before.before.before.before in
-    let read = c.before.before.before.before.at in
+bounds-numbers-s : tie.Need-bounds-numbers-s
+bounds-numbers-s c =
+    let a = c in
+    let read = c.at-s in
     omega (arith, read.ensures.0, a.requires.0.1.below a.args.j (omega arith), a.requires.0.2)
 
-same_length : tie.Need-same-length
-same_length c = search rules
+shape_of-numbers-then-i-j : tie.Need-shape_of-numbers-then-i-j
+shape_of-numbers-then-i-j c = search rules
 
-returns : tie.Need-returns
-returns c =
+returns-then-i-j : tie.Need-returns-then-i-j
+returns-then-i-j c =
     let a = c.before.before.before.before.before.before.before.before.before.before in
-    let read = c.before.before.before.before.at in
+    let read = c.at-s in
     let numbers = a.args.numbers.now in (
       number_old_at (F a) (equal a) _ a.args.n _ _ _ _ a.requires.1 a.requires.0.1 a.requires.0.2 _ _ read.ensures.0
-          c.before.before.before.first_alike.ensures _ c.before.at2.ensures.0 c.before.before.if1.true,
+          c.first_alike-i.ensures _ c.at-u.ensures.0 c.if-i-j.true,
       λ u h.
-          get_or-set_other numbers read.result u (get_or numbers c.before.at2.result 0) 0
+          get_or-set_other numbers read.result u (get_or numbers c.at-u.result 0) 0
           (λ e. h (sym (e ∙ read.ensures.0))),
     )
 
-cast-numbers : tie.Need-overflow-cast-numbers
-cast-numbers c =
+overflow_cast-numbers : tie.Need-overflow_cast-numbers
+overflow_cast-numbers c =
     let a = c.before.before.before.before.before.before.before.before in
     record { fits = omega (arith, few a, a.requires.0.3) }
 
-mul-numbers-2 : tie.Need-overflow-mul-numbers-2
-mul-numbers-2 c = search rules
+offset_bounds-numbers-s-2 : tie.Need-offset_bounds-numbers-s-2
+offset_bounds-numbers-s-2 c = search rules
 
-slice-write-numbers-2 : tie.Need-slice-write-numbers-2
-slice-write-numbers-2 c =
-    let a = c.before.before.before.before.before.before.before.before in
-    omega (arith, c.before.before.at.ensures.0, a.requires.0.1.below a.args.j (omega arith), a.requires.0.2)
+bounds-numbers-s-2 : tie.Need-bounds-numbers-s-2
+bounds-numbers-s-2 c =
+    let a = c in
+    omega (arith, c.at-s.ensures.0, a.requires.0.1.below a.args.j (omega arith), a.requires.0.2)
 
-add-result : tie.Need-overflow-add-result
-add-result c =
+overflow_add-result : tie.Need-overflow_add-result
+overflow_add-result c =
     let a = c.before.before.before.before.before.before.before.before in
     record { fits = omega (arith, few a, a.requires.0.3) }
 
-same-length-2 : tie.Need-same-length-2
-same-length-2 c = search rules
+shape_of-numbers : tie.Need-shape_of-numbers
+shape_of-numbers c = search rules
 
-returns-2 : tie.Need-returns-2
-returns-2 c =
+returns : tie.Need-returns
+returns c =
     let a = c.before.before.before.before.before.before.before.before in
-    let read = c.before.before.at in (
+    let read = c.at-s in (
       number_new_at (F a) (equal a) _ a.args.n _ _ _ _ a.requires.1 a.requires.0.1 a.requires.0.2 _ _ read.ensures.0
-          c.before.first_alike.ensures c.if1.false,
+          c.first_alike-i.ensures c.if-i-j.false,
       λ u h. get_or-set_other a.args.numbers.now read.result u a.args.next 0 (λ e. h (sym (e ∙ read.ensures.0))),
     )
 
-pub number-next-spec : {M : Type 1} → statement M
-number-next-spec =
+pub number_next_spec : {M : Type 1} → statement M
+number_next_spec =
     tie.close
     (tie.spec
-    add_at
-    at-requires
-    first-alike-requires
-    add-at-2
-    at-requires-2
-    mul-k
-    slice-read-k
-    mul-numbers
-    slice-write-numbers
-    same_length
-    returns
-    cast-numbers
-    mul-numbers-2
-    slice-write-numbers-2
-    add-result
-    same-length-2
-    returns-2)
+    overflow_add-x
+    at-s-requires
+    first_alike-i-requires
+    overflow_add-x-then-i-j
+    at-u-requires
+    offset_bounds-numbers-u
+    bounds-numbers-u
+    offset_bounds-numbers-s
+    bounds-numbers-s
+    shape_of-numbers-then-i-j
+    returns-then-i-j
+    overflow_cast-numbers
+    offset_bounds-numbers-s-2
+    bounds-numbers-s-2
+    overflow_add-result
+    shape_of-numbers
+    returns)

@@ -7,41 +7,41 @@ use Rattle.refinement_signing.proofs.OwnRows.{Passing, pass_start, pass_more, pa
 use Rattle.refinement_signing.proofs.signing.row_end.Statement.{statement}
 use Rattle.refinement_signing.proofs.signing.row_end.Tie as tie
 
-abbrev invariant-loop : tie.invariant-loop
-invariant-loop source m s first i₀ i = Passing source m s first i
+abbrev invariant-loop-i : tie.invariant-loop-i
+invariant-loop-i source m s first i₀ i = Passing source m s first i
 
-abbrev decreases-loop : tie.decreases-loop
-decreases-loop source m s first i₀ i = m - i
+abbrev decreases-loop-i : tie.decreases-loop-i
+decreases-loop-i source m s first i₀ i = m - i
 
-loop-holds : tie.Need-loop-init invariant-loop decreases-loop
-loop-holds c = pass_start _ _ c.before.requires.1 _ _ c.before.requires.2
+loop-i-init : tie.Need-loop-i-init invariant-loop-i decreases-loop-i
+loop-i-init c = pass_start _ _ c.requires.1 _ _ c.requires.2
 
-at-requires : tie.Need-at-requires invariant-loop decreases-loop
+at-requires : tie.Need-at-requires invariant-loop-i decreases-loop-i
 at-requires c κs = search rules
 
-returns : tie.Need-returns invariant-loop decreases-loop
+returns-then-at-s : tie.Need-returns-then-at-s invariant-loop-i decreases-loop-i
+returns-then-at-s c =
+    let a = c in
+    pass_stop _ _ a.requires.1 _ _ a.requires.2 _ c.loop-i.invariant (omega arith)
+    (λ e. c.if-at-s.true (c.at.ensures.0 ∙ e))
+
+overflow_add-i : tie.Need-overflow_add-i invariant-loop-i decreases-loop-i
+overflow_add-i c = search rules
+
+loop-i-smaller : tie.Need-loop-i-smaller invariant-loop-i decreases-loop-i
+loop-i-smaller c = search rules
+
+loop-i-preserved : tie.Need-loop-i-preserved invariant-loop-i decreases-loop-i
+loop-i-preserved c =
+    let a = c in
+    pass_more _ _ a.requires.1 _ _ a.requires.2 _ c.loop-i.invariant (omega arith)
+    (sym c.at.ensures.0 ∙ c.if-at-s.false)
+
+returns : tie.Need-returns invariant-loop-i decreases-loop-i
 returns c =
-    let a = c.before.before.before.before.before in
-    pass_stop _ _ a.requires.1 _ _ a.requires.2 _ c.before.before.before.loop.invariant (omega arith)
-    (λ e. c.if1.true (c.before.at.ensures.0 ∙ e))
+    pass_end _ _ c.requires.1 _ _ c.requires.2 _ c.loop-i.invariant (omega arith)
 
-add-i : tie.Need-overflow-add-i invariant-loop decreases-loop
-add-i c = search rules
-
-loop-less : tie.Need-loop-smaller invariant-loop decreases-loop
-loop-less c = search rules
-
-loop-again : tie.Need-loop-preserved invariant-loop decreases-loop
-loop-again c =
-    let a = c.before.before.before.before.before in
-    pass_more _ _ a.requires.1 _ _ a.requires.2 _ c.before.before.before.loop.invariant (omega arith)
-    (sym c.before.at.ensures.0 ∙ c.if1.false)
-
-returns-2 : tie.Need-returns-2 invariant-loop decreases-loop
-returns-2 c =
-    pass_end _ _ c.before.before.before.requires.1 _ _ c.before.before.before.requires.2 _ c.before.loop.invariant (omega arith)
-
-pub row-end-spec : {M : Type 1} → statement M
-row-end-spec =
+pub row_end_spec : {M : Type 1} → statement M
+row_end_spec =
     tie.close
-    (tie.spec invariant-loop decreases-loop loop-holds at-requires returns add-i loop-less loop-again returns-2)
+    (tie.spec invariant-loop-i decreases-loop-i loop-i-init at-requires returns-then-at-s overflow_add-i loop-i-smaller loop-i-preserved returns)

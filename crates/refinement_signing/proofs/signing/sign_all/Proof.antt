@@ -12,8 +12,8 @@ use Rattle.table.proofs.Stretches.{rising}
 use Rattle.refinement_signing.proofs.signing.sign_all.Statement.{statement}
 use Rattle.refinement_signing.proofs.signing.sign_all.Tie as tie
 
-abbrev invariant-loop : tie.invariant-loop
-invariant-loop source label target home labels₀ blocks₀ begins₀ pushed-labels₀ pushed-blocks₀ order₀ spare₀ n m s₀ i₀ d₀ labels blocks begins
+abbrev invariant-loop-s : tie.invariant-loop-s
+invariant-loop-s source label target home labels₀ blocks₀ begins₀ pushed-labels₀ pushed-blocks₀ order₀ spare₀ n m s₀ i₀ d₀ labels blocks begins
     pushed-labels pushed-blocks order spare s i d =
     Signing (bare n m source label target) home s i labels blocks d begins
     × (length labels ≡ length labels₀)
@@ -25,66 +25,66 @@ invariant-loop source label target home labels₀ blocks₀ begins₀ pushed-lab
     × (length spare ≡ length spare₀)
     × (spare ≡ zeros (length spare₀))
 
-abbrev decreases-loop : tie.decreases-loop
-decreases-loop source label target home labels₀ blocks₀ begins₀ pushed-labels₀ pushed-blocks₀ order₀ spare₀ n m s₀ i₀ d₀ labels blocks begins
+abbrev decreases-loop-s : tie.decreases-loop-s
+decreases-loop-s source label target home labels₀ blocks₀ begins₀ pushed-labels₀ pushed-blocks₀ order₀ spare₀ n m s₀ i₀ d₀ labels blocks begins
     pushed-labels pushed-blocks order spare s i d = n - s
 
 -- the table that is lent
-abbrev L : tie.Start invariant-loop decreases-loop → Lts
+abbrev L : tie.Start invariant-loop-s decreases-loop-s → Lts
 L a = lts a.args.table a.args.source.now a.args.label.now a.args.target.now
 
 -- the rows of the state
-from : (q : tie.After-row-end invariant-loop decreases-loop) → RowsFrom
-    (L q.before.before.before.before.before.before.before.before.before.before.before.before.before.before.before.before) q.before.before.loop.s q.before.before.loop.i q.row-end.result
+from : (q : tie.After-row_end-end invariant-loop-s decreases-loop-s) → RowsFrom
+    (L q.before.before.before.before.before.before.before.before.before.before.before.before.before.before.before.before) q.loop-s.s q.loop-s.i q.row_end-end.result
 from q =
     let a = q.before.before.before.before.before.before.before.before.before.before.before.before.before.before.before.before in
-    turn_rows (L a) a.pre.0.0 _ _ _ _ _ _ _ q.before.before.loop.invariant.0 _ q.row-end.ensures
+    turn_rows (L a) a.requires.0.0 _ _ _ _ _ _ _ q.loop-s.invariant.0 _ q.row_end-end.ensures
 
-cast-n : tie.Need-overflow-cast-n invariant-loop decreases-loop
-cast-n c = search rules
+overflow_cast-n : tie.Need-overflow_cast-n invariant-loop-s decreases-loop-s
+overflow_cast-n c = search rules
 
-cast-m : tie.Need-overflow-cast-m invariant-loop decreases-loop
-cast-m c = search rules
+overflow_cast-m : tie.Need-overflow_cast-m invariant-loop-s decreases-loop-s
+overflow_cast-m c = search rules
 
-loop-holds : tie.Need-loop-init invariant-loop decreases-loop
-loop-holds c =
+loop-s-init : tie.Need-loop-s-init invariant-loop-s decreases-loop-s
+loop-s-init c =
     let a = c.before.before.before.before.before.before.before.before.before.before.before.before.before in
     (turn_start (L a) a.requires.0.0 _ _ _ _, refl, refl, refl, refl, refl, refl, refl, a.requires.1.1.2)
 
-row-end-requires : tie.Need-row-end-requires invariant-loop decreases-loop
-row-end-requires c κs =
+row_end-end-requires : tie.Need-row_end-end-requires invariant-loop-s decreases-loop-s
+row_end-end-requires c κs =
     let a = c.before.before.before.before.before.before.before.before.before.before.before.before.before.before.before in
-    (a.requires.0.0.long.source, rising (L a) a.requires.0.0, c.before.loop.invariant.0.row)
+    (a.requires.0.0.long.source, rising (L a) a.requires.0.0, c.loop-s.invariant.0.row)
 
-cast-begins : tie.Need-overflow-cast-begins invariant-loop decreases-loop
-cast-begins c =
+overflow_cast-begins : tie.Need-overflow_cast-begins invariant-loop-s decreases-loop-s
+overflow_cast-begins c =
     let a = c.before.before.before.before.before.before.before.before.before.before.before.before.before.before.before.before in
     record {
       fits = omega (
         arith,
-        c.before.before.loop.invariant.0.few,
-        turn_row (L a) a.pre.0.0 _ _ _ _ _ _ _
-            c.before.before.loop.invariant.0,
-        a.pre.0.0.few_rows,
+        c.loop-s.invariant.0.few,
+        turn_row (L a) a.requires.0.0 _ _ _ _ _ _ _
+            c.loop-s.invariant.0,
+        a.requires.0.0.few_rows,
       );
     }
 
-mul-begins : tie.Need-overflow-mul-begins invariant-loop decreases-loop
-mul-begins c =
-    let a = c.before.before.before.before.before.before.before.before.before.before.before.before.before.before.before.before in
-    record { fits = omega (arith, a.pre.0.0.few_states) }
+offset_bounds-begins-s : tie.Need-offset_bounds-begins-s invariant-loop-s decreases-loop-s
+offset_bounds-begins-s c =
+    let a = c in
+    record { fits = omega (arith, a.requires.0.0.few_states) }
 
-slice-write-begins : tie.Need-slice-write-begins invariant-loop decreases-loop
-slice-write-begins c =
-    let a = c.before.before.before.before.before.before.before.before.before.before.before.before.before.before.before.before in
-    omega (arith, a.pre.0, c.before.before.loop.invariant)
+bounds-begins-s : tie.Need-bounds-begins-s invariant-loop-s decreases-loop-s
+bounds-begins-s c =
+    let a = c in
+    omega (arith, a.requires.0, c.loop-s.invariant)
 
-sign-rows-requires : tie.Need-sign-rows-requires invariant-loop decreases-loop
-sign-rows-requires c κs =
-    let a = c.before.before.before.before.before.before.before.before.before.before.before.before.before.before.before.before.before.before.before.before.before.before.requires in
+sign_rows-d-requires : tie.Need-sign_rows-d-requires invariant-loop-s decreases-loop-s
+sign_rows-d-requires c κs =
+    let a = c.requires in
     let v = a.0.0 in
     let f = from c.before.before.before.before.before.before in
-    let h = c.before.before.before.before.before.before.before.before.loop.invariant in (
+    let h = c.loop-s.invariant in (
       (f.up, omega (arith, f.most, v.long.label), omega (arith, f.most, v.long.target), omega (arith, f.most, v.few_rows)),
       (
         λ i l. omega (arith, (v.fields i (omega (arith, f.most, l))).target, a.0.1),
@@ -100,89 +100,89 @@ sign-rows-requires c κs =
       ),
     )
 
-add-s : tie.Need-overflow-add-s invariant-loop decreases-loop
-add-s c =
-    let a = c.before.before.before.before.before.before.before.before.before.before.before.before.before.before.before.before.before.before.before.before.before.before.before.before.before.before.before.before.before.before.before.before.before.before.before in
-    let below = c.before.before.before.before.before.before.before.before.before.before.before.before.before.before.before.before.before.before.before.before.loop-test in
-    record { fits = omega (arith, a.pre.0.0.few_states, below) }
+overflow_add-s : tie.Need-overflow_add-s invariant-loop-s decreases-loop-s
+overflow_add-s c =
+    let a = c in
+    let below = c.loop-s-test in
+    record { fits = omega (arith, a.requires.0.0.few_states, below) }
 
-loop-less : tie.Need-loop-smaller invariant-loop decreases-loop
-loop-less c =
-    let below = c.before.before.before.before.before.before.before.before.before.before.before.before.before.before.before.before.before.before.before.before.loop-test in
+loop-s-smaller : tie.Need-loop-s-smaller invariant-loop-s decreases-loop-s
+loop-s-smaller c =
+    let below = c.loop-s-test in
     omega (arith, below)
 
-loop-again : tie.Need-loop-preserved invariant-loop decreases-loop
-loop-again c =
+loop-s-preserved : tie.Need-loop-s-preserved invariant-loop-s decreases-loop-s
+loop-s-preserved c =
     let a = c.before.before.before.before.before.before.before.before.before.before.before.before.before.before.before.before.before.before.before.before.before.before.before.before.before.before.before.before.before.before.before.before.before.before.before in
-    let q = c.before.before.before.before.before.before.before.before.before.before.before.before.sign-rows in
-    let l = c.before.before.before.before.before.before.before.before.before.before.before.before.before.before.before.before.before.before.before.before.before.loop in
-    let row-end = c.before.before.before.before.before.before.before.before.before.before.before.before.before.before.before.before.before.before.before.row-end in
-    let below = c.before.before.before.before.before.before.before.before.before.before.before.before.before.before.before.before.before.before.before.before.loop-test in
-    let h = l.inv in (
-      turn_more (L a) a.pre.0.0 _ _ _ _ _ _ _ h.0 _ row-end.ensures _ _ _ (omega (arith, below))
-          (omega (arith, a.pre.0, h, below)) q.ensures.0 q.ensures.1,
-      q.auto.1.1.1.1.1.0 ∙ h.1,
-      q.auto.1.1.1.1.1.1.0 ∙ h.2,
+    let q = c.sign_rows-d in
+    let l = c.loop-s in
+    let row-end = c.row_end-end in
+    let below = c.loop-s-test in
+    let h = l.invariant in (
+      turn_more (L a) a.requires.0.0 _ _ _ _ _ _ _ h.0 _ row-end.ensures _ _ _ (omega (arith, below))
+          (omega (arith, a.requires.0, h, below)) q.ensures.0 q.ensures.1,
+      q.auto.labels ∙ h.1,
+      q.auto.blocks ∙ h.2,
       length-set l.begins l.s l.d ∙ h.3,
-      q.auto.1.1.1.1.1.1.1.1.0 ∙ h.4,
-      q.auto.1.1.1.1.1.1.1.1.1.0 ∙ h.5,
-      q.auto.1.1.1.1.1.1.1.1.1.1.0 ∙ h.6,
-      q.auto.1.1.1.1.1.1.1.1.1.1.1.0 ∙ h.7,
+      q.auto.pushed_labels ∙ h.4,
+      q.auto.pushed_blocks ∙ h.5,
+      q.auto.order ∙ h.6,
+      q.auto.spare ∙ h.7,
       q.ensures.2 ∙ ap zeros h.7,
     )
 
-same_length : tie.Need-same-length invariant-loop decreases-loop
-same_length c = c.before.loop.invariant.1
+shape_of-labels : tie.Need-shape_of-labels invariant-loop-s decreases-loop-s
+shape_of-labels c = c.loop-s.invariant.1
 
-same-length-2 : tie.Need-same-length-2 invariant-loop decreases-loop
-same-length-2 c = c.before.loop.invariant.2
+shape_of-blocks : tie.Need-shape_of-blocks invariant-loop-s decreases-loop-s
+shape_of-blocks c = c.loop-s.invariant.2
 
-same-length-3 : tie.Need-same-length-3 invariant-loop decreases-loop
-same-length-3 c = c.before.loop.invariant.3
+shape_of-begins : tie.Need-shape_of-begins invariant-loop-s decreases-loop-s
+shape_of-begins c = c.loop-s.invariant.3
 
-same-length-4 : tie.Need-same-length-4 invariant-loop decreases-loop
-same-length-4 c = c.before.loop.invariant.4
+shape_of-pushed_labels : tie.Need-shape_of-pushed_labels invariant-loop-s decreases-loop-s
+shape_of-pushed_labels c = c.loop-s.invariant.4
 
-same-length-5 : tie.Need-same-length-5 invariant-loop decreases-loop
-same-length-5 c = c.before.loop.invariant.5
+shape_of-pushed_blocks : tie.Need-shape_of-pushed_blocks invariant-loop-s decreases-loop-s
+shape_of-pushed_blocks c = c.loop-s.invariant.5
 
-same-length-6 : tie.Need-same-length-6 invariant-loop decreases-loop
-same-length-6 c = c.before.loop.invariant.6
+shape_of-order : tie.Need-shape_of-order invariant-loop-s decreases-loop-s
+shape_of-order c = c.loop-s.invariant.6
 
-same-length-7 : tie.Need-same-length-7 invariant-loop decreases-loop
-same-length-7 c = c.before.loop.invariant.7
+shape_of-spare : tie.Need-shape_of-spare invariant-loop-s decreases-loop-s
+shape_of-spare c = c.loop-s.invariant.7
 
-returns : tie.Need-returns invariant-loop decreases-loop
+returns : tie.Need-returns invariant-loop-s decreases-loop-s
 returns c =
     let a = c.before.before.before.before.before.before.before.before.before.before.before.before.before.before.before in
-    let h = c.before.loop.invariant in
-    let laid = turn_laid (L a) a.requires.0.0 _ _ _ _ _ _ _ h.0 (omega (arith, c.loop-test)) in
-    let done = turn_done (L a) a.requires.0.0 _ _ _ _ _ _ _ h.0 (omega (arith, c.loop-test)) (omega (arith, a.requires.1.0, h))
+    let h = c.loop-s.invariant in
+    let laid = turn_laid (L a) a.requires.0.0 _ _ _ _ _ _ _ h.0 (omega (arith, c.loop-s-test)) in
+    let done = turn_done (L a) a.requires.0.0 _ _ _ _ _ _ _ h.0 (omega (arith, c.loop-s-test)) (omega (arith, a.requires.1.0, h))
     (omega (arith, a.requires.1.0, h)) (omega (arith, a.requires.0, h)) in
     (done.0, done.1, h.8, laid.pairs, laid.starts)
 
-pub sign-all-spec : {M : Type 1} → statement M
-sign-all-spec =
+pub sign_all_spec : {M : Type 1} → statement M
+sign_all_spec =
     tie.close
     (tie.spec
-    invariant-loop
-    decreases-loop
-    cast-n
-    cast-m
-    loop-holds
-    row-end-requires
-    cast-begins
-    mul-begins
-    slice-write-begins
-    sign-rows-requires
-    add-s
-    loop-less
-    loop-again
-    same_length
-    same-length-2
-    same-length-3
-    same-length-4
-    same-length-5
-    same-length-6
-    same-length-7
+    invariant-loop-s
+    decreases-loop-s
+    overflow_cast-n
+    overflow_cast-m
+    loop-s-init
+    row_end-end-requires
+    overflow_cast-begins
+    offset_bounds-begins-s
+    bounds-begins-s
+    sign_rows-d-requires
+    overflow_add-s
+    loop-s-smaller
+    loop-s-preserved
+    shape_of-labels
+    shape_of-blocks
+    shape_of-begins
+    shape_of-pushed_labels
+    shape_of-pushed_blocks
+    shape_of-order
+    shape_of-spare
     returns)

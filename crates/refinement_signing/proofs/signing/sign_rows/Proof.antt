@@ -6,103 +6,103 @@ use Rattle.refinement_signing.proofs.OwnRows.{sign_few, sign_behind, still_zero}
 use Rattle.refinement_signing.proofs.signing.sign_rows.Statement.{statement}
 use Rattle.refinement_signing.proofs.signing.sign_rows.Tie as tie
 
-few : (q : tie.After-flatten) → q.flatten.result ≤
-    q.before.before.before.before.before.before.before.before.before.before.before.before.before.before.before.before.before.before.before.before.before.before.before.args.end -
-    q.before.before.before.before.before.before.before.before.before.before.before.before.before.before.before.before.before.before.before.before.before.before.before.args.first
+few : (q : tie.After-flatten-r) → q.flatten-r.result ≤
+    q.args.end -
+    q.args.first
 few q =
-    let push-rows = q.before.before.before.before.before.before.before.before.before.before.before.push-rows in
-    sign_few _ _ _ _ _ push-rows.ensures q.flatten.ensures.0
+    let push-rows = q.push_rows in
+    sign_few _ _ _ _ _ push-rows.ensures q.flatten-r.ensures.0
 
-push-rows-requires : tie.Need-push-rows-requires
-push-rows-requires c κs =
-    let a = c.before.before.before.before.before.before.before.before.before.before.before in
+push_rows-requires : tie.Need-push_rows-requires
+push_rows-requires c κs =
+    let a = c in
     ((a.requires.0.0, a.requires.0.1, a.requires.0.2), (a.requires.1.0, (omega arith, omega arith)))
 
-sub-k : tie.Need-overflow-sub-k
-sub-k c = search rules
+overflow_sub-k : tie.Need-overflow_sub-k
+overflow_sub-k c = search rules
 
-mul-flatten : tie.Need-overflow-mul-flatten
-mul-flatten c = search rules
+offset_bounds-labels-d : tie.Need-offset_bounds-labels-d
+offset_bounds-labels-d c = search rules
 
-sub-flatten : tie.Need-overflow-sub-flatten
-sub-flatten c = search rules
+slice_bounds-flatten-count : tie.Need-slice_bounds-flatten-count
+slice_bounds-flatten-count c = search rules
 
-part-flatten-start : tie.Need-slice-bounds-flatten-start
-part-flatten-start c = search rules
+slice_bounds-flatten-start : tie.Need-slice_bounds-flatten-start
+slice_bounds-flatten-start c = search rules
 
-part-flatten-end : tie.Need-slice-bounds-flatten-end
-part-flatten-end c = search rules
+slice_bounds-flatten-end : tie.Need-slice_bounds-flatten-end
+slice_bounds-flatten-end c = search rules
 
-mul-flatten-2 : tie.Need-overflow-mul-flatten-2
-mul-flatten-2 c = search rules
+offset_bounds-blocks-d : tie.Need-offset_bounds-blocks-d
+offset_bounds-blocks-d c = search rules
 
-sub-flatten-2 : tie.Need-overflow-sub-flatten-2
-sub-flatten-2 c = search rules
+slice_bounds-flatten-count-2 : tie.Need-slice_bounds-flatten-count-2
+slice_bounds-flatten-count-2 c = search rules
 
-part-flatten-start-2 : tie.Need-slice-bounds-flatten-start-2
-part-flatten-start-2 c = search rules
+slice_bounds-flatten-start-2 : tie.Need-slice_bounds-flatten-start-2
+slice_bounds-flatten-start-2 c = search rules
 
-part-flatten-end-2 : tie.Need-slice-bounds-flatten-end-2
-part-flatten-end-2 c = search rules
+slice_bounds-flatten-end-2 : tie.Need-slice_bounds-flatten-end-2
+slice_bounds-flatten-end-2 c = search rules
 
-flatten-requires : tie.Need-flatten-requires
-flatten-requires c κs = search rules
+flatten-r-requires : tie.Need-flatten-r-requires
+flatten-r-requires c κs = search rules
 
-add-result : tie.Need-overflow-add-result
-add-result c =
+overflow_add-result : tie.Need-overflow_add-result
+overflow_add-result c =
     let a = c.before.before.before.before.before.before.before.before in
-    let a31 = c.before.before.before.before.before.before.before.before.before.before.before.before.before.before.before.before.before.before.before.before.before.before.before.before.before.before.before.before.before.before.before in
-    record { fits = omega (arith, few a, a31.pre.0, a31.pre.1.1.1) }
+    let a31 = c in
+    record { fits = omega (arith, few a, a31.requires.0, a31.requires.1.1.1) }
 
-same_length : tie.Need-same-length
-same_length c = search rules
+shape_of-labels : tie.Need-shape_of-labels
+shape_of-labels c = search rules
 
-same-length-2 : tie.Need-same-length-2
-same-length-2 c = search rules
+shape_of-blocks : tie.Need-shape_of-blocks
+shape_of-blocks c = search rules
 
-same-length-3 : tie.Need-same-length-3
-same-length-3 c = search rules
+shape_of-pushed_labels : tie.Need-shape_of-pushed_labels
+shape_of-pushed_labels c = search rules
 
-same-length-4 : tie.Need-same-length-4
-same-length-4 c = search rules
+shape_of-pushed_blocks : tie.Need-shape_of-pushed_blocks
+shape_of-pushed_blocks c = search rules
 
-same-length-5 : tie.Need-same-length-5
-same-length-5 c = search rules
+shape_of-order : tie.Need-shape_of-order
+shape_of-order c = search rules
 
-same-length-6 : tie.Need-same-length-6
-same-length-6 c = search rules
+shape_of-spare : tie.Need-shape_of-spare
+shape_of-spare c = search rules
 
 returns : tie.Need-returns
 returns c =
-    let a = c.before.before.before.before.before.before.before.before.before.before.before.before.before.before.before.before.before.before.before.before.before.before.before.before.before.before.before.before.before.before.before in
-    let pushed = c.before.before.before.before.before.before.before.before.before.before.before.before.before.before.before.before.before.before.before.push-rows in
-    let flat = c.before.before.before.before.before.before.before.before.flatten in (
-      omega (arith, few c.before.before.before.before.before.before.before.before, a.pre.0, a.pre.1.1.1),
-      sign_behind _ _ _ _ _ pushed.ensures flat.ensures.0 _ _ _ _ _ _ _ (omega (arith, a.pre.0, a.pre.1.1.1))
-          (omega (arith, a.pre.0, a.pre.1.1.1)) flat.ensures.1.0,
-      still_zero _ a.args.spare.now _ a.pre.1.1.1.3 (omega (arith, a.pre.1.1.0.3)) flat.ensures.1.1.1,
+    let a = c in
+    let pushed = c.push_rows in
+    let flat = c.flatten-r in (
+      omega (arith, few c.before.before.before.before.before.before.before.before, a.requires.0, a.requires.1.1.1),
+      sign_behind _ _ _ _ _ pushed.ensures flat.ensures.0 _ _ _ _ _ _ _ (omega (arith, a.requires.0, a.requires.1.1.1))
+          (omega (arith, a.requires.0, a.requires.1.1.1)) flat.ensures.1.0,
+      still_zero _ a.args.spare.now _ a.requires.1.1.1.3 (omega (arith, a.requires.1.1.0.3)) flat.ensures.1.1.1,
     )
 
-pub sign-rows-spec : {M : Type 1} → statement M
-sign-rows-spec =
+pub sign_rows_spec : {M : Type 1} → statement M
+sign_rows_spec =
     tie.close
     (tie.spec
-    push-rows-requires
-    sub-k
-    mul-flatten
-    sub-flatten
-    part-flatten-start
-    part-flatten-end
-    mul-flatten-2
-    sub-flatten-2
-    part-flatten-start-2
-    part-flatten-end-2
-    flatten-requires
-    add-result
-    same_length
-    same-length-2
-    same-length-3
-    same-length-4
-    same-length-5
-    same-length-6
+    push_rows-requires
+    overflow_sub-k
+    offset_bounds-labels-d
+    slice_bounds-flatten-count
+    slice_bounds-flatten-start
+    slice_bounds-flatten-end
+    offset_bounds-blocks-d
+    slice_bounds-flatten-count-2
+    slice_bounds-flatten-start-2
+    slice_bounds-flatten-end-2
+    flatten-r-requires
+    overflow_add-result
+    shape_of-labels
+    shape_of-blocks
+    shape_of-pushed_labels
+    shape_of-pushed_blocks
+    shape_of-order
+    shape_of-spare
     returns)

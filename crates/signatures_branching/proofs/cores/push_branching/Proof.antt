@@ -24,26 +24,26 @@ valid : (a : tie.Start) → Valid (L a)
 valid a = a.requires.0.0
 
 -- the search as it ends
-module _ (q : tie.After-reach) where
+module _ (q : tie.After-reach-reached) where
   abbrev marks : List ℕ
-  marks = q.reach.new.1.1.1.1.1.1.1.1.0
+  marks = q.reach-reached.new.marks
 
   abbrev queue : List ℕ
-  queue = q.reach.last.1.1.1.1.1.1.1.1.1.0
+  queue = q.reach-reached.new.queue
 
   abbrev tail : ℕ
-  tail = q.reach.result.tail
+  tail = q.reach-reached.result.tail
 
   abbrev home : List ℕ
-  home = q.before.before.before.before.before.before.before.before.before.before.before.before.before.args.element_to_block.now
+  home = q.args.element_to_block.now
 
   abbrev state : ℕ
-  state = q.before.before.before.before.before.before.before.before.before.before.before.before.before.args.state
+  state = q.args.state
 
   visits : Visits (L q.before.before.before.before.before.before.before.before.before.before.before.before.before) home
-      (get_or home state 0) state marks queue tail tail q.reach.last.1.1.1.1.1.1.0 q.reach.last.1.1.1.1.1.1.1.0
-      q.reach.result.pairs
-  visits = q.reach.ensures
+      (get_or home state 0) state marks queue tail tail q.reach-reached.new.pushed_labels q.reach-reached.new.pushed_blocks
+      q.reach-reached.result.pairs
+  visits = q.reach-reached.ensures
 
   lists : ListsReached (L q.before.before.before.before.before.before.before.before.before.before.before.before.before) home
       state queue tail
@@ -55,82 +55,82 @@ module _ (q : tie.After-reach) where
   few = omega (arith, search_few _ _ _ _ _ _ _ visits.search, visits.search.room)
 
   -- how many pairs are pushed
-  count : q.reach.result.pairs ≡ length (outer_of
+  count : q.reach-reached.result.pairs ≡ length (outer_of
       (L q.before.before.before.before.before.before.before.before.before.before.before.before.before) home
       (get_or home state 0) queue tail)
   count =
-      sym (length_pairs q.reach.result.pairs q.reach.last.1.1.1.1.1.1.0 q.reach.last.1.1.1.1.1.1.1.0) ∙
+      sym (length_pairs q.reach-reached.result.pairs q.reach-reached.new.pushed_labels q.reach-reached.new.pushed_blocks) ∙
       ap length visits.pushed
 
-reach-requires : tie.Need-reach-requires
-reach-requires c κs = c.before.before.before.before.before.before.before.before.before.before.before.before.requires
+reach-reached-requires : tie.Need-reach-reached-requires
+reach-reached-requires c κs = c.requires
 
 unmark-requires : tie.Need-unmark-requires
 unmark-requires c κs =
-    let q = c.before.before.before.before.before.before.before.before.before.before in (
+    let q = c.before.before.before.before.before.before.before.before.before in (
       (few q, λ j w. omega (arith, (lists q).state j w, (visits q).search.size)),
       search_marks
-          (L c.before.before.before.before.before.before.before.before.before.before.before.before.before.before.before.before.before.before.before.before.before.before.before)
-          (valid c.before.before.before.before.before.before.before.before.before.before.before.before.before.before.before.before.before.before.before.before.before.before.before) (home q) (state q) (marks q) (queue q) (tail q)
+          (L c.before.before.before.before.before.before.before.before.before.before.before.before.before.before.before.before.before.before.before.before.before.before)
+          (valid c.before.before.before.before.before.before.before.before.before.before.before.before.before.before.before.before.before.before.before.before.before.before) (home q) (state q) (marks q) (queue q) (tail q)
           (visits q).search,
     )
 
-slice-relend-prefix-clear : tie.Need-slice-relend-prefix-clear
-slice-relend-prefix-clear c =
-    few c.before.before.before.before.before.before.before.before.before.before.before.before.before
+slice_bounds-clear-end : tie.Need-slice_bounds-clear-end
+slice_bounds-clear-end c =
+    few c.before.before.before.before.before.before.before.before.before.before.before.before
 
-slice-aggregate-clear : tie.Need-slice-aggregate-clear
-slice-aggregate-clear c =
+slice_bounds-clear-end-2 : tie.Need-slice_bounds-clear-end-2
+slice_bounds-clear-end-2 c =
     sym (length-take-le
-    (tail c.before.before.before.before.before.before.before.before.before.before.before.before.before.before)
-    (queue c.before.before.before.before.before.before.before.before.before.before.before.before.before.before)
-    (few c.before.before.before.before.before.before.before.before.before.before.before.before.before.before))
+    (tail c.before.before.before.before.before.before.before.before.before.before.before.before.before)
+    (queue c.before.before.before.before.before.before.before.before.before.before.before.before.before)
+    (few c.before.before.before.before.before.before.before.before.before.before.before.before.before))
 
 clear-requires : tie.Need-clear-requires
 clear-requires c κs = search rules
 
-same_length : tie.Need-same-length
-same_length c =
-    c.before.before.before.before.before.before.before.before.before.before.before.before.before.before.before.before.before.reach.auto.1.1.1.1.1.1.0
+shape_of-pushed_labels : tie.Need-shape_of-pushed_labels
+shape_of-pushed_labels c =
+    c.reach-reached.auto.pushed_labels
 
-same-length-2 : tie.Need-same-length-2
-same-length-2 c =
-    c.before.before.before.before.before.before.before.before.before.before.before.before.before.before.before.before.before.reach.auto.1.1.1.1.1.1.1.0
+shape_of-pushed_blocks : tie.Need-shape_of-pushed_blocks
+shape_of-pushed_blocks c =
+    c.reach-reached.auto.pushed_blocks
 
-same-length-3 : tie.Need-same-length-3
-same-length-3 c = c.before.before.before.before.before.before.unmark.auto.0 ∙
-    c.before.before.before.before.before.before.before.before.before.before.before.before.before.before.before.before.before.reach.auto.1.1.1.1.1.1.1.1.0
+shape_of-marks : tie.Need-shape_of-marks
+shape_of-marks c = c.unmark.auto.marks ∙
+    c.reach-reached.auto.marks
 
-same-length-4 : tie.Need-same-length-4
-same-length-4 c = search rules
+shape_of-queue : tie.Need-shape_of-queue
+shape_of-queue c = search rules
 
 returns : tie.Need-returns
 returns c =
-    let a = c.before.before.before.before.before.before.before.before.before.before.before.before.before.before.before.before.before.before.before.before.before.before.before.before.before.before.before.before.before.before in
-    let q = c.before.before.before.before.before.before.before.before.before.before.before.before.before.before.before.before.before in (
+    let a = c.before.before.before.before.before.before.before.before.before.before.before.before.before.before.before.before.before.before.before.before.before.before.before.before.before.before.before.before.before in
+    let q = c.before.before.before.before.before.before.before.before.before.before.before.before.before.before.before.before in (
       (
         count q ∙ visited_count (L a) (valid a) (home q) (state q) (queue q) (tail q) (lists q),
         ap signature (visits q).pushed ∙ visited_signature (L a) (valid a) (home q) (state q) (queue q) (tail q) (lists q),
         omega (arith, count q, visited_few (L a) (home q) (get_or (home q) (state q) 0) (queue q) (tail q) (lists q).once),
       ),
       (
-        c.before.before.before.before.before.before.unmark.ensures ∙ ap zeros q.reach.kept.1.1.1.1.1.1.1.1.0,
-        front_zeros (tail q) (queue q) c.before.before.clear.new.0 (few q) c.before.before.clear.ensures (visits q).rest
-            ∙ ap zeros q.reach.kept.1.1.1.1.1.1.1.1.1.0,
+        c.unmark.ensures ∙ ap zeros q.reach-reached.auto.marks,
+        front_zeros (tail q) (queue q) c.clear.new.a (few q) c.clear.ensures (visits q).rest
+            ∙ ap zeros q.reach-reached.auto.queue,
       ),
     )
 
-pub push-branching-spec : {M : Type 1} → statement M
-push-branching-spec =
+pub push_branching_spec : {M : Type 1} → statement M
+push_branching_spec =
     tie.close
     (tie.spec
-    reach-requires
+    reach-reached-requires
     unmark-requires
-    slice-relend-prefix-clear
-    slice-aggregate-clear
+    slice_bounds-clear-end
+    slice_bounds-clear-end-2
     clear-requires
-    same_length
-    same-length-2
-    same-length-3
-    same-length-4
+    shape_of-pushed_labels
+    shape_of-pushed_blocks
+    shape_of-marks
+    shape_of-queue
     returns)
