@@ -4,44 +4,44 @@ ghost use Rattle.columns.specs.Answers.{said, said_number, said_flag, done, refu
 ghost use Rattle.columns.specs.Counting.{bit};
 
 // A refusal: its number and its place. As the result of a check, number 0 stands for none.
-#[derive(Drop)]
+#[derive(Clone, Copy)]
 pub struct Refusal {
     pub number: u64,
     pub place: u64,
 }
 
 // The outcome of a call that hands back nothing but its columns.
-#[derive(Drop)]
+#[derive(Clone, Copy)]
 pub enum Outcome {
     Done,
     Refused(Refusal),
 }
 
-#[derive(Drop)]
+#[derive(Clone, Copy)]
 pub struct Answer {
     pub outcome: Outcome,
 }
 
 // The outcome of a call that asks for a number.
-#[derive(Drop)]
+#[derive(Clone, Copy)]
 pub enum NumberOutcome {
     Done(u64),
     Refused(Refusal),
 }
 
-#[derive(Drop)]
+#[derive(Clone, Copy)]
 pub struct NumberAnswer {
     pub outcome: NumberOutcome,
 }
 
 // The outcome of a call that asks whether something is so.
-#[derive(Drop)]
+#[derive(Clone, Copy)]
 pub enum FlagOutcome {
     Done(bool),
     Refused(Refusal),
 }
 
-#[derive(Drop)]
+#[derive(Clone, Copy)]
 pub struct FlagAnswer {
     pub outcome: FlagOutcome,
 }

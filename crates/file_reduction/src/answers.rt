@@ -7,7 +7,7 @@ use columns::answers::Refusal;
 
 // The outcome: how many bytes are written; states, labels and rows of the source; blocks and rows of the result; and how many rounds
 // split something.
-#[derive(Drop)]
+#[derive(Clone, Copy)]
 pub enum FileOutcome {
     Done {
         bytes: u64,
@@ -21,7 +21,7 @@ pub enum FileOutcome {
     Refused(Refusal),
 }
 
-#[derive(Drop)]
+#[derive(Clone, Copy)]
 pub struct FileAnswer {
     pub outcome: FileOutcome,
 }

@@ -17,13 +17,13 @@ pub struct Block {
 }
 
 // The outcome of a call that asks for a block.
-#[derive(Drop)]
+#[derive(Clone, Copy)]
 pub enum BlockOutcome {
     Done(Block),
     Refused(Refusal),
 }
 
-#[derive(Drop)]
+#[derive(Clone, Copy)]
 pub struct BlockAnswer {
     pub outcome: BlockOutcome,
 }

@@ -5,20 +5,20 @@ pub mod readers;
 use columns::answers::Refusal;
 
 // The numbers that travel with the columns: n states in count blocks.
-#[derive(Drop)]
+#[derive(Clone, Copy)]
 pub struct BlockPartition {
     pub n: u16,
     pub count: u16,
 }
 
 // The outcome of a call that asks for a partition.
-#[derive(Drop)]
+#[derive(Clone, Copy)]
 pub enum PartitionOutcome {
     Done(BlockPartition),
     Refused(Refusal),
 }
 
-#[derive(Drop)]
+#[derive(Clone, Copy)]
 pub struct PartitionAnswer {
     pub outcome: PartitionOutcome,
 }

@@ -13,13 +13,13 @@ use columns::clearing::clear_three;
 use partition_calls::BlockPartition;
 
 // The outcome: the old index, and the run of new blocks from `first` to before `count`, the block count now.
-#[derive(Drop)]
+#[derive(Clone, Copy)]
 pub enum DivisionOutcome {
     Done { index: u64, first: u64, count: u64 },
     Refused(Refusal),
 }
 
-#[derive(Drop)]
+#[derive(Clone, Copy)]
 pub struct DivisionAnswer {
     pub outcome: DivisionOutcome,
 }

@@ -12,7 +12,7 @@ use partition::block::Block;
 use partition_calls::BlockPartition;
 
 // The column form's answer, and whether it was done.
-#[derive(Drop)]
+#[derive(Clone, Copy)]
 pub struct Swapped {
     pub answer: Answer,
     pub go: bool,
@@ -104,7 +104,7 @@ pub fn swap_blocks(
 }
 
 // What `swap_blocks` answers, and the table that it leaves.
-#[derive(Drop)]
+#[derive(Clone, Copy)]
 pub struct SwappedTable {
     pub answer: Answer,
     pub table: [Block; MAX_STATES],

@@ -9,7 +9,7 @@ use partition::block::Block;
 use partition::checks::within;
 
 // A block by value after the call, with what the call answers.
-#[derive(Drop)]
+#[derive(Clone, Copy)]
 pub struct Unmarked {
     pub block: Block,
     pub answer: Answer,

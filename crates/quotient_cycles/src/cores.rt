@@ -154,7 +154,7 @@ fn find_numbers(
 }
 
 // What comes out: the header but for the labels, and a given state's new number.
-#[derive(Drop)]
+#[derive(Clone, Copy)]
 pub struct Reordered {
     pub n: usize,
     pub m: usize,

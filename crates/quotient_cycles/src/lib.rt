@@ -11,7 +11,7 @@ use table::Table;
 use table::checks::{argument_refusal, room_for};
 
 // The outcome: the header of the table whose rows stand in the result columns, and the new number of the state that was given.
-#[derive(Drop)]
+#[derive(Clone, Copy)]
 pub enum ReorderedOutcome {
     Done {
         n: u64,
@@ -23,7 +23,7 @@ pub enum ReorderedOutcome {
     Refused(Refusal),
 }
 
-#[derive(Drop)]
+#[derive(Clone, Copy)]
 pub struct ReorderedAnswer {
     pub outcome: ReorderedOutcome,
 }

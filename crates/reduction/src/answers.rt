@@ -6,7 +6,7 @@ ghost use Rattle.reduction.specs.Answers.{said_reduction};
 use columns::answers::Refusal;
 
 // The outcome: the header of the table whose rows stand in the result columns, and how many rounds split something.
-#[derive(Drop)]
+#[derive(Clone, Copy)]
 pub enum ReductionOutcome {
     Done {
         n: u64,
@@ -18,7 +18,7 @@ pub enum ReductionOutcome {
     Refused(Refusal),
 }
 
-#[derive(Drop)]
+#[derive(Clone, Copy)]
 pub struct ReductionAnswer {
     pub outcome: ReductionOutcome,
 }

@@ -123,7 +123,7 @@ pub fn strong_blocks(
 }
 
 // What a reduction comes to: how many blocks, how many rows between them, and how many rounds split something.
-#[derive(Drop)]
+#[derive(Clone, Copy)]
 pub struct Reduction {
     pub count: usize,
     pub rows: usize,

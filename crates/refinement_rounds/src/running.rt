@@ -73,7 +73,7 @@ pub fn round(
 }
 
 // How a run has ended: how many rounds split something, and how many blocks there are.
-#[derive(Drop)]
+#[derive(Clone, Copy)]
 pub struct RunEnd {
     pub rounds: usize,
     pub count: usize,

@@ -56,7 +56,7 @@ pub fn push_outer(
 }
 
 // How far a search has come: how many states stand in the queue, and how many pairs are pushed.
-#[derive(Drop)]
+#[derive(Clone, Copy)]
 struct Reached {
     tail: usize,
     pairs: usize,

@@ -31,7 +31,7 @@ use table::Table;
 use table::cores::rows_of;
 
 // What a state takes: how many own pairs, none twice, how many given lists, and how many pairs these are, before duplicates go.
-#[derive(Drop)]
+#[derive(Clone, Copy)]
 struct Taken {
     own: usize,
     lists: usize,

@@ -6,7 +6,7 @@ ghost use Rattle.table.specs.Tables.{said_table};
 use columns::answers::Refusal;
 
 // The outcome: the header of the table whose rows stand in the result columns.
-#[derive(Drop)]
+#[derive(Clone, Copy)]
 pub enum TableOutcome {
     Done {
         n: u64,
@@ -17,7 +17,7 @@ pub enum TableOutcome {
     Refused(Refusal),
 }
 
-#[derive(Drop)]
+#[derive(Clone, Copy)]
 pub struct TableAnswer {
     pub outcome: TableOutcome,
 }

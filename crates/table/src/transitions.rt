@@ -11,13 +11,13 @@ use columns::answers::{NumberAnswer, Refusal, number, refusing_number};
 use columns::checks::{index_refusal, or_else};
 
 // The outcome: the rows from `first` to before `end`.
-#[derive(Drop)]
+#[derive(Clone, Copy)]
 pub enum StretchOutcome {
     Done { first: u64, end: u64 },
     Refused(Refusal),
 }
 
-#[derive(Drop)]
+#[derive(Clone, Copy)]
 pub struct StretchAnswer {
     pub outcome: StretchOutcome,
 }

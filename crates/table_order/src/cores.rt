@@ -65,7 +65,7 @@ fn push_successors(
 }
 
 // A turn's end: the new top, the number of finished states, and whether a cycle was met.
-#[derive(Drop)]
+#[derive(Clone, Copy)]
 struct Next {
     top: usize,
     count: usize,
