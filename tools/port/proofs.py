@@ -389,16 +389,40 @@ class Proof:
         for m in re.finditer(rf'let ({WORD}) =\s*({WORD})((?:\.(?:before|KEPT))*)\s+in\b', chunk):
             if m.group(2) in places:
                 places.add(m.group(1))
-        for m in re.finditer(rf'let ({WORD})(?: : [^=]*?)? =\s*({WORD})((?:\.{WORD})+)\s+in\b', chunk):
+        for m in re.finditer(rf'let ({WORD})(?: : [^=]*?)? =\s*({WORD}|\([^()]*\))((?:\.{WORD})+)\s+in\b', chunk):
             fields = [f for f in m.group(3).split('.')[1:] if f not in ('before', 'KEPT')]
+            if m.group(2).startswith('('):
+                ps = helpers.get((m.group(2)[1:-1].split() or [''])[0])
+                if ps and ps[-1] and fields:
+                    alias[m.group(1)] = fields
+                    origin[m.group(1)] = m.group(2)
+                continue
             if m.group(2) in alias:
                 fields = alias[m.group(2)] + fields
             if fields and m.group(2) not in ('tie', 'goal') and (m.group(2) in places or m.group(2) in alias):
                 alias[m.group(1)] = fields
                 origin[m.group(1)] = origin.get(m.group(2), m.group(2))
 
+        def opened(at):
+            """The first word of the parenthesis that closes at `at`."""
+            depth, k = 1, at
+            while depth and k > 0:
+                k -= 1
+                depth += {')': 1, '(': -1}.get(source[k], 0)
+            word = re.match(rf'\(({WORD})', source[k:])
+            return word.group(1) if word else ''
+
         def fix_path(m):
             root, fields = m.group(1), m.group(2).split('.')[1:]
+            if root == ')':
+                ps = helpers.get(opened(m.start(1)))
+                if not ps or not ps[-1]:
+                    plain, last = [], None
+                    for f in fields:
+                        f = f.replace('-', '_') if last in ('args', 'new', 'auto', 'initial') else f
+                        last = {'ptr': 'ref_ptr', 'inv': 'invariant', 'pre': 'requires', 'well-formed': 'well_formed'}.get(f, f)
+                        plain.append(last)
+                    return root + ''.join('.' + f for f in plain)
             if root in ('tie', 'goal', 'Rattle') or root[:1].isdigit():
                 return m.group(0)
             kept = [f for f in fields if f == 'KEPT']
@@ -420,6 +444,7 @@ class Proof:
             fields = self.turn_fields(fields)
             return root + '.before' * len(kept) + ''.join('.' + f for f in fields)
 
+        source = chunk
         chunk = re.sub(rf"((?<![\w.'])(?<!\))[^\s()\[\]{{}},;.«»\"]+|\))((?:\.{WORD})+)", fix_path, chunk)
         chunk = re.sub(rf"\(?not-(?:true|false) {WORD}(?:\.{WORD})* ({WORD}\.(?:if-not-{WORD}|loop-{WORD}test)\.(?:true|false))(?:(?<=\.true)|(?<=\.false))", lambda m: ('(' if m.group(0).startswith('(') else '') + 'PLAIN' + m.group(1), chunk)
         chunk = re.sub(rf"(?<![\w.'])({WORD}\.if-not-{WORD}\.(?:true|false))", lambda m: m.group(1)[5:] if m.group(1).startswith('PLAIN') else f'(ap not {m.group(1)})', chunk)

@@ -30,17 +30,17 @@ L a = lts a.args.table a.args.source.now a.args.label.now a.args.target.now
 abbrev P : tie.Start → Partition
 P a =
     parts a.args.elements.now a.args.element_offset.now a.args.element_to_block.now a.args.begin.now
-    a.args.marked_split_lem.now a.args.end.now a.args.table.n a.args.count
+    a.args.marked_split.now a.args.end.now a.args.table.n a.args.count
 
 abbrev G : tie.Start → Given
-G a = flat a.args.starts.now a.args.given-labels.now a.args.given-blocks.now
+G a = flat a.args.starts.now a.args.given_labels.now a.args.given_blocks.now
 
 abbrev Out : tie.Start → Columns
 Out a = (a.args.labels.now, a.args.blocks.now)
 
 abbrev Works : tie.Start → List (List ℕ)
 Works a =
-    a.args.own-labels.now ∷ a.args.own_blocks.now ∷ a.args.high.now ∷ a.args.low.now ∷ a.args.end-high.now
+    a.args.own_labels.now ∷ a.args.own_blocks.now ∷ a.args.high.now ∷ a.args.low.now ∷ a.args.end_high.now
     ∷ a.args.end_low.now ∷ a.args.tree.now ∷ []
 
 abbrev Starts : tie.Start → Bool
@@ -55,30 +55,30 @@ R a = sorted_refusal (L a) (P a) a.args.state (G a) (Room a)
 abbrev Pushed : tie.Start → List Pair
 Pushed a =
     sorted_pushed (L a) a.args.element_to_block.now
-    (list_at a.args.starts.now a.args.given-labels.now a.args.given-blocks.now)
+    (list_at a.args.starts.now a.args.given_labels.now a.args.given_blocks.now)
     a.args.state
 
 abbrev Signature : tie.Start → List Pair
 Signature a =
     sorted_signature (L a) a.args.element_to_block.now
-    (list_at a.args.starts.now a.args.given-labels.now a.args.given-blocks.now)
+    (list_at a.args.starts.now a.args.given_labels.now a.args.given_blocks.now)
     a.args.state
 
 -- where the call begins
-abbrev start : tie.After-sorted-refusal → tie.Start
+abbrev start : tie.After-sorted_refusal-t → tie.Start
 start q =
     q.before.before.before.before.before.before.before.before.before.before.before.before.before.before.before.before.before.before.before.before.before.before.before.before.before
 
 -- the checks have answered R
-answered : (q : tie.After-sorted-refusal) → q.sorted-refusal.result ≡ R (start q)
+answered : (q : tie.After-sorted_refusal-t) → q.sorted_refusal-t.result ≡ R (start q)
 unfolding works_fit
 answered q =
     let a = start q in
-    q.sorted-refusal.ensures
-    ∙ ap (λ (b : Bool). sorted_refusal (L a) (P a) a.args.state (G a) (Starts a && b)) q.before.works-long.ensures
+    q.sorted_refusal-t.ensures
+    ∙ ap (λ (b : Bool). sorted_refusal (L a) (P a) a.args.state (G a) (Starts a && b)) q.works_long-works.ensures
 
 -- and where they refuse nothing
-module _ (q : tie.After-sorted-refusal) (z : q.sorted-refusal.result.number ≡ 0) where
+module _ (q : tie.After-sorted_refusal-t) (z : q.sorted_refusal-t.result.number ≡ 0) where
   ready : BothReady (L (start q)) (P (start q)) (start q).args.state (start q).args.table.n (Room (start q))
   ready = sorted_ready (L (start q)) (P (start q)) refl (start q).args.state (G (start q)) (Room (start q)) _ (answered q) z
 
@@ -93,37 +93,37 @@ module _ (q : tie.After-sorted-refusal) (z : q.sorted-refusal.result.number ≡ 
       wide_of (L (start q)) (Works (start q))
       (and_right (Starts (start q)) (works_fit (L (start q)) (Works (start q))) ready.enough)
 
-cast-n : tie.Need-overflow-cast-n
-cast-n c = search rules
+overflow_cast-n : tie.Need-overflow_cast-n
+overflow_cast-n c = search rules
 
-slice-aggregate-works-long : tie.Need-slice-aggregate-works-long
-slice-aggregate-works-long c = search rules
+slice_bounds-works_long-end : tie.Need-slice_bounds-works_long-end
+slice_bounds-works_long-end c = search rules
 
-works-long-requires : tie.Need-works-long-requires
-works-long-requires c κs = search rules
+works_long-works-requires : tie.Need-works_long-works-requires
+works_long-works-requires c κs = search rules
 
-add-lists : tie.Need-overflow-add-lists
-add-lists c = search rules
+overflow_add-lists : tie.Need-overflow_add-lists
+overflow_add-lists c = search rules
 
-sorted-refusal-requires : tie.Need-sorted-refusal-requires
-sorted-refusal-requires c κs e = leb-true _ _ (and_left
+sorted_refusal-t-requires : tie.Need-sorted_refusal-t-requires
+sorted_refusal-t-requires c κs e = leb-true _ _ (and_left
     (Starts c.before.before.before.before.before.before.before.before.before.before.before.before.before.before.before.before.before.before.before.before.before.before.before.before)
-    c.works-long.result e)
+    c.works_long-works.result e)
 
-refusing-number-requires : tie.Need-refusing-number-requires
-refusing-number-requires c κs = search rules
+refusing_number-requires : tie.Need-refusing_number-requires
+refusing_number-requires c κs = search rules
 
-returns : tie.Need-returns
+returns-then-number-ne0 : tie.Need-returns-then-number-ne0
 unfolding branching_bisim_signature_sorted
-returns c =
+returns-then-number-ne0 c =
     let a = c.before.before.before.before.before.before.before.before.before.before.before.before.before.before.before.before.before.before.before.before.before.before.before.before.before.before.before in
     let e = answered c.before.before in
     signing_refused (R a) (length (Pushed a)) (Signature a) (Out a) (Works a) _
-    (λ z. c.before.if1.true (ap (λ (r : Refusal). r.number) e ∙ z))
-    (c.refusing-number.ensures ∙ ap (λ (r : Refusal). refused r.number r.place) e)
+    (λ z. c.if-number-ne0.true (ap (λ (r : Refusal). r.number) e ∙ z))
+    (c.refusing_number.ensures ∙ ap (λ (r : Refusal). refused r.number r.place) e)
 
-clear-four-requires : tie.Need-clear-four-requires
-clear-four-requires c κs = search rules
+clear_four-requires : tie.Need-clear_four-requires
+clear_four-requires c κs = search rules
 
 clear-requires : tie.Need-clear-requires
 clear-requires c κs = search rules
@@ -134,37 +134,37 @@ clear-requires-2 c κs = search rules
 clear-requires-3 : tie.Need-clear-requires-3
 clear-requires-3 c κs = search rules
 
-branching-bisim-signature-sorted-requires : tie.Need-branching-bisim-signature-sorted-requires
-branching-bisim-signature-sorted-requires c κs =
+branching_bisim_signature_sorted-requires : tie.Need-branching_bisim_signature_sorted-requires
+branching_bisim_signature_sorted-requires c κs =
     let q = c.before.before.before.before.before.before.before.before.before.before.before.before.before.before.before.before.before.before.before.before.before.before.before.before.before.before.before.before.before.before.before.before.before.before.before in
-    let z = c.before.before.before.before.before.before.before.before.before.before.before.before.before.before.before.before.before.before.before.before.before.before.before.before.before.before.before.before.before.before.before.before.before.before.if1.false in
+    let z = c.if-number-ne0.false in
     let a = start q in
     let r = ready q z in
     let w = wide q z in
-    let k = c.before.before.before.before.before.before.before.before.before.before.before.before.before.before.before.before.before.before.before.before.before.before.before.before.before.before.before.before.before.clear-four.auto in
-    let e = c.before.before.before.before.before.before.before.before.before.before.before.before.before.before.before.before.before.before.before.before.before.before.before.before.before.before.before.before.before.clear-four.ensures in
-    let f = c.before.before.before.before.before.before.before.before.before.before.before.before.before.before.before.before.before.before.before.clear in
-    let g = c.before.before.before.before.before.before.before.before.before.before.before.before.before.before.before.clear2 in
-    let h = c.before.before.before.before.before.before.before.before.before.before.before.clear3 in (
+    let k = c.clear_four.auto in
+    let e = c.clear_four.ensures in
+    let f = c.clear in
+    let g = c.clear-2 in
+    let h = c.clear-3 in (
       (r.valid, r.known),
       (
         (r.sound.long.element_to_block, started q z),
         (
-          lists_taken (L a) a.args.element_to_block.now a.args.state a.args.starts.now a.args.given-labels.now
-              a.args.given-blocks.now r.valid (lists q z),
+          lists_taken (L a) a.args.element_to_block.now a.args.state a.args.starts.now a.args.given_labels.now
+              a.args.given_blocks.now r.valid (lists q z),
           (
             (
-              omega (arith, w.0, k.0),
+              omega (arith, w.0, k.a),
               (
-                omega (arith, w.1.0, k.1.0),
+                omega (arith, w.1.0, k.b),
                 (
-                  omega (arith, w.1.1.0, k.1.1.0),
+                  omega (arith, w.1.1.0, k.c),
                   (
-                    omega (arith, w.1.1.1.0, k.1.1.1.0),
+                    omega (arith, w.1.1.1.0, k.d),
                     (
-                      omega (arith, w.1.1.1.1.0, f.kept.0),
+                      omega (arith, w.1.1.1.1.0, f.auto.a),
                       (
-                        omega (arith, w.1.1.1.1.1.0, g.kept.0),
+                        omega (arith, w.1.1.1.1.1.0, g.auto.a),
                         tt,
                       ),
                     ),
@@ -172,11 +172,11 @@ branching-bisim-signature-sorted-requires c κs =
                 ),
               ),
             ),
-            omega (arith, w.1.1.1.1.1.1.0, h.auto.0),
+            omega (arith, w.1.1.1.1.1.1.0, h.auto.a),
             (
               still_zeros _ (length a.args.tree.now) h.ensures,
               (
-                still_zeros _ (length a.args.own-labels.now) e.0.0,
+                still_zeros _ (length a.args.own_labels.now) e.0.0,
                 (
                   still_zeros _ (length a.args.own_blocks.now) e.0.1,
                   (
@@ -184,7 +184,7 @@ branching-bisim-signature-sorted-requires c κs =
                     (
                       still_zeros _ (length a.args.low.now) e.1.1,
                       (
-                        still_zeros _ (length a.args.end-high.now) f.ensures,
+                        still_zeros _ (length a.args.end_high.now) f.ensures,
                         (
                           still_zeros _ (length a.args.end_low.now) g.ensures,
                           tt,
@@ -201,85 +201,85 @@ branching-bisim-signature-sorted-requires c κs =
     )
 
 -- from the end of the call: where the checks had answered, where each work slice was cleared, and where all was done
-abbrev tried : tie.After-slice-known25 → tie.After-sorted-refusal
+abbrev tried : tie.After-slice_known-25-1 → tie.After-sorted_refusal-t
 tried c =
     c.before.before.before.before.before.before.before.before.before.before.before.before.before.before.before.before.before.before.before.before.before.before.before.before.before.before.before.before.before.before.before.before.before.before.before.before.before.before.before.before.before.before.before.before.before.before.before.before.before.before.before.before.before.before
 
-abbrev wiped : tie.After-slice-known25 → tie.After-clear-four
+abbrev wiped : tie.After-slice_known-25-1 → tie.After-clear_four
 wiped c =
     c.before.before.before.before.before.before.before.before.before.before.before.before.before.before.before.before.before.before.before.before.before.before.before.before.before.before.before.before.before.before.before.before.before.before.before.before.before.before.before.before.before.before.before.before.before.before.before.before
 
-abbrev first : tie.After-slice-known25 → tie.After-clear
+abbrev first : tie.After-slice_known-25-1 → tie.After-clear
 first c =
     c.before.before.before.before.before.before.before.before.before.before.before.before.before.before.before.before.before.before.before.before.before.before.before.before.before.before.before.before.before.before.before.before.before.before.before.before.before.before
 
-abbrev second : tie.After-slice-known25 → tie.After-clear2
+abbrev second : tie.After-slice_known-25-1 → tie.After-clear-2
 second c =
     c.before.before.before.before.before.before.before.before.before.before.before.before.before.before.before.before.before.before.before.before.before.before.before.before.before.before.before.before.before.before.before.before.before.before
 
-abbrev third : tie.After-slice-known25 → tie.After-clear3
+abbrev third : tie.After-slice_known-25-1 → tie.After-clear-3
 third c =
     c.before.before.before.before.before.before.before.before.before.before.before.before.before.before.before.before.before.before.before.before.before.before.before.before.before.before.before.before.before.before
 
-abbrev ended : tie.After-slice-known25 → tie.After-branching-bisim-signature-sorted
+abbrev ended : tie.After-slice_known-25-1 → tie.After-branching_bisim_signature_sorted
 ended c =
     c.before.before.before.before.before.before.before.before.before.before.before.before.before.before.before.before.before.before
 
-same_length : tie.Need-same-length
-same_length c = (ended c).branching_bisim_signature_sorted_lem.auto.1.1.1.1.1.1.1.1.1.0
+shape_of-labels : tie.Need-shape_of-labels
+shape_of-labels c = (ended c).branching_bisim_signature_sorted.auto.labels
 
-same-length-2 : tie.Need-same-length-2
-same-length-2 c = (ended c).branching_bisim_signature_sorted_lem.auto.1.1.1.1.1.1.1.1.1.1.0
+shape_of-blocks : tie.Need-shape_of-blocks
+shape_of-blocks c = (ended c).branching_bisim_signature_sorted.auto.blocks
 
-same-length-3 : tie.Need-same-length-3
-same-length-3 c = (ended c).branching_bisim_signature_sorted_lem.auto.1.1.1.1.1.1.1.1.1.1.1.0 ∙ (wiped c).clear-four.auto.0
+shape_of-own_labels : tie.Need-shape_of-own_labels
+shape_of-own_labels c = (ended c).branching_bisim_signature_sorted.auto.own_labels ∙ (wiped c).clear_four.auto.a
 
-same-length-4 : tie.Need-same-length-4
-same-length-4 c = (ended c).branching_bisim_signature_sorted_lem.auto.1.1.1.1.1.1.1.1.1.1.1.1.0 ∙ (wiped c).clear-four.auto.1.0
+shape_of-own_blocks : tie.Need-shape_of-own_blocks
+shape_of-own_blocks c = (ended c).branching_bisim_signature_sorted.auto.own_blocks ∙ (wiped c).clear_four.auto.b
 
-same-length-5 : tie.Need-same-length-5
-same-length-5 c = (ended c).branching_bisim_signature_sorted_lem.auto.1.1.1.1.1.1.1.1.1.1.1.1.1.0
-    ∙ (wiped c).clear-four.auto.1.1.0
+shape_of-high : tie.Need-shape_of-high
+shape_of-high c = (ended c).branching_bisim_signature_sorted.auto.high
+    ∙ (wiped c).clear_four.auto.c
 
-same-length-6 : tie.Need-same-length-6
-same-length-6 c = (ended c).branching_bisim_signature_sorted_lem.auto.1.1.1.1.1.1.1.1.1.1.1.1.1.1.0 ∙
-    (wiped c).clear-four.auto.1.1.1.0
+shape_of-low : tie.Need-shape_of-low
+shape_of-low c = (ended c).branching_bisim_signature_sorted.auto.low ∙
+    (wiped c).clear_four.auto.d
 
-same-length-7 : tie.Need-same-length-7
-same-length-7 c = (ended c).branching_bisim_signature_sorted_lem.auto.1.1.1.1.1.1.1.1.1.1.1.1.1.1.1.0 ∙ (first c).clear.auto.0
+shape_of-end_high : tie.Need-shape_of-end_high
+shape_of-end_high c = (ended c).branching_bisim_signature_sorted.auto.end_high ∙ (first c).clear.auto.a
 
-same-length-8 : tie.Need-same-length-8
-same-length-8 c = (ended c).branching_bisim_signature_sorted_lem.auto.1.1.1.1.1.1.1.1.1.1.1.1.1.1.1.1.0 ∙
-    (second c).clear2.auto.0
+shape_of-end_low : tie.Need-shape_of-end_low
+shape_of-end_low c = (ended c).branching_bisim_signature_sorted.auto.end_low ∙
+    (second c).clear-2.auto.a
 
-same-length-9 : tie.Need-same-length-9
-same-length-9 c = (ended c).branching_bisim_signature_sorted_lem.auto.1.1.1.1.1.1.1.1.1.1.1.1.1.1.1.1.1.0 ∙
-    (third c).clear3.auto.0
+shape_of-tree : tie.Need-shape_of-tree
+shape_of-tree c = (ended c).branching_bisim_signature_sorted.auto.tree ∙
+    (third c).clear-3.auto.a
 
-returns-2 : tie.Need-returns-2
+returns : tie.Need-returns
 unfolding branching_bisim_signature_sorted
-returns-2 c =
+returns c =
     let a = start (tried c) in
-    let w = (wiped c).clear-four in
-    let works : List (List ℕ) = w.last.0 ∷ w.last.1.0 ∷ w.last.1.1.0 ∷ w.last.1.1.1.0 ∷ (first c).clear.new.0
-    ∷ (second c).clear2.new.0 ∷ (third c).clear3.new.0 ∷ [] in
-    (ended c).branching_bisim_signature_sorted_lem.ensures
+    let w = (wiped c).clear_four in
+    let works : List (List ℕ) = w.new.a ∷ w.new.b ∷ w.new.c ∷ w.new.d ∷ (first c).clear.new.a
+    ∷ (second c).clear-2.new.a ∷ (third c).clear-3.new.a ∷ [] in
+    (ended c).branching_bisim_signature_sorted.ensures
     ∙ signing_on (R a) (length (Pushed a)) (Signature a) (Out a) (Works a) (length (Pushed a)) (Signature a) works
     (sym (ap (λ (r : Refusal). r.number) (answered (tried c))) ∙
-    c.before.before.before.before.before.before.before.before.before.before.before.before.before.before.before.before.before.before.before.before.before.before.before.before.before.before.before.before.before.before.before.before.before.before.before.before.before.before.before.before.before.before.before.before.before.before.before.before.before.before.before.before.before.if1.false) refl refl
+    c.if-number-ne0.false) refl refl
     (level works (Works a) (
-      w.kept.0,
+      w.auto.a,
       (
-        w.kept.1.0,
+        w.auto.b,
         (
-          w.kept.1.1.0,
+          w.auto.c,
           (
-            w.kept.1.1.1.0,
+            w.auto.d,
             (
-              (first c).clear.auto.0,
+              (first c).clear.auto.a,
               (
-                (second c).clear2.auto.0,
-                ((third c).clear3.auto.0, tt),
+                (second c).clear-2.auto.a,
+                ((third c).clear-3.auto.a, tt),
               ),
             ),
           ),
@@ -287,29 +287,29 @@ returns-2 c =
       ),
     ))
 
-pub branching-bisim-signature-sorted-spec : {M : Type 1} → statement M
-branching-bisim-signature-sorted-spec =
+pub branching_bisim_signature_sorted_spec : {M : Type 1} → statement M
+branching_bisim_signature_sorted_spec =
     tie.close
     (tie.spec
-    cast-n
-    slice-aggregate-works-long
-    works-long-requires
-    add-lists
-    sorted-refusal-requires
-    refusing-number-requires
-    returns
-    clear-four-requires
+    overflow_cast-n
+    slice_bounds-works_long-end
+    works_long-works-requires
+    overflow_add-lists
+    sorted_refusal-t-requires
+    refusing_number-requires
+    returns-then-number-ne0
+    clear_four-requires
     clear-requires
     clear-requires-2
     clear-requires-3
-    branching-bisim-signature-sorted-requires
-    same_length
-    same-length-2
-    same-length-3
-    same-length-4
-    same-length-5
-    same-length-6
-    same-length-7
-    same-length-8
-    same-length-9
-    returns-2)
+    branching_bisim_signature_sorted-requires
+    shape_of-labels
+    shape_of-blocks
+    shape_of-own_labels
+    shape_of-own_blocks
+    shape_of-high
+    shape_of-low
+    shape_of-end_high
+    shape_of-end_low
+    shape_of-tree
+    returns)

@@ -8,5 +8,5 @@ returns : tie.Need-returns
 unfolding blank
 returns c = search rules
 
-pub empty-table-spec : {M : Type 1} → statement M
-empty-table-spec = tie.close (tie.spec returns)
+pub empty_table_spec : {M : Type 1} → statement M
+empty_table_spec = tie.close (tie.spec returns)

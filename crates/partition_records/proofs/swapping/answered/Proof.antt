@@ -7,19 +7,19 @@ use Rattle.partition_records.specs.Tables.{went}
 use Rattle.partition_records.proofs.swapping.answered.Statement.{statement}
 use Rattle.partition_records.proofs.swapping.answered.Tie as tie
 
-enum_told : tie.Need-enum-told
-enum_told c = search rules
+enum_told-1 : tie.Need-enum_told-1
+enum_told-1 c = search rules
 
-enum-told-2 : tie.Need-enum-told-2
-enum-told-2 c = search rules
+enum_told-in-Refused : tie.Need-enum_told-in-Refused
+enum_told-in-Refused c = search rules
 
-returns : tie.Need-returns
+returns-in-Done : tie.Need-returns-in-Done
 unfolding went
-returns c = (refl, sym (ap (λ (o : Outcome). went (said_outcome o)) c.enum_told.given.1))
+returns-in-Done c = (refl, sym (ap (λ (o : Outcome). went (said_outcome o)) c.enum_told-1.given.1))
 
-returns-2 : tie.Need-returns-2
+returns-in-Refused : tie.Need-returns-in-Refused
 unfolding went
-returns-2 c = (refl, sym (ap (λ (o : Outcome). went (said_outcome o)) c.enum-told2.given.1))
+returns-in-Refused c = (refl, sym (ap (λ (o : Outcome). went (said_outcome o)) c.enum_told-in-Refused-1.given.1))
 
-pub answered-spec : {M : Type 1} → statement M
-answered-spec = tie.close (tie.spec enum_told enum-told-2 returns returns-2)
+pub answered_spec : {M : Type 1} → statement M
+answered_spec = tie.close (tie.spec enum_told-1 enum_told-in-Refused returns-in-Done returns-in-Refused)

@@ -9,78 +9,78 @@ use Rattle.partition_records.proofs.Agreeing.{numbers_left}
 use Rattle.partition_records.proofs.swapping.swap_table.Statement.{statement}
 use Rattle.partition_records.proofs.swapping.swap_table.Tie as tie
 
-slice-aggregate-apart : tie.Need-slice-aggregate-apart
-slice-aggregate-apart c = search rules
+slice_bounds-apart-end : tie.Need-slice_bounds-apart-end
+slice_bounds-apart-end c = search rules
 
-slice-aggregate-apart-2 : tie.Need-slice-aggregate-apart-2
-slice-aggregate-apart-2 c = search rules
+slice_bounds-apart-end-2 : tie.Need-slice_bounds-apart-end-2
+slice_bounds-apart-end-2 c = search rules
 
-slice-aggregate-apart-3 : tie.Need-slice-aggregate-apart-3
-slice-aggregate-apart-3 c = search rules
+slice_bounds-apart-end-3 : tie.Need-slice_bounds-apart-end-3
+slice_bounds-apart-end-3 c = search rules
 
 apart-requires : tie.Need-apart-requires
 apart-requires c κs = search rules
 
-array-borrow-prefix-begin : tie.Need-array-borrow-prefix-begin
-array-borrow-prefix-begin c = search rules
+slice_bounds-begin-end : tie.Need-slice_bounds-begin-end
+slice_bounds-begin-end c = search rules
 
-slice-aggregate-swap-blocks : tie.Need-slice-aggregate-swap-blocks
-slice-aggregate-swap-blocks c =
-    let u = c.before.before.before.before.before in
-    sym (length-take-le u.before.before.before.before.before.before.before.args.len u.apart.new.1.0 (search rules))
+slice_bounds-swap_blocks-end : tie.Need-slice_bounds-swap_blocks-end
+slice_bounds-swap_blocks-end c =
+    let u = c in
+    sym (length-take-le u.args.len u.apart.new.begin (search rules))
 
-array-borrow-prefix-marked-split : tie.Need-array-borrow-prefix-marked-split
-array-borrow-prefix-marked-split c = search rules
+slice_bounds-marked_split-end : tie.Need-slice_bounds-marked_split-end
+slice_bounds-marked_split-end c = search rules
 
-slice-aggregate-swap-blocks-2 : tie.Need-slice-aggregate-swap-blocks-2
-slice-aggregate-swap-blocks-2 c =
-    let u = c.before.before.before.before.before.before in
-    sym (length-take-le u.before.before.before.before.before.before.before.args.len u.apart.new.1.1.0 (search rules))
+slice_bounds-swap_blocks-end-2 : tie.Need-slice_bounds-swap_blocks-end-2
+slice_bounds-swap_blocks-end-2 c =
+    let u = c in
+    sym (length-take-le u.args.len u.apart.new.marked_split (search rules))
 
-array-borrow-prefix-end : tie.Need-array-borrow-prefix-end
-array-borrow-prefix-end c = search rules
+slice_bounds-end-end : tie.Need-slice_bounds-end-end
+slice_bounds-end-end c = search rules
 
-slice-aggregate-swap-blocks-3 : tie.Need-slice-aggregate-swap-blocks-3
-slice-aggregate-swap-blocks-3 c =
-    let u = c.before.before.before.before.before.before.before in
-    sym (length-take-le u.before.before.before.before.before.before.before.args.len u.apart.new.1.1.1.0 (search rules))
+slice_bounds-swap_blocks-end-3 : tie.Need-slice_bounds-swap_blocks-end-3
+slice_bounds-swap_blocks-end-3 c =
+    let u = c in
+    sym (length-take-le u.args.len u.apart.new.end (search rules))
 
-swap-blocks-requires : tie.Need-swap-blocks-requires
-swap-blocks-requires c κs = search rules
+swap_blocks-answer-requires : tie.Need-swap_blocks-answer-requires
+swap_blocks-answer-requires c κs = search rules
 
 answered-requires : tie.Need-answered-requires
 answered-requires c κs = search rules
 
-same_length : tie.Need-same-length
-same_length c = search rules
+shape_of-element_to_block : tie.Need-shape_of-element_to_block
+shape_of-element_to_block c = search rules
 
 returns : tie.Need-returns
 returns c =
-    let u = c.before.before.before.before.before.before.before.before.before.before.before.before.before.before in
-    let a = u.before.before.before.before.before.before.before in
+    let u = c in
+    let a = u in
     let d = c.answered.ensures in (
       numbers_left a.args.elements.now a.args.element_offset.now a.args.element_to_block.now a.args.table a.args.len
-          a.args.partition.n a.args.partition.count a.args.left-index a.args.right-index _ _ _ _ _ _ _ _ _
+          a.args.partition.n a.args.partition.count a.args.left_index a.args.right_index _ _ _ _ _ _ _ _ _
           u.apart.ensures.0 u.apart.ensures.1 u.apart.ensures.2
-          c.before.before.before.before.before.before.swap-blocks.ensures (ap said d.0),
+          c.swap_blocks-answer.ensures (ap said d.0),
       d.1 ∙ sym (ap (λ (x : Answer). went (said x)) d.0),
     )
 
-pub swap-table-spec : {M : Type 1} → statement M
-swap-table-spec =
+pub swap_table_spec : {M : Type 1} → statement M
+swap_table_spec =
     tie.close
     (tie.spec
-    slice-aggregate-apart
-    slice-aggregate-apart-2
-    slice-aggregate-apart-3
+    slice_bounds-apart-end
+    slice_bounds-apart-end-2
+    slice_bounds-apart-end-3
     apart-requires
-    array-borrow-prefix-begin
-    slice-aggregate-swap-blocks
-    array-borrow-prefix-marked-split
-    slice-aggregate-swap-blocks-2
-    array-borrow-prefix-end
-    slice-aggregate-swap-blocks-3
-    swap-blocks-requires
+    slice_bounds-begin-end
+    slice_bounds-swap_blocks-end
+    slice_bounds-marked_split-end
+    slice_bounds-swap_blocks-end-2
+    slice_bounds-end-end
+    slice_bounds-swap_blocks-end-3
+    swap_blocks-answer-requires
     answered-requires
-    same_length
+    shape_of-element_to_block
     returns)

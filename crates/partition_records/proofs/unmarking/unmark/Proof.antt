@@ -6,41 +6,41 @@ use Rattle.partition_records.specs.Unmark.{unmark_all}
 use Rattle.partition_records.proofs.unmarking.unmark.Statement.{statement}
 use Rattle.partition_records.proofs.unmarking.unmark.Tie as tie
 
-cast-x : tie.Need-overflow-cast-x
-cast-x c = search rules
+overflow_cast-x : tie.Need-overflow_cast-x
+overflow_cast-x c = search rules
 
-cast-y : tie.Need-overflow-cast-y
-cast-y c = search rules
+overflow_cast-y : tie.Need-overflow_cast-y
+overflow_cast-y c = search rules
 
-cast-z : tie.Need-overflow-cast-z
-cast-z c = search rules
+overflow_cast-z : tie.Need-overflow_cast-z
+overflow_cast-z c = search rules
 
 within-requires : tie.Need-within-requires
 within-requires c κs = search rules
 
-refusing-requires : tie.Need-refusing-requires
-refusing-requires c κs = search rules
+refusing-answer-requires : tie.Need-refusing-answer-requires
+refusing-answer-requires c κs = search rules
+
+returns-then-not-within : tie.Need-returns-then-not-within
+unfolding unmark_all
+returns-then-not-within c = rw (c.refusing-answer.ensures, sym c.within.ensures ∙ c.if-not-within.true)
+
+finished-answer-requires : tie.Need-finished-answer-requires
+finished-answer-requires c κs = search rules
 
 returns : tie.Need-returns
 unfolding unmark_all
-returns c = rw (c.refusing.ensures, sym c.before.before.within.ensures ∙ not-true _ c.before.if1.true)
+returns c = rw (c.finished-answer.ensures, sym c.within.ensures ∙ c.if-not-within.false)
 
-finished-requires : tie.Need-finished-requires
-finished-requires c κs = search rules
-
-returns-2 : tie.Need-returns-2
-unfolding unmark_all
-returns-2 c = rw (c.finished.ensures, sym c.before.before.within.ensures ∙ not-false _ c.before.if1.false)
-
-pub unmark-spec : {M : Type 1} → statement M
-unmark-spec =
+pub unmark_spec : {M : Type 1} → statement M
+unmark_spec =
     tie.close
     (tie.spec
-    cast-x
-    cast-y
-    cast-z
+    overflow_cast-x
+    overflow_cast-y
+    overflow_cast-z
     within-requires
-    refusing-requires
-    returns
-    finished-requires
-    returns-2)
+    refusing-answer-requires
+    returns-then-not-within
+    finished-answer-requires
+    returns)

@@ -21,47 +21,47 @@ L a = lts a.args.table a.args.source.now a.args.label.now a.args.target.now
 abbrev P : tie.Start → Partition
 P a =
     parts a.args.elements.now a.args.element_offset.now a.args.element_to_block.now a.args.begin.now
-    a.args.marked_split_lem.now a.args.end.now a.args.table.n a.args.count
+    a.args.marked_split.now a.args.end.now a.args.table.n a.args.count
 
 abbrev G : tie.Start → Given
-G a = flat a.args.starts.now a.args.given-labels.now a.args.given-blocks.now
+G a = flat a.args.starts.now a.args.given_labels.now a.args.given_blocks.now
 
 -- the tests before those of the lists
 abbrev Front : tie.Start → List Test
 Front a = both_tests (L a) (P a) a.args.room ++ (index_test a.args.state a.args.table.n ∷ [])
 
-cast-n : tie.Need-overflow-cast-n
-cast-n c = search rules
+overflow_cast-n : tie.Need-overflow_cast-n
+overflow_cast-n c = search rules
 
-argument-refusal-requires : tie.Need-argument-refusal-requires
-argument-refusal-requires c κs = search rules
+argument_refusal-t-requires : tie.Need-argument_refusal-t-requires
+argument_refusal-t-requires c κs = search rules
 
-returns : tie.Need-returns
+returns-then-number-ne0 : tie.Need-returns-then-number-ne0
 unfolding sorted_refusal both_argument_refusal
-returns c =
+returns-then-number-ne0 c =
     let a = c.before.before.before.before.before.before.before.before.before.before.before.before.before.before.before in
-    ends (Front a) (tested (L a) (G a)) refl _ c.before.argument-refusal.ensures c.if1.true
+    ends (Front a) (tested (L a) (G a)) refl _ c.argument_refusal-t.ensures c.if-number-ne0.true
 
-lists-refusal-requires : tie.Need-lists-refusal-requires
-lists-refusal-requires c κs =
+lists_refusal-requires : tie.Need-lists_refusal-requires
+lists_refusal-requires c κs =
     let a = c.before.before.before.before.before.before.before.before.before.before.before.before.before.before.before in
-    let r = both_ready (L a) (P a) refl a.args.state a.args.table.n a.args.room _ c.before.argument-refusal.ensures
-    c.if1.false in
+    let r = both_ready (L a) (P a) refl a.args.state a.args.table.n a.args.room _ c.argument_refusal-t.ensures
+    c.if-number-ne0.false in
     (a.requires r.enough, r.valid.few_states)
 
-returns-2 : tie.Need-returns-2
+returns : tie.Need-returns
 unfolding sorted_refusal both_argument_refusal lists_refusal
-returns-2 c =
+returns c =
     let a = c.before.before.before.before.before.before.before.before.before.before.before.before.before.before.before.before in
-    c.lists-refusal.ensures
-    ∙ goes_on_lem (Front a) (tested (L a) (G a)) refl _ c.before.before.argument-refusal.ensures c.before.if1.false
+    c.lists_refusal.ensures
+    ∙ goes_on_lem (Front a) (tested (L a) (G a)) refl _ c.argument_refusal-t.ensures c.if-number-ne0.false
 
-pub sorted-refusal-spec : {M : Type 1} → statement M
-sorted-refusal-spec =
+pub sorted_refusal_spec : {M : Type 1} → statement M
+sorted_refusal_spec =
     tie.close
     (tie.spec
-    cast-n
-    argument-refusal-requires
-    returns
-    lists-refusal-requires
-    returns-2)
+    overflow_cast-n
+    argument_refusal-t-requires
+    returns-then-number-ne0
+    lists_refusal-requires
+    returns)

@@ -9,18 +9,18 @@ use Rattle.signatures_sorted.proofs.cores.join.Tie as tie
 -- the lists
 abbrev D : tie.Start → Heads
 D a =
-    heads a.args.given-labels.now a.args.given-blocks.now a.args.high.now a.args.low.now a.args.end-high.now
+    heads a.args.given_labels.now a.args.given_blocks.now a.args.high.now a.args.low.now a.args.end_high.now
     a.args.end_low.now
 
-merge-requires : tie.Need-merge-requires
-merge-requires c κs =
-    let p = c.before.before.before.before.before.before.before.before.before.before.before.before.before.before.before.before.requires in ((p.0.0, p.0.1), (p.1.0.0, (omega (arith, p.1.1.0), omega (arith, p.1.1.1))))
+merge-r-requires : tie.Need-merge-r-requires
+merge-r-requires c κs =
+    let p = c.requires in ((p.0.0, p.0.1), (p.1.0.0, (omega (arith, p.1.1.0), omega (arith, p.1.1.1))))
 
 unite-requires : tie.Need-unite-requires
 unite-requires c κs =
     let a = c.before.before.before.before.before.before.before.before.before.before.before.before.before.before.before.before.before.before.before.before.before.before.before.before.before.before.before.before.before.before.before in
-    let e = c.before.before.before.before.before.before.before.before.before.before.before.before.before.before.merge.ensures in
-    let p = a.pre in (
+    let e = c.merge-r.ensures in
+    let p = a.requires in (
       (
         room_a (D a) a.args.lists a.args.own _ _ _ a.args.labels.now a.args.blocks.now e.0 e.1 e.2 p.1.1.0
             p.1.1.1,
@@ -38,59 +38,59 @@ unite-requires c κs =
     )
 
 -- from the end of the call: where the lists were merged, and where the own pairs were united with them
-abbrev merged : tie.After-slice-known16 → tie.After-merge
+abbrev merged : tie.After-slice_known-16-1 → tie.After-merge-r
 merged c =
     c.before.before.before.before.before.before.before.before.before.before.before.before.before.before.before.before.before.before.before.before.before.before.before
 
-abbrev united : tie.After-slice-known16 → tie.After-unite
+abbrev united : tie.After-slice_known-16-1 → tie.After-unite
 united c = c.before.before.before.before.before.before.before.before
 
-same_length : tie.Need-same-length
-same_length c = (united c).unite.auto.0 ∙ (merged c).merge.auto.1.1.1.0
+shape_of-labels : tie.Need-shape_of-labels
+shape_of-labels c = (united c).unite.auto.labels ∙ (merged c).merge-r.auto.to_labels
 
-same-length-2 : tie.Need-same-length-2
-same-length-2 c = (united c).unite.auto.1.0 ∙ (merged c).merge.auto.1.1.1.1.0
+shape_of-blocks : tie.Need-shape_of-blocks
+shape_of-blocks c = (united c).unite.auto.blocks ∙ (merged c).merge-r.auto.to_blocks
 
-same-length-3 : tie.Need-same-length-3
-same-length-3 c = (united c).unite.auto.1.1.1.0
+shape_of-own_labels : tie.Need-shape_of-own_labels
+shape_of-own_labels c = (united c).unite.auto.own_labels
 
-same-length-4 : tie.Need-same-length-4
-same-length-4 c = (united c).unite.auto.1.1.1.1.0
+shape_of-own_blocks : tie.Need-shape_of-own_blocks
+shape_of-own_blocks c = (united c).unite.auto.own_blocks
 
-same-length-5 : tie.Need-same-length-5
-same-length-5 c = (merged c).merge.auto.1.1.1.1.1.0
+shape_of-high : tie.Need-shape_of-high
+shape_of-high c = (merged c).merge-r.auto.high
 
-same-length-6 : tie.Need-same-length-6
-same-length-6 c = (merged c).merge.auto.1.1.1.1.1.1.0
+shape_of-low : tie.Need-shape_of-low
+shape_of-low c = (merged c).merge-r.auto.low
 
-same-length-7 : tie.Need-same-length-7
-same-length-7 c = (merged c).merge.auto.1.1.1.1.1.1.1.1.1.0
+shape_of-tree : tie.Need-shape_of-tree
+shape_of-tree c = (merged c).merge-r.auto.tree
 
 returns : tie.Need-returns
 returns c =
     let a = c.before.before.before.before.before.before.before.before.before.before.before.before.before.before.before.before.before.before.before.before.before.before.before.before.before.before.before.before.before.before.before.before.before.before.before.before.before.before.before.before in
-    let e = c.before.before.before.before.before.before.before.before.before.before.before.before.before.before.before.before.before.before.before.before.before.before.before.merge.ensures in
-    let u = c.before.before.before.before.before.before.before.before.unite.ensures in
-    let p = a.pre in (
+    let e = c.merge-r.ensures in
+    let u = c.unite.ensures in
+    let p = a.requires in (
       joined_count (D a) a.args.lists a.args.own _ _ _ a.args.labels.now a.args.blocks.now e.0 e.1 e.2
           p.1.1.0
-          p.1.1.1 a.args.own-labels.now a.args.own_blocks.now _ _ _ u.0 u.1 u.2,
+          p.1.1.1 a.args.own_labels.now a.args.own_blocks.now _ _ _ u.0 u.1 u.2,
       joined_over (D a) a.args.lists a.args.own _ _ _ a.args.labels.now a.args.blocks.now e.0 e.1 e.2
           p.1.1.0
-          p.1.1.1 a.args.own-labels.now a.args.own_blocks.now _ _ _ u.0 u.1 u.2,
+          p.1.1.1 a.args.own_labels.now a.args.own_blocks.now _ _ _ u.0 u.1 u.2,
     )
 
-pub join-spec : {M : Type 1} → statement M
-join-spec =
+pub join_spec : {M : Type 1} → statement M
+join_spec =
     tie.close
     (tie.spec
-    merge-requires
+    merge-r-requires
     unite-requires
-    same_length
-    same-length-2
-    same-length-3
-    same-length-4
-    same-length-5
-    same-length-6
-    same-length-7
+    shape_of-labels
+    shape_of-blocks
+    shape_of-own_labels
+    shape_of-own_blocks
+    shape_of-high
+    shape_of-low
+    shape_of-tree
     returns)

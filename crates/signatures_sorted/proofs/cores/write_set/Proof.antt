@@ -1,4 +1,5 @@
 -- `cores.write_set` meets its contract.
+use mathlib.Core.Bool.{not}
 use borrow.Author.Rules.{rules}
 use borrow.Author.Tests.{not-true, not-false}
 use native.Mathlib.Omega.{arith}
@@ -17,8 +18,8 @@ use Rattle.signatures_sorted.proofs.cores.write_set.Tie as tie
 -- the set that is to be written, and the columns that it goes to
 abbrev Pairs : tie.Start → List Pair
 Pairs a =
-    joint_set a.args.taken.own a.args.own-labels.now a.args.own_blocks.now
-    (heads a.args.given-labels.now a.args.given-blocks.now a.args.high.now a.args.low.now a.args.end-high.now
+    joint_set a.args.taken.own a.args.own_labels.now a.args.own_blocks.now
+    (heads a.args.given_labels.now a.args.given_blocks.now a.args.high.now a.args.low.now a.args.end_high.now
     a.args.end_low.now)
     a.args.taken.lists
 
@@ -32,85 +33,85 @@ room : (a : tie.Start) (r t : Bool) → r ≡ room_for a.args.taken.pushed (leng
 unfolding fits
 room a r t e f = sym e ∙ f
 
-has-room-requires : tie.Need-has-room-requires
-has-room-requires c κs = search rules
+has_room-requires : tie.Need-has_room-requires
+has_room-requires c κs = search rules
 
 refuse-requires : tie.Need-refuse-requires
 refuse-requires c κs = search rules
 
-refusing-number-requires : tie.Need-refusing-number-requires
-refusing-number-requires c κs = search rules
+refusing_number-requires : tie.Need-refusing_number-requires
+refusing_number-requires c κs = search rules
 
-returns : tie.Need-returns
-returns c =
+returns-then-not-has_room : tie.Need-returns-then-not-has_room
+returns-then-not-has_room c =
     let a = c.before.before.before.before.before.before.before.before.before.before.before.before.before.before.before in
     wrote_none a.args.taken.pushed (Pairs a) (Out a) _
-    (room a _ false c.before.before.before.has_room.ensures (not-true _ c.before.before.if1.true))
-    (c.refusing-number.ensures ∙ ap (λ r. refused r.number r.place) c.before.refuse.ensures)
+    (room a _ false c.has_room.ensures (c.if-not-has_room.true))
+    (c.refusing_number.ensures ∙ ap (λ r. refused r.number r.place) c.refuse.ensures)
 
-join-requires : tie.Need-join-requires
-join-requires c κs =
-    let a = c.before.before.before.before.before.before.before.before.before.before.before.before.before.before.before.before.before.before.before.before in
-    let p = a.pre in
+join-k-requires : tie.Need-join-k-requires
+join-k-requires c κs =
+    let a = c in
+    let p = a.requires in
     let w = room_both a.args.taken.pushed (length a.args.labels.now) (length a.args.blocks.now) _
-    c.before.before.before.before.before.before.before.before.has_room.ensures
-    (not-false _ c.before.before.before.before.before.before.before.if1.false) in
+    c.has_room.ensures
+    (c.if-not-has_room.false) in
     (p.0, (p.1.0, (omega (arith, p.1.1, w.0), omega (arith, p.1.1, w.1))))
 
 number-requires : tie.Need-number-requires
 number-requires c κs = search rules
 
 -- from the end of the call: where the set was made
-abbrev joining : tie.After-number → tie.After-join
+abbrev joining : tie.After-number → tie.After-join-k
 joining c = c.before.before.before.before.before.before.before.before.before.before.before.before.before.before.before
 
-same_length : tie.Need-same-length
-same_length c = (joining c).join.auto.1.1.1.1.0
+shape_of-labels : tie.Need-shape_of-labels
+shape_of-labels c = (joining c).join-k.auto.labels
 
-same-length-2 : tie.Need-same-length-2
-same-length-2 c = (joining c).join.auto.1.1.1.1.1.0
+shape_of-blocks : tie.Need-shape_of-blocks
+shape_of-blocks c = (joining c).join-k.auto.blocks
 
-same-length-3 : tie.Need-same-length-3
-same-length-3 c = (joining c).join.auto.1.1.1.1.1.1.0
+shape_of-own_labels : tie.Need-shape_of-own_labels
+shape_of-own_labels c = (joining c).join-k.auto.own_labels
 
-same-length-4 : tie.Need-same-length-4
-same-length-4 c = (joining c).join.auto.1.1.1.1.1.1.1.0
+shape_of-own_blocks : tie.Need-shape_of-own_blocks
+shape_of-own_blocks c = (joining c).join-k.auto.own_blocks
 
-same-length-5 : tie.Need-same-length-5
-same-length-5 c = (joining c).join.auto.1.1.1.1.1.1.1.1.0
+shape_of-high : tie.Need-shape_of-high
+shape_of-high c = (joining c).join-k.auto.high
 
-same-length-6 : tie.Need-same-length-6
-same-length-6 c = (joining c).join.auto.1.1.1.1.1.1.1.1.1.0
+shape_of-low : tie.Need-shape_of-low
+shape_of-low c = (joining c).join-k.auto.low
 
-same-length-7 : tie.Need-same-length-7
-same-length-7 c = (joining c).join.auto.1.1.1.1.1.1.1.1.1.1.1.1.0
+shape_of-tree : tie.Need-shape_of-tree
+shape_of-tree c = (joining c).join-k.auto.tree
 
-returns-2 : tie.Need-returns-2
-returns-2 c =
+returns : tie.Need-returns
+returns c =
     let a = c.before.before.before.before.before.before.before.before.before.before.before.before.before.before.before.before.before.before.before.before.before.before.before.before.before.before.before.before.before.before.before.before.before.before.before.before in
-    let j = (joining c).join in
+    let j = (joining c).join-k in
     wrote_all a.args.taken.pushed (Pairs a) (Out a) _ _
     (room a _ true
-    c.before.before.before.before.before.before.before.before.before.before.before.before.before.before.before.before.before.before.before.before.before.before.before.before.has_room.ensures
+    c.has_room.ensures
     (not-false _
-    c.before.before.before.before.before.before.before.before.before.before.before.before.before.before.before.before.before.before.before.before.before.before.before.if1.false))
+    (ap not c.if-not-has_room.false)))
     (c.number.ensures ∙ ap (λ (k : ℕ). done (k ∷ [])) j.ensures.0) j.ensures.1
 
-pub write-set-spec : {M : Type 1} → statement M
-write-set-spec =
+pub write_set_spec : {M : Type 1} → statement M
+write_set_spec =
     tie.close
     (tie.spec
-    has-room-requires
+    has_room-requires
     refuse-requires
-    refusing-number-requires
-    returns
-    join-requires
+    refusing_number-requires
+    returns-then-not-has_room
+    join-k-requires
     number-requires
-    same_length
-    same-length-2
-    same-length-3
-    same-length-4
-    same-length-5
-    same-length-6
-    same-length-7
-    returns-2)
+    shape_of-labels
+    shape_of-blocks
+    shape_of-own_labels
+    shape_of-own_blocks
+    shape_of-high
+    shape_of-low
+    shape_of-tree
+    returns)

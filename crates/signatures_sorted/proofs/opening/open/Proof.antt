@@ -9,56 +9,56 @@ use Rattle.signatures_sorted.proofs.opening.open.Tie as tie
 start-requires : tie.Need-start-requires
 start-requires c κs = search rules
 
-set-place-requires : tie.Need-set-place-requires
-set-place-requires c κs = (
+set_place-requires : tie.Need-set_place-requires
+set_place-requires c κs = (
   search rules,
   search rules,
   omega (
     arith,
-    c.before.before.start.ensures,
-    c.before.before.before.before.before.before.before.shared-slice-known.given
-        c.before.before.before.before.before.before.before.before.args.u,
+    c.start.ensures,
+    c.shared_slice_known-1.given
+        c.args.u,
   ),
 )
 
-add_start : tie.Need-overflow-add-start
-add_start c = search rules
+overflow_add-u : tie.Need-overflow_add-u
+overflow_add-u c = search rules
 
 start-requires-2 : tie.Need-start-requires-2
 start-requires-2 c κs = search rules
 
-set-place-requires-2 : tie.Need-set-place-requires-2
-set-place-requires-2 c κs = (
+set_place-requires-2 : tie.Need-set_place-requires-2
+set_place-requires-2 c κs = (
   search rules,
   search rules,
   omega (
     arith,
-    c.before.before.start2.ensures,
-    c.before.before.before.before.before.before.before.before.before.before.before.before.before.before.before.shared-slice-known.given
-        (c.before.before.before.before.before.before.before.before.before.before.before.before.before.before.before.before.args.u + 1),
+    c.start-2.ensures,
+    c.shared_slice_known-1.given
+        (c.args.u + 1),
   ),
 )
 
-same_length : tie.Need-same-length
-same_length c = search rules
+shape_of-high : tie.Need-shape_of-high
+shape_of-high c = search rules
 
-same-length-2 : tie.Need-same-length-2
-same-length-2 c = search rules
+shape_of-low : tie.Need-shape_of-low
+shape_of-low c = search rules
 
-same-length-3 : tie.Need-same-length-3
-same-length-3 c = search rules
+shape_of-end_high : tie.Need-shape_of-end_high
+shape_of-end_high c = search rules
 
-same-length-4 : tie.Need-same-length-4
-same-length-4 c = search rules
+shape_of-end_low : tie.Need-shape_of-end_low
+shape_of-end_low c = search rules
 
 returns : tie.Need-returns
 returns c =
-    let x = c.before.before.before.before.before.before.before.before.before.before.before.before.set-place.ensures in
-    let y = c.before.before.before.before.set-place2.ensures in (
+    let x = c.set_place.ensures in
+    let y = c.set_place-2.ensures in (
       (
         x.0
-            ∙ c.before.before.before.before.before.before.before.before.before.before.before.before.before.before.before.start.ensures,
-        y.0 ∙ c.before.before.before.before.before.before.before.start2.ensures,
+            ∙ c.start.ensures,
+        y.0 ∙ c.start-2.ensures,
       ),
       λ i n. (x.1 i n, y.1 i n),
     )
@@ -68,12 +68,12 @@ open_spec =
     tie.close
     (tie.spec
     start-requires
-    set-place-requires
-    add_start
+    set_place-requires
+    overflow_add-u
     start-requires-2
-    set-place-requires-2
-    same_length
-    same-length-2
-    same-length-3
-    same-length-4
+    set_place-requires-2
+    shape_of-high
+    shape_of-low
+    shape_of-end_high
+    shape_of-end_low
     returns)

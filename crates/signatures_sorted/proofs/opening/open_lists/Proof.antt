@@ -18,258 +18,258 @@ use Rattle.signatures_sorted.proofs.Turning.{Opening, opening_start, opening_mor
 use Rattle.signatures_sorted.proofs.opening.open_lists.Statement.{statement}
 use Rattle.signatures_sorted.proofs.opening.open_lists.Tie as tie
 
-abbrev invariant-loop : tie.invariant-loop
-invariant-loop source label target element_to_block state starts high₀ low₀ end-high₀ end-low₀ m b i₀ end k₀ high low end-high end_low i k =
+abbrev invariant-loop-i : tie.invariant-loop-i
+invariant-loop-i source label target element_to_block state starts high₀ low₀ end-high₀ end-low₀ m b i₀ end k₀ high low end-high end_low i k =
     Opening starts (λ r. get_or target r 0) (λ r. eqb (get_or source r 0) state && hidden_in label target element_to_block
     (get_or element_to_block state 0) r) i₀ end
     high₀ low₀ end-high₀ end-low₀ i k high low end-high end_low
 
-abbrev decreases-loop : tie.decreases-loop
-decreases-loop source label target element_to_block state starts high₀ low₀ end-high₀ end-low₀ m b i₀ end k₀ high low end-high end_low i k = end - i
+abbrev decreases-loop-i : tie.decreases-loop-i
+decreases-loop-i source label target element_to_block state starts high₀ low₀ end-high₀ end-low₀ m b i₀ end k₀ high low end-high end_low i k = end - i
 
 -- the table that is lent, and the rows whose lists are taken
-abbrev L : tie.Start invariant-loop decreases-loop → Lts
+abbrev L : tie.Start invariant-loop-i decreases-loop-i → Lts
 L a = lts a.args.table a.args.source.now a.args.label.now a.args.target.now
 
-abbrev F : tie.Start invariant-loop decreases-loop → ℕ → Bool
+abbrev F : tie.Start invariant-loop-i decreases-loop-i → ℕ → Bool
 F a r =
     eqb (get_or a.args.source.now r 0) a.args.state
     && hidden_in a.args.label.now a.args.target.now a.args.element_to_block.now
     (get_or a.args.element_to_block.now a.args.state 0) r
 
-valid : (a : tie.Start invariant-loop decreases-loop) → Valid (L a)
+valid : (a : tie.Start invariant-loop-i decreases-loop-i) → Valid (L a)
 valid a = a.requires.0.0
 
-cast-m : tie.Need-overflow-cast-m invariant-loop decreases-loop
-cast-m c = search rules
+overflow_cast-m : tie.Need-overflow_cast-m invariant-loop-i decreases-loop-i
+overflow_cast-m c = search rules
 
-at-requires : tie.Need-at-requires invariant-loop decreases-loop
-at-requires c κs = omega (
+at-b-requires : tie.Need-at-b-requires invariant-loop-i decreases-loop-i
+at-b-requires c κs = omega (
   arith,
-  c.before.before.before.before.before.before.before.before.before.before.requires.0.1,
-  c.before.before.before.before.before.before.before.before.before.before.requires.0.2,
+  c.requires.0.1,
+  c.requires.0.2,
 )
 
-rows-of-requires : tie.Need-rows-of-requires invariant-loop decreases-loop
-rows-of-requires c κs = (
+rows_of-rows-requires : tie.Need-rows_of-rows-requires invariant-loop-i decreases-loop-i
+rows_of-rows-requires c κs = (
   (valid c.before.before.before.before.before.before.before.before.before.before.before).long.source,
   rising (L c.before.before.before.before.before.before.before.before.before.before.before)
       (valid c.before.before.before.before.before.before.before.before.before.before.before),
   omega (
     arith,
-    c.before.before.before.before.before.before.before.before.before.before.before.requires.0.1,
+    c.requires.0.1,
     (valid c.before.before.before.before.before.before.before.before.before.before.before).few_states,
   ),
 )
 
 -- the rows of the state
-from : (q : tie.After-rows-of invariant-loop decreases-loop) → RowsFrom
+from : (q : tie.After-rows_of-rows invariant-loop-i decreases-loop-i) → RowsFrom
     (L q.before.before.before.before.before.before.before.before.before.before.before.before)
-    q.before.before.before.before.before.before.before.before.before.before.before.before.args.state
-    q.rows_of_lem.result.first q.rows_of_lem.result.end
+    q.args.state
+    q.rows_of-rows.result.first q.rows_of-rows.result.end
 from q = rows_from (L q.before.before.before.before.before.before.before.before.before.before.before.before)
     (valid q.before.before.before.before.before.before.before.before.before.before.before.before)
-    q.before.before.before.before.before.before.before.before.before.before.before.before.args.state _ _
-    q.rows_of_lem.ensures.0 q.rows_of_lem.ensures.1
+    q.args.state _ _
+    q.rows_of-rows.ensures.0 q.rows_of-rows.ensures.1
 
-loop-holds : tie.Need-loop-init invariant-loop decreases-loop
-loop-holds c = opening_start _ _ _ _ _ _ _ _ _ (from c).up (λ r l. and_no_left _ _ ((from c).before r l))
+loop-i-init : tie.Need-loop-i-init invariant-loop-i decreases-loop-i
+loop-i-init c = opening_start _ _ _ _ _ _ _ _ _ (from c).up (λ r l. and_no_left _ _ ((from c).before r l))
 
-below : (q : tie.In-loop invariant-loop decreases-loop) → q.before.loop.i
-    < q.before.before.before.before.before.before.before.before.before.before.before.before.before.before.args.table.m
-below q = omega (arith, (from q.before.before).most, q.loop-test)
+below : (q : tie.In-loop-i invariant-loop-i decreases-loop-i) → q.loop-i.i
+    < q.args.table.m
+below q = omega (arith, (from q.before.before).most, q.loop-i-test)
 
 -- head k is there
-few : (q : tie.In-loop invariant-loop decreases-loop) → q.before.loop.k
-    < q.before.before.before.before.before.before.before.before.before.before.before.before.before.before.args.table.m
+few : (q : tie.In-loop-i invariant-loop-i decreases-loop-i) → q.loop-i.k
+    < q.args.table.m
 few q = omega (
   arith,
   below q,
-  q.before.loop.invariant.count,
-  many-le q.before.loop.i
+  q.loop-i.invariant.count,
+  many-le q.loop-i.i
       (F q.before.before.before.before.before.before.before.before.before.before.before.before.before.before),
 )
 
-hidden-in-requires : tie.Need-hidden-in-requires invariant-loop decreases-loop
-hidden-in-requires c κs =
+hidden_in-requires : tie.Need-hidden_in-requires invariant-loop-i decreases-loop-i
+hidden_in-requires c κs =
     let v = valid c.before.before.before.before.before.before.before.before.before.before.before.before.before.before in
     let l = below c in (
       omega (arith, l, v.long.label),
       omega (arith, l, v.long.target),
       omega (
         arith,
-        (v.fields c.before.loop.i l).target,
-        c.before.before.before.before.before.before.before.before.before.before.before.before.before.before.requires.0.2,
+        (v.fields c.loop-i.i l).target,
+        c.requires.0.2,
       ),
     )
 
-at-requires-2 : tie.Need-at-requires-2 invariant-loop decreases-loop
-at-requires-2 c κs = omega (
+at-u-requires : tie.Need-at-u-requires invariant-loop-i decreases-loop-i
+at-u-requires c κs = omega (
   arith,
   below c.before.before,
   (valid c.before.before.before.before.before.before.before.before.before.before.before.before.before.before.before.before).long.target,
 )
 
-add-k : tie.Need-overflow-add-k invariant-loop decreases-loop
-add-k c =
+overflow_add-k : tie.Need-overflow_add-k invariant-loop-i decreases-loop-i
+overflow_add-k c =
     omega (
       arith,
       few c.before.before.before.before.before.before.before.before.before.before.before.before.before.before.before.before,
       (valid c.before.before.before.before.before.before.before.before.before.before.before.before.before.before.before.before.before.before.before.before.before.before.before.before.before.before.before.before.before.before).few_rows,
     )
 
-add-i : tie.Need-overflow-add-i invariant-loop decreases-loop
-add-i c =
+overflow_add-i : tie.Need-overflow_add-i invariant-loop-i decreases-loop-i
+overflow_add-i c =
     omega (
       arith,
       below c.before.before.before.before.before.before.before.before.before.before.before.before.before.before.before.before,
       (valid c.before.before.before.before.before.before.before.before.before.before.before.before.before.before.before.before.before.before.before.before.before.before.before.before.before.before.before.before.before.before).few_rows,
     )
 
-loop-less : tie.Need-loop-smaller invariant-loop decreases-loop
-loop-less c =
+loop-i-smaller-then-hidden_in : tie.Need-loop-i-smaller-then-hidden_in invariant-loop-i decreases-loop-i
+loop-i-smaller-then-hidden_in c =
     omega (
       arith,
-      c.before.before.before.before.before.before.before.before.before.before.before.before.before.before.before.before.loop-test,
+      c.loop-i-test,
     )
 
 -- what was tested of row i
-tested : (q : tie.After-hidden-in invariant-loop decreases-loop) → q.hidden-in.result ≡ hidden_in
-    q.before.before.before.before.before.before.before.before.before.before.before.before.before.before.before.args.label.now q.before.before.before.before.before.before.before.before.before.before.before.before.before.before.before.args.target.now
-    q.before.before.before.before.before.before.before.before.before.before.before.before.before.before.before.args.element_to_block.now
-    (get_or q.before.before.before.before.before.before.before.before.before.before.before.before.before.before.before.args.element_to_block.now
-    q.before.before.before.before.before.before.before.before.before.before.before.before.before.before.before.args.state
-    0) q.before.before.loop.i
+tested : (q : tie.After-hidden_in invariant-loop-i decreases-loop-i) → q.hidden_in.result ≡ hidden_in
+    q.args.label.now q.args.target.now
+    q.args.element_to_block.now
+    (get_or q.args.element_to_block.now
+    q.args.state
+    0) q.loop-i.i
 tested q =
-    let a = q.before.before.before.before.before.before.before.before.before.before.before.before.before.before.before.args
+    let a = q.args
     in
-    q.hidden-in.ensures
-    ∙ ap (λ (b : ℕ). hidden_in a.label.now a.target.now a.element_to_block.now b q.before.before.loop.i)
-    q.before.before.before.before.at.ensures.0
+    q.hidden_in.ensures
+    ∙ ap (λ (b : ℕ). hidden_in a.label.now a.target.now a.element_to_block.now b q.loop-i.i)
+    q.at-b.ensures.0
 
-passes : (q : tie.Then1 invariant-loop decreases-loop) →
+passes : (q : tie.Then-hidden_in invariant-loop-i decreases-loop-i) →
     F q.before.before.before.before.before.before.before.before.before.before.before.before.before.before.before.before
-    q.before.before.before.loop.i ≡ true
-passes q = and_both ((from q.before.before.before.before).own q.before.before.before.loop.i
-    q.before.before.before.loop.invariant.from (omega (arith, q.before.before.loop-test))) (sym (tested q.before) ∙ q.if1.true)
+    q.loop-i.i ≡ true
+passes q = and_both ((from q.before.before.before.before).own q.loop-i.i
+    q.loop-i.invariant.from (omega (arith, q.loop-i-test))) (sym (tested q.before) ∙ q.if-hidden_in.true)
 
 -- there is a cell for head k
-room : (q : tie.Then1 invariant-loop decreases-loop) → q.before.before.before.loop.k < length (own_rows
+room : (q : tie.Then-hidden_in invariant-loop-i decreases-loop-i) → q.loop-i.k < length (own_rows
     (L q.before.before.before.before.before.before.before.before.before.before.before.before.before.before.before.before)
-    q.before.before.before.before.before.before.before.before.before.before.before.before.before.before.before.before.args.state)
+    q.args.state)
 room q =
     let a = q.before.before.before.before.before.before.before.before.before.before.before.before.before.before.before.before in
     omega (
       arith,
-      q.before.before.before.loop.invariant.count,
-      many_strict q.before.before.before.loop.i a.args.table.m (F a) (below q.before.before) (passes q),
+      q.loop-i.invariant.count,
+      many_strict q.loop-i.i a.args.table.m (F a) (below q.before.before) (passes q),
       own_few (L a) a.args.state
           (hidden_in a.args.label.now a.args.target.now a.args.element_to_block.now
           (get_or a.args.element_to_block.now a.args.state 0)),
     )
 
-open-requires : tie.Need-open-requires invariant-loop decreases-loop
+open-requires : tie.Need-open-requires invariant-loop-i decreases-loop-i
 open-requires c κs =
     let a = c.before.before.before.before.before.before.before.before.before.before.before.before.before.before.before.before.before.before.before.before.before in
-    let p = c.before.before.before.before.before.before.before.before.loop.invariant in
+    let p = c.loop-i.invariant in
     let l = room c.before.before.before.before.before in
-    let u = ((valid a).fields c.before.before.before.before.before.before.before.before.loop.i
+    let u = ((valid a).fields c.loop-i.i
     (below c.before.before.before.before.before.before.before)).target in (
       (
-        omega (arith, c.before.before.before.before.at2.ensures.0, u, a.pre.0.3),
-        omega (arith, c.before.before.before.before.at2.ensures.0, u, (valid a).few_states),
+        omega (arith, c.at-u.ensures.0, u, a.requires.0.3),
+        omega (arith, c.at-u.ensures.0, u, (valid a).few_states),
       ),
       (
-        omega (arith, l, p.same_high, a.pre.1.0),
-        omega (arith, l, p.same_low, a.pre.1.1.0),
-        omega (arith, l, p.same_end_high, a.pre.1.1.1.0),
-        omega (arith, l, p.same_end_low, a.pre.1.1.1.1.0),
+        omega (arith, l, p.same_high, a.requires.1.0),
+        omega (arith, l, p.same_low, a.requires.1.1.0),
+        omega (arith, l, p.same_end_high, a.requires.1.1.1.0),
+        omega (arith, l, p.same_end_low, a.requires.1.1.1.1.0),
       ),
     )
 
-loop-again : tie.Need-loop-preserved invariant-loop decreases-loop
-loop-again c =
-    let l = c.before.before.before.before.before.before.before.before.before.before.before.before.before.before.before.before.before.loop in
-    let o = c.before.before.before.before.before.before.before.before.«open» in
-    let e = c.before.before.before.before.before.before.before.before.before.before.before.before.before.at2.ensures.0 in
-    opening_more _ _ _ _ _ _ _ _ _ _ _ _ _ _ _ l.inv
+loop-i-preserved-then-hidden_in : tie.Need-loop-i-preserved-then-hidden_in invariant-loop-i decreases-loop-i
+loop-i-preserved-then-hidden_in c =
+    let l = c.loop-i in
+    let o = c.«open» in
+    let e = c.at-u.ensures.0 in
+    opening_more _ _ _ _ _ _ _ _ _ _ _ _ _ _ _ l.invariant
     (omega (
       arith,
-      c.before.before.before.before.before.before.before.before.before.before.before.before.before.before.before.before.loop-test,
+      c.loop-i-test,
     )) _ _ _ _
     (passes c.before.before.before.before.before.before.before.before.before.before.before.before.before.before) (
       o.ensures.0.0 ∙
           ap (start_at
-          c.before.before.before.before.before.before.before.before.before.before.before.before.before.before.before.before.before.before.before.before.before.before.before.before.before.before.before.before.before.before.args.starts.now)
+          c.args.starts.now)
           e,
       o.ensures.0.1 ∙
           ap (λ (u : ℕ). start_at
-          c.before.before.before.before.before.before.before.before.before.before.before.before.before.before.before.before.before.before.before.before.before.before.before.before.before.before.before.before.before.before.args.starts.now
+          c.args.starts.now
           (u + 1)) e,
     )
-    o.ensures.1 o.auto.1.1.0 o.auto.1.1.1.0 o.auto.1.1.1.1.0 o.auto.1.1.1.1.1.0
+    o.ensures.1 o.auto.high o.auto.low o.auto.end_high o.auto.end_low
 
-add-i-2 : tie.Need-overflow-add-i-2 invariant-loop decreases-loop
-add-i-2 c = omega (
+overflow_add-i-else-hidden_in : tie.Need-overflow_add-i-else-hidden_in invariant-loop-i decreases-loop-i
+overflow_add-i-else-hidden_in c = omega (
   arith,
   below c.before.before,
   (valid c.before.before.before.before.before.before.before.before.before.before.before.before.before.before.before.before).few_rows,
 )
 
-loop-less-2 : tie.Need-loop-smaller-2 invariant-loop decreases-loop
-loop-less-2 c = omega (arith, c.before.before.loop-test)
+loop-i-smaller : tie.Need-loop-i-smaller invariant-loop-i decreases-loop-i
+loop-i-smaller c = omega (arith, c.loop-i-test)
 
-loop-again-2 : tie.Need-loop-preserved-2 invariant-loop decreases-loop
-loop-again-2 c =
-    opening_pass _ _ _ _ _ _ _ _ _ _ _ _ _ _ _ c.before.before.before.loop.invariant (omega (arith, c.before.before.loop-test))
+loop-i-preserved : tie.Need-loop-i-preserved invariant-loop-i decreases-loop-i
+loop-i-preserved c =
+    opening_pass _ _ _ _ _ _ _ _ _ _ _ _ _ _ _ c.loop-i.invariant (omega (arith, c.loop-i-test))
     (and_no_right
     (eqb (get_or
-    c.before.before.before.before.before.before.before.before.before.before.before.before.before.before.before.before.args.source.now c.before.before.before.loop.i 0)
-    c.before.before.before.before.before.before.before.before.before.before.before.before.before.before.before.before.args.state) _ (sym (tested c.before) ∙ c.if1.false))
+    c.args.source.now c.loop-i.i 0)
+    c.args.state) _ (sym (tested c.before) ∙ c.if-hidden_in.false))
 
-same_length : tie.Need-same-length invariant-loop decreases-loop
-same_length c = c.before.loop.invariant.same_high
+shape_of-high : tie.Need-shape_of-high invariant-loop-i decreases-loop-i
+shape_of-high c = c.loop-i.invariant.same_high
 
-same-length-2 : tie.Need-same-length-2 invariant-loop decreases-loop
-same-length-2 c = c.before.loop.invariant.same_low
+shape_of-low : tie.Need-shape_of-low invariant-loop-i decreases-loop-i
+shape_of-low c = c.loop-i.invariant.same_low
 
-same-length-3 : tie.Need-same-length-3 invariant-loop decreases-loop
-same-length-3 c = c.before.loop.invariant.same_end_high
+shape_of-end_high : tie.Need-shape_of-end_high invariant-loop-i decreases-loop-i
+shape_of-end_high c = c.loop-i.invariant.same_end_high
 
-same-length-4 : tie.Need-same-length-4 invariant-loop decreases-loop
-same-length-4 c = c.before.loop.invariant.same_end_low
+shape_of-end_low : tie.Need-shape_of-end_low invariant-loop-i decreases-loop-i
+shape_of-end_low c = c.loop-i.invariant.same_end_low
 
-returns : tie.Need-returns invariant-loop decreases-loop
+returns : tie.Need-returns invariant-loop-i decreases-loop-i
 unfolding inner_targets inner_row
 returns c =
     let f = from c.before.before in (
-      opening_done _ _ _ _ _ _ _ _ _ _ _ _ _ _ _ c.before.loop.invariant
-          c.before.before.before.before.before.before.before.before.before.before.before.before.before.before.args.table.m (omega (arith, c.loop-test)) f.most (λ r u v. and_no_left _ _ (f.after r u v)),
-      c.before.loop.invariant.behind,
+      opening_done _ _ _ _ _ _ _ _ _ _ _ _ _ _ _ c.loop-i.invariant
+          c.args.table.m (omega (arith, c.loop-i-test)) f.most (λ r u v. and_no_left _ _ (f.after r u v)),
+      c.loop-i.invariant.behind,
     )
 
-pub open-lists-spec : {M : Type 1} → statement M
-open-lists-spec =
+pub open_lists_spec : {M : Type 1} → statement M
+open_lists_spec =
     tie.close
     (tie.spec
-    invariant-loop
-    decreases-loop
-    cast-m
-    at-requires
-    rows-of-requires
-    loop-holds
-    hidden-in-requires
-    at-requires-2
+    invariant-loop-i
+    decreases-loop-i
+    overflow_cast-m
+    at-b-requires
+    rows_of-rows-requires
+    loop-i-init
+    hidden_in-requires
+    at-u-requires
     open-requires
-    add-k
-    add-i
-    loop-less
-    loop-again
-    add-i-2
-    loop-less-2
-    loop-again-2
-    same_length
-    same-length-2
-    same-length-3
-    same-length-4
+    overflow_add-k
+    overflow_add-i
+    loop-i-smaller-then-hidden_in
+    loop-i-preserved-then-hidden_in
+    overflow_add-i-else-hidden_in
+    loop-i-smaller
+    loop-i-preserved
+    shape_of-high
+    shape_of-low
+    shape_of-end_high
+    shape_of-end_low
     returns)

@@ -16,29 +16,29 @@ unfolding wide
 place-stored high low j place h l =
     omega (arith, get_or-set_same high j (place / 65536) 0 h, get_or-set_same low j (place % 65536) 0 l, div-add-mod' place 65536)
 
-cast-high : tie.Need-overflow-cast-high
-cast-high c = search rules
+overflow_cast-high : tie.Need-overflow_cast-high
+overflow_cast-high c = search rules
 
-mul-high : tie.Need-overflow-mul-high
-mul-high c = search rules
+offset_bounds-high-j : tie.Need-offset_bounds-high-j
+offset_bounds-high-j c = search rules
 
-slice-write-high : tie.Need-slice-write-high
-slice-write-high c = search rules
+bounds-high-j : tie.Need-bounds-high-j
+bounds-high-j c = search rules
 
-cast-low : tie.Need-overflow-cast-low
-cast-low c = search rules
+overflow_cast-low : tie.Need-overflow_cast-low
+overflow_cast-low c = search rules
 
-mul_low : tie.Need-overflow-mul-low
-mul_low c = search rules
+offset_bounds-low-j : tie.Need-offset_bounds-low-j
+offset_bounds-low-j c = search rules
 
-slice-write-low : tie.Need-slice-write-low
-slice-write-low c = search rules
+bounds-low-j : tie.Need-bounds-low-j
+bounds-low-j c = search rules
 
-same_length : tie.Need-same-length
-same_length c = search rules
+shape_of-high : tie.Need-shape_of-high
+shape_of-high c = search rules
 
-same-length-2 : tie.Need-same-length-2
-same-length-2 c = search rules
+shape_of-low : tie.Need-shape_of-low
+shape_of-low c = search rules
 
 returns : tie.Need-returns
 returns c =
@@ -47,16 +47,16 @@ returns c =
       λ i n. other_high a.high.now a.low.now a.j c.requires.1 c.requires.0 _ _ i n,
     )
 
-pub set-place-spec : {M : Type 1} → statement M
-set-place-spec =
+pub set_place_spec : {M : Type 1} → statement M
+set_place_spec =
     tie.close
     (tie.spec
-    cast-high
-    mul-high
-    slice-write-high
-    cast-low
-    mul_low
-    slice-write-low
-    same_length
-    same-length-2
+    overflow_cast-high
+    offset_bounds-high-j
+    bounds-high-j
+    overflow_cast-low
+    offset_bounds-low-j
+    bounds-low-j
+    shape_of-high
+    shape_of-low
     returns)
