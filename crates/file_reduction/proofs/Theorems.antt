@@ -1,131 +1,147 @@
--- What the contract of `reduce_file` allows, sentence by sentence: demand 3 for the bytes of the two files.
-use Rattle.std.specs.Prelude.{◌≡◌, ℕ, ◌<◌, ◌≤◌, ◌↔◌, List, [], length, get_or}
-use mathlib.Core.Path.{sym, ap, subst, ◌∙◌}
+-- What a call of `reduce_file` that is done has read, written and said, sentence by sentence: demand 3 for the bytes of the output file.
+use Rattle.std.specs.Prelude.{◌≡◌, ℕ, ◌+◌, ◌*◌, ◌<◌, ◌≤◌, true, ◌↔◌, List, [], ◌∷◌, length, get_or, drop}
+use mathlib.Core.Path.{refl, sym, ap, subst, ◌∙◌}
 use native.Mathlib.Omega.{arith}
-use contract.Lifetimes.{Lfts}
-use denote.Triple.Clauses.{AtExit}
-use denote.Triple.Entry.{Args}
+use lib.ListN.{length-append}
 use Rattle.bisimulation.specs.Bisimulation.{Match, Bisimilar}
 use Rattle.bisimulation.specs.Quotient.{Belongs}
-use Rattle.columns.specs.Answers.{Said, done}
-use Rattle.columns.specs.Blocks.{block_of}
+use Rattle.columns.specs.Answers.{done, none}
 use Rattle.columns.specs.Columns.{over}
-use Rattle.file.specs.Decoded.{table_out, blocks_out}
-use Rattle.file.specs.Input.{table_in}
-use Rattle.file.specs.Layout.{largest_output}
-use Rattle.file.specs.Output.{FileOf}
-use Rattle.file.proofs.RoundTrip.{Exact, exact_rows, output_back}
-use Rattle.file_reduction.specs.Answers.{said_file}
-use Rattle.file_reduction.specs.Reducing.{reduced_bytes, file_numbers, reduce_file}
-use Rattle.file_reduction.specs.declared.answers.FileAnswer.{FileAnswer}
-use Rattle.file_reduction.proofs.Done as D
-use Rattle.file_reduction.proofs.Ties.{few_blocks}
-use Rattle.file_reduction.specs.contracts.reduce_file.{signature, ended}
-use Rattle.file_reduction.proofs.reduce_file.Reads.{Post}
+use Rattle.columns.specs.Due.{due, room_test}
+use Rattle.columns.specs.declared.answers.Refusal.{Refusal}
+use Rattle.columns.proofs.Chains.{Holds, parted, passed_both, goes_on_lem}
+use Rattle.columns.proofs.Doing.{leaving_done}
+use Rattle.columns.proofs.Saying.{left_done}
+use Rattle.file.specs.Bytes.{little}
+use Rattle.file.specs.Input.{table_in, contents_tests, file_tests, file_refusal}
+use Rattle.file.specs.Layout.{block_size, largest_output}
+use Rattle.file.specs.Output.{FileOf, output_blocks, output_bytes}
+use Rattle.file.proofs.Inputs.{accepted_of}
+use Rattle.file.proofs.Outputs.{length_output}
+use Rattle.file.proofs.RoundTrip.{block_back}
+use Rattle.file.proofs.Theorems.{of_file}
+use Rattle.file_reduction.specs.Reducing.{reduced_bytes, reduced_size, file_numbers, reduce_tests, reduce_file}
+use Rattle.file_reduction.proofs.Ties.{few_blocks, few_rows, room_left}
 use Rattle.reduction.proofs.Entries.{length-blocks}
-use Rattle.refinement_strong.specs.Reduction.{strong_blocks, strong_block, strong_count, strong_rows, quotient_of, strong_reduced}
-use Rattle.refinement_strong.proofs.Reductions.{block_below, reduced_valid}
-use Rattle.refinement_strong.proofs.Theorems as T
+use Rattle.refinement_strong.specs.Reduction.{strong_blocks, strong_block, strong_rows, quotient_of, strong_reduced}
+use Rattle.refinement_strong.proofs.Bisimulations.{valid_range}
+use Rattle.refinement_strong.proofs.Reductions.{block_below}
+use Rattle.refinement_strong.proofs.Theorems as D
+use Rattle.table.specs.Checks.{table_tests}
 use Rattle.table.specs.Lts.{Lts, rows, Step, Valid}
+use Rattle.table.specs.Tables.{table_of}
+use Rattle.table.proofs.Refusals.{checked_of}
 
--- a call of `reduce_file`: its parameters on entry, its answer, and its parameters at return, as its contract allows them
-module _ (κs : Lfts 2) (entry : Args signature κs) (answer : FileAnswer) (exit : AtExit ended κs) (met : Post κs entry answer exit) where
-  -- the bytes that are given, those that are lent for the output, and what these are at return
-  abbrev pub input : List ℕ
-  input = entry.0.now
+-- the call is done, with these numbers, and has left this
+module _ (input output left values : List ℕ) (e : reduce_file input output ≡ (done values, left)) where
+  -- the table in the input file
+  abbrev pub source : Lts
+  source = table_in input
 
-  abbrev pub output : List ℕ
-  output = entry.1.0.now
+  said :
+      ((due (reduce_tests input (length output))).number ≡ 0) × (values ≡ file_numbers source) × (left ≡ over (reduced_bytes source) output)
+  unfolding reduce_file
+  said = leaving_done _ output left (over (reduced_bytes source) output) values (file_numbers source) (sym e)
 
-  abbrev pub left : List ℕ
-  left = exit.1.0.now
+  tests : Holds (file_tests input true) × Holds (room_test (reduced_size source) (length output) ∷ [])
+  tests = passed_both (file_tests input true) (room_test (reduced_size source) (length output) ∷ []) refl _ refl said.0
 
-  -- The file of a right table is done, where the output has the room that document 01 names: it is never refused.
-  pub call_done : FileOf input [] → largest_output ≤ length output → said_file answer ≡ done (file_numbers (table_in input))
-  call_done file long = ap (λ (p : Said × List ℕ). p.0) (met ∙ D.never_refused input output file long)
+  -- The table passed the checks.
+  pub valid : Valid source
+  valid = (checked_of source true (parted (contents_tests input) (table_tests source true) tests.0).1).valid
 
-  -- the call is done, with these numbers
-  module _ (values : List ℕ) (said : said_file answer ≡ done values) where
-    e : reduce_file input output ≡ (done values, left)
-    e = sym met ∙ ap (λ (s : Said). (s, left)) said
+  -- What is said is what is defined: how many bytes, what was reduced, to what, and in how many rounds.
+  pub numbers : values ≡ file_numbers source
+  numbers = said.1
 
-    -- the table decoded from the bytes that were given
-    abbrev pub source : Lts
-    source = table_in input
+  -- The first bytes are the file of the reduced table and the blocks; those behind stay.
+  pub written : left ≡ over (output_bytes (strong_reduced source) (strong_blocks source)) output
+  unfolding reduced_bytes
+  written = said.2
 
-    -- the table decoded from the bytes that were written, and the block of each state
-    abbrev pub result : Lts
-    result = table_out left
+  -- As many bytes as are said to be written are there.
+  pub fits : get_or values 0 0 ≤ length left
+  unfolding over strong_reduced quotient_of table_of
+  fits =
+      let file = output_bytes (strong_reduced source) (strong_blocks source) in
+      omega (
+        arith,
+        ap (λ (l : List ℕ). get_or l 0 0) numbers,
+        ap length written,
+        length-append file (drop (length file) output),
+        length_output (strong_reduced source) (strong_blocks source),
+        length-blocks source,
+      )
 
-    abbrev pub block : ℕ → ℕ
-    block = block_of (blocks_out left)
+  -- the number that stands for a state behind the rows
+  abbrev pub block_in : ℕ → ℕ
+  block_in s = little 2 left (output_blocks (length (strong_rows source)) + block_size * s)
 
-    abbrev pub In : ℕ → ℕ → Type 0
-    In = Belongs source.n block
+  -- It is the number of the state's block.
+  pub block_written : (s : ℕ) → s < source.n → block_in s ≡ strong_block source s
+  unfolding strong_reduced quotient_of table_of over
+  block_written s h =
+      let small = block_below source valid s h in
+      ap (λ (l : List ℕ). little 2 l (output_blocks (length (strong_rows source)) + block_size * s)) written
+      ∙ block_back (strong_reduced source) (strong_blocks source) _ s (omega (arith, h, length-blocks source))
+      (omega (arith, small, few_blocks source valid))
 
-    -- The table that was given passed the checks.
-    pub valid : Valid source
-    valid = D.valid input output left values e
+  -- Two states have the same number exactly if some bisimulation relates them.
+  pub share_exactly : (s u : ℕ) → s < source.n → u < source.n → (block_in s ≡ block_in u) ↔ Bisimilar (rows source) (rows source) s u
+  share_exactly s u hs hu = (
+    λ q. (D.share_exactly source valid s u hs hu).0 (sym (block_written s hs) ∙ q ∙ block_written u hu),
+    λ b. block_written s hs ∙ (D.share_exactly source valid s u hs hu).1 b ∙ sym (block_written u hu),
+  )
 
-    -- What is said is what is defined: how many bytes, what was reduced, to what, and in how many rounds.
-    pub numbers : values ≡ file_numbers source
-    numbers = D.numbers input output left values e
+  -- the table that is written
+  abbrev pub reduced : Lts
+  reduced = strong_reduced source
 
-    -- The first bytes are the file of the reduced table and the blocks; those behind stay.
-    pub written : left ≡ over (reduced_bytes source) output
-    written = D.written input output left values e
+  -- Each step of a state is a step of its block.
+  pub step_of_block : (s a u : ℕ) → Step source s a u → Step reduced (block_in s) a (block_in u)
+  step_of_block s a u k =
+      let w = valid_range source valid in
+      subst (λ (b : ℕ). Step reduced b a (block_in u)) (sym (block_written s (w.source s a u k)))
+      (subst (λ (c : ℕ). Step reduced (strong_block source s) a c) (sym (block_written u (w.target s a u k)))
+      (D.step_of_block source s a u k))
 
-    back : (result ≡ strong_reduced source) × (blocks_out left ≡ strong_blocks source)
-    unfolding reduced_bytes strong_reduced quotient_of
-    back =
-        let f =
-        output_back (strong_reduced source) (strong_blocks source) output (reduced_valid source valid)
-        (exact_rows (strong_count source) source.labels (strong_block source source.initial) (strong_rows source))
-        (omega (arith, length-blocks source, valid.few_states))
-        (λ i h. omega (arith, block_below source valid i (omega (arith, h, length-blocks source)), few_blocks source valid)) in
-        (ap table_out written ∙ f.0, ap blocks_out written ∙ f.1)
+  -- Each step of a block is answered by every state in it, with a target in the right block.
+  pub block_answered :
+      (b a c : ℕ) → Step reduced b a c → (s : ℕ) → Belongs source.n block_in s b
+      → Match (rows source) s a (λ u. Belongs source.n block_in u c)
+  block_answered b a c k s h =
+      let g =
+      D.block_answered source valid b a c k s
+      (record { state = h.state; home = sym (block_written s h.state) ∙ h.home }) in
+      record {
+        target = g.target;
+        step = g.step;
+        related = record {
+          state = g.related.state;
+          home = block_written g.target g.related.state ∙ g.related.home;
+        };
+      }
 
-    -- The table decoded from the bytes that were written is the strong reduction of the table decoded from the bytes that were given.
-    pub reduced : result ≡ strong_reduced source
-    reduced = back.0
+  -- The start maps to the start.
+  pub start_to_start : reduced.initial ≡ block_in source.initial
+  start_to_start = D.start_to_start source ∙ sym (block_written source.initial valid.initial)
 
-    -- The block of each state is that of the strong reduction.
-    pub blocks : blocks_out left ≡ strong_blocks source
-    blocks = back.1
+-- The bytes written fit the room, as a caller goes by it that takes the file out of what is left.
+pub bytes_fit :
+    (input output left : List ℕ) (b : ℕ) (rest : List ℕ) → (done (b ∷ rest), left) ≡ reduce_file input output → b ≤ length left
+bytes_fit input output left b rest e = fits input output left (b ∷ rest) (sym e)
 
-    -- so what holds of the reduction and its blocks holds of what was written
-    of-written {ℓ} : (P : Lts → (ℕ → ℕ) → Type ℓ) → P (strong_reduced source) (strong_block source) → P result block
-    of-written P p =
-        subst (λ (t : Lts). P t block) (sym reduced)
-        (subst (λ (l : List ℕ). P (strong_reduced source) (block_of l)) (sym blocks) p)
-
-    -- ---- demand 3
-    -- Each step of a state is a step of its block.
-    pub step_of_block : (s a u : ℕ) → Step source s a u → Step result (block s) a (block u)
-    step_of_block s a u k = of-written (λ t b. Step t (b s) a (b u)) (T.step_of_block source s a u k)
-
-    -- Each step of a block is answered by every state in it, with a target in the right block.
-    pub block_answered : (b a c : ℕ) → Step result b a c → (s : ℕ) → In s b → Match (rows source) s a (λ u. In u c)
-    block_answered =
-        of-written (λ t f. (b a c : ℕ) → Step t b a c → (s : ℕ) → Belongs source.n f s b
-        → Match (rows source) s a (λ u. Belongs source.n f u c))
-        (T.block_answered source valid)
-
-    -- The start maps to the start.
-    pub start_to_start : result.initial ≡ block source.initial
-    start_to_start = of-written (λ t b. t.initial ≡ b source.initial) (T.start_to_start source)
-
-    -- Two states have the same block exactly if some bisimulation relates them.
-    pub share_exactly : (s u : ℕ) → s < source.n → u < source.n → (block s ≡ block u) ↔ Bisimilar (rows source) (rows source) s u
-    share_exactly = of-written (λ _ b. (s u : ℕ) → s < source.n → u < source.n → (b s ≡ b u) ↔ Bisimilar (rows source) (rows source) s u)
-        (T.share_exactly source valid)
-
-    -- ---- beyond it
-    -- What was written holds a right table.
-    pub result_valid : Valid result
-    result_valid = of-written (λ t _. Valid t) (reduced_valid source valid)
-
-    -- No table that keeps every state's behaviour has fewer states. States that are not reachable stay; of rows nothing is claimed.
-    pub smallest :
-        (u : Lts) (f : ℕ → ℕ) → ((s : ℕ) → s < source.n → (f s < u.n) × Bisimilar (rows source) (rows u) s (f s)) → result.n ≤ u.n
-    smallest u f like = of-written (λ t _. t.n ≤ u.n) (T.smallest source valid u f like)
+-- ---- A table's file is never refused where the output has the room that document 01 names.
+pub never_refused :
+    (input output : List ℕ) → FileOf input [] → largest_output ≤ length output
+    → reduce_file input output ≡ (done (file_numbers (table_in input)), over (reduced_bytes (table_in input)) output)
+unfolding reduce_file file_refusal
+never_refused input output file long =
+    let t = table_in input in
+    let passes : (due (file_tests input true)).number ≡ 0 = ap (λ (r : Refusal). r.number) (of_file input [] file) in
+    let v = (accepted_of input [] _ refl passes).valid in
+    let enough : reduced_size t ≤ length output = omega (arith, long, few_rows t v, v.few_states) in
+    sym (left_done (due (reduce_tests input (length output))) none
+    (room_left (reduced_size t) (length output) enough
+    ∙ goes_on_lem (file_tests input true) (room_test (reduced_size t) (length output) ∷ []) refl _ refl passes)
+    output (over (reduced_bytes t) output) (file_numbers t) (done (file_numbers t)) _ refl refl refl)

@@ -2,18 +2,17 @@
 -- the slices that the contract there names `system`, `given` and `left`.
 use Rattle.std.specs.Prelude.{ℕ, zero, suc, List, [], ◌∷◌}
 use contract.Lifetimes.{Lfts}
-use denote.Ref.{Bor}
+use Rattle.std.specs.Borrow.{MutBor}
 use denote.Triple.Clauses.{AtExit}
 use denote.Triple.Entry.{Args}
 use Rattle.reduction.specs.Reducing.{Slices}
 use Rattle.reduction.specs.contracts.strong_reduction.{signature, ended}
-use Rattle.table.specs.Lent.{lts_now}
-use Rattle.table.specs.Lts.{Lts}
+use Rattle.table.specs.Lts.{Lts, lts}
 
 -- k lent slices, and what they hold
 abbrev Lent : ℕ → Type 0
 Lent zero = Unit {0}
-Lent (suc k) = Bor (List ℕ) × Lent k
+Lent (suc k) = MutBor (List ℕ) × Lent k
 
 abbrev held : (k : ℕ) → Lent k → List (List ℕ)
 held zero l = []
@@ -26,7 +25,7 @@ slices l = ((l.0.now, (l.1.0.now, l.1.1.0.now)), (l.1.1.1.0.now, held 10 l.1.1.1
 module _ (κs : Lfts 17) where
   -- the table that is lent
   abbrev pub system : Args signature κs → Lts
-  system entry = lts_now entry.0 entry.1.0 entry.1.1.0 entry.1.1.1.0
+  system entry = lts entry.0 entry.1.0.now entry.1.1.0.now entry.1.1.1.0.now
 
   -- the slices that are lent for writing
   abbrev pub given : Args signature κs → Slices

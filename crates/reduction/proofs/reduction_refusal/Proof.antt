@@ -13,17 +13,17 @@ use Rattle.reduction.proofs.reduction_refusal.Tie as tie
 abbrev L : tie.Start → Lts
 L a = lts a.args.table a.args.source.now a.args.label.now a.args.target.now
 
-cast-n : tie.Need-overflow-cast-n
-cast-n c = search rules
+overflow_cast-n : tie.Need-overflow_cast-n
+overflow_cast-n c = search rules
 
-cast-m : tie.Need-overflow-cast-m
-cast-m c = search rules
+overflow_cast-m : tie.Need-overflow_cast-m
+overflow_cast-m c = search rules
 
-long-requires : tie.Need-long-requires
-long-requires c κs = search rules
+long-fits-requires : tie.Need-long-fits-requires
+long-fits-requires c κs = search rules
 
-works-long-requires : tie.Need-works-long-requires
-works-long-requires c κs = search rules
+works_long-works_fit-requires : tie.Need-works_long-works_fit-requires
+works_long-works_fit-requires c κs = search rules
 
 check-requires : tie.Need-check-requires
 check-requires c κs = search rules
@@ -32,10 +32,10 @@ returns : tie.Need-returns
 unfolding reduction_refusal
 returns c =
     let a = c.before.before.before.before.before.before.before.before.before.before in
-    let fits = c.before.before.long.ensures in
-    let wide = c.before.works-long.ensures in
+    let fits = c.long-fits.ensures in
+    let wide = c.works_long-works_fit.ensures in
     c.check.ensures ∙ (λ i. due (table_tests (L a) (fits i && (leb a.args.table.n a.args.block && wide i))))
 
-pub reduction-refusal-spec : {M : Type 1} → statement M
-reduction-refusal-spec =
-    tie.close (tie.spec cast-n cast-m long-requires works-long-requires check-requires returns)
+pub reduction_refusal_spec : {M : Type 1} → statement M
+reduction_refusal_spec =
+    tie.close (tie.spec overflow_cast-n overflow_cast-m long-fits-requires works_long-works_fit-requires check-requires returns)

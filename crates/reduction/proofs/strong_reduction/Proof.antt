@@ -23,60 +23,60 @@ L a = lts a.args.table a.args.source.now a.args.label.now a.args.target.now
 abbrev given : tie.Start → Slices
 given a =
     let g = a.args in (
-      (g.result-source.now, (g.result-label.now, g.result-target.now)),
+      (g.result_source.now, (g.result_label.now, g.result_target.now)),
       (
         g.block.now,
-        g.elements.now ∷ g.element_offset.now ∷ g.element_to_block.now ∷ g.begin.now ∷ g.marked_split_lem.now ∷ g.end.now
+        g.elements.now ∷ g.element_offset.now ∷ g.element_to_block.now ∷ g.begin.now ∷ g.marked_split.now ∷ g.end.now
             ∷ g.numbers.now ∷ g.labels.now ∷ g.blocks.now ∷ g.spare.now ∷ [],
       ),
     )
 
 -- a call that has passed the checks
 ready :
-    (q : tie.After-reduction-refusal) → q.reduction-refusal.result.number ≡ 0
+    (q : tie.After-reduction_refusal-t) → q.reduction_refusal-t.result.number ≡ 0
     → let a = q.before.before.before.before.before.before.before.before.before.before.before.before.before.before.before.before.before.before.before.before.before in
     ReadyFor (L a) (given a)
 ready q z =
     let a = q.before.before.before.before.before.before.before.before.before.before.before.before.before.before.before.before.before.before.before.before.before in
-    ready_of (L a) (result_lengths (given a)) (length a.args.block.now) (work_lengths (given a)) _ q.reduction-refusal.ensures z
+    ready_of (L a) (result_lengths (given a)) (length a.args.block.now) (work_lengths (given a)) _ q.reduction_refusal-t.ensures z
 
-cast-n : tie.Need-overflow-cast-n
-cast-n c = search rules
+overflow_cast-n : tie.Need-overflow_cast-n
+overflow_cast-n c = search rules
 
-slice-aggregate-reduction-refusal : tie.Need-slice-aggregate-reduction-refusal
-slice-aggregate-reduction-refusal c = search rules
+slice_bounds-reduction_refusal-end : tie.Need-slice_bounds-reduction_refusal-end
+slice_bounds-reduction_refusal-end c = search rules
 
-slice-aggregate-reduction-refusal-2 : tie.Need-slice-aggregate-reduction-refusal-2
-slice-aggregate-reduction-refusal-2 c = search rules
+slice_bounds-reduction_refusal-end-2 : tie.Need-slice_bounds-reduction_refusal-end-2
+slice_bounds-reduction_refusal-end-2 c = search rules
 
-reduction-refusal-requires : tie.Need-reduction-refusal-requires
-reduction-refusal-requires c κs = search rules
+reduction_refusal-t-requires : tie.Need-reduction_refusal-t-requires
+reduction_refusal-t-requires c κs = search rules
 
-refusing-reduction-requires : tie.Need-refusing-reduction-requires
-refusing-reduction-requires c κs = search rules
+refusing_reduction-requires : tie.Need-refusing_reduction-requires
+refusing_reduction-requires c κs = search rules
 
-returns : tie.Need-returns
+returns-then-number-ne0 : tie.Need-returns-then-number-ne0
 unfolding strong_reduction
-returns c =
+returns-then-number-ne0 c =
     let a = c.before.before.before.before.before.before.before.before.before.before.before.before.before.before.before.before.before.before.before.before.before.before.before in
-    let checked = c.before.before.reduction-refusal in
+    let checked = c.reduction_refusal-t in
     left_refused (reduction_refusal (L a) (result_lengths (given a)) (length a.args.block.now) (work_lengths (given a))) _
-    checked.ensures (given a) (reduction_left (L a) (given a)) (reduction_numbers (L a)) _ c.before.if1.true
-    c.refusing-reduction.ensures
+    checked.ensures (given a) (reduction_left (L a) (given a)) (reduction_numbers (L a)) _ c.if-number-ne0.true
+    c.refusing_reduction.ensures
 
-slice-relend-prefix-reduce : tie.Need-slice-relend-prefix-reduce
-slice-relend-prefix-reduce c = (ready c.before.before.before.before c.before.before.before.if1.false).long
+slice_bounds-reduce-end : tie.Need-slice_bounds-reduce-end
+slice_bounds-reduce-end c = (ready c.before.before.before.before c.if-number-ne0.false).long
 
-slice-aggregate-reduce : tie.Need-slice-aggregate-reduce
-slice-aggregate-reduce c =
-    let a = c.before.before.before.before.before.before.before.before.before.before.before.before.before.before.before.before.before.before.before.before.before.before.before.before.before.before in
+slice_bounds-reduce-end-2 : tie.Need-slice_bounds-reduce-end-2
+slice_bounds-reduce-end-2 c =
+    let a = c in
     sym (length-take-le a.args.table.n a.args.block.now
-    (ready c.before.before.before.before.before c.before.before.before.before.if1.false).long)
+    (ready c.before.before.before.before.before c.if-number-ne0.false).long)
 
-reduce-requires : tie.Need-reduce-requires
-reduce-requires c κs =
-    let a = c.before.before.before.before.before.before.before.before.before.before.before.before.before.before.before.before.before.before.before.before.before.before.before.before.before.before.before.before.before.before.before.before.before.before.before.before in
-    let q = ready c.before.before.before.before.before.before.before.before.before.before.before.before.before.before.before c.before.before.before.before.before.before.before.before.before.before.before.before.before.before.if1.false in
+reduce-r-requires : tie.Need-reduce-r-requires
+reduce-r-requires c κs =
+    let a = c in
+    let q = ready c.before.before.before.before.before.before.before.before.before.before.before.before.before.before.before c.if-number-ne0.false in
     let w = q.wide in (
       (q.valid, length-take-le a.args.table.n a.args.block.now q.long),
       (
@@ -88,126 +88,126 @@ reduce-requires c κs =
       ),
     )
 
-cast-at : tie.Need-overflow-cast-at
-cast-at c =
-    let v = (ready c.before.before.before.before.before.before.before.before.before.before.before.before.before.before.before.before.before.before.before.before.before.before.before.before.before.before.before.before.before.before.before.before.before.before.before.before.before.before.before.before.before.before.before.before.before.before
-    c.before.before.before.before.before.before.before.before.before.before.before.before.before.before.before.before.before.before.before.before.before.before.before.before.before.before.before.before.before.before.before.before.before.before.before.before.before.before.before.before.before.before.before.before.before.if1.false).valid in
+overflow_cast-table : tie.Need-overflow_cast-table
+overflow_cast-table c =
+    let v = (ready c.before.before.before.before.before.before.before.before.before.before.before.before.before.before.before.before.before.before.before.before.before.before.before.before.before.before.before.before.before.before.before.before.before.before.before.before.before.before.before.before.before.before.before.before.before
+    c.if-number-ne0.false).valid in
     record { fits = omega (arith, v.initial, v.few_states) }
 
 -- the block column is as long as before
-block-length : (q : tie.After-reduce) → length (q.reduce.new.1.1.1.1.1.1.1.0 ++ drop
-    q.before.before.before.before.before.before.before.before.before.before.before.before.before.before.before.before.before.before.before.before.before.before.before.before.before.before.before.before.before.before.before.before.before.before.before.before.before.args.table.n
-    q.before.before.before.before.before.before.before.before.before.before.before.before.before.before.before.before.before.before.before.before.before.before.before.before.before.before.before.before.before.before.before.before.before.before.before.before.before.args.block.now)
-    ≡ length q.before.before.before.before.before.before.before.before.before.before.before.before.before.before.before.before.before.before.before.before.before.before.before.before.before.before.before.before.before.before.before.before.before.before.before.before.before.args.block.now
+block-length : (q : tie.After-reduce-r) → length (q.reduce-r.new.block ++ drop
+    q.args.table.n
+    q.args.block.now)
+    ≡ length q.args.block.now
 block-length q =
-    let a = q.before.before.before.before.before.before.before.before.before.before.before.before.before.before.before.before.before.before.before.before.before.before.before.before.before.before.before.before.before.before.before.before.before.before.before.before.before in
-    length_fronted a.args.table.n a.args.block.now q.reduce.new.1.1.1.1.1.1.1.0
-    (ready q.before.before.before.before.before.before.before.before.before.before.before.before.before.before.before.before q.before.before.before.before.before.before.before.before.before.before.before.before.before.before.before.if1.false).long
-    q.reduce.auto.1.1.1.1.1.1.1.0
+    let a = q in
+    length_fronted a.args.table.n a.args.block.now q.reduce-r.new.block
+    (ready q.before.before.before.before.before.before.before.before.before.before.before.before.before.before.before.before q.if-number-ne0.false).long
+    q.reduce-r.auto.block
 
-at-requires : tie.Need-at-requires
-at-requires c κs =
-    let r = ready c.before.before.before.before.before.before.before.before.before.before.before.before.before.before.before.before.before.before.before.before.before.before.before.before.before.before.before.before.before.before.before.before.before.before.before.before.before.before.before.before.before.before.before.before.before.before
-    c.before.before.before.before.before.before.before.before.before.before.before.before.before.before.before.before.before.before.before.before.before.before.before.before.before.before.before.before.before.before.before.before.before.before.before.before.before.before.before.before.before.before.before.before.before.if1.false in
+at-initial-requires : tie.Need-at-initial-requires
+at-initial-requires c κs =
+    let r = ready c.before.before.before.before.before.before.before.before.before.before.before.before.before.before.before.before.before.before.before.before.before.before.before.before.before.before.before.before.before.before.before.before.before.before.before.before.before.before.before.before.before.before.before.before.before
+    c.if-number-ne0.false in
     omega (
       arith,
       r.valid.initial,
       r.long,
       block-length
-          c.before.before.before.before.before.before.before.before.before.before.before.before.before.before.before.before.before.before.before.before.before.before.before.before.before.before.before.before.before.before,
+          c.before.before.before.before.before.before.before.before.before.before.before.before.before.before.before.before.before.before.before.before.before.before.before.before.before.before.before.before.before,
     )
 
-cast-reduced : tie.Need-overflow-cast-reduced
-cast-reduced c =
-    let v = (ready c.before.before.before.before.before.before.before.before.before.before.before.before.before.before.before.before.before.before.before.before.before.before.before.before.before.before.before.before.before.before.before.before.before.before.before.before.before.before.before.before.before.before.before.before.before.before.before.before c.before.before.before.before.before.before.before.before.before.before.before.before.before.before.before.before.before.before.before.before.before.before.before.before.before.before.before.before.before.before.before.before.before.before.before.before.before.before.before.before.before.before.before.before.before.before.before.if1.false).valid in
+overflow_cast-table-2 : tie.Need-overflow_cast-table-2
+overflow_cast-table-2 c =
+    let v = (ready c.before.before.before.before.before.before.before.before.before.before.before.before.before.before.before.before.before.before.before.before.before.before.before.before.before.before.before.before.before.before.before.before.before.before.before.before.before.before.before.before.before.before.before.before.before.before.before c.if-number-ne0.false).valid in
     record { fits = omega (arith, v.few_labels) }
 
 reduced-requires : tie.Need-reduced-requires
 reduced-requires c κs = search rules
 
-same_length : tie.Need-same-length
-same_length c =
-    let reduce = c.before.before.before.before.before.before.before.before.before.before.before.before.before.before.before.before.before.before.before.before.before.before.before.before.before.before.before.before.before.before.before.before.before.reduce in
-    reduce.kept.1.1.1.1.0
+shape_of-result_source : tie.Need-shape_of-result_source
+shape_of-result_source c =
+    let reduce = c.reduce-r in
+    reduce.auto.result_source
 
-same-length-2 : tie.Need-same-length-2
-same-length-2 c =
-    let reduce = c.before.before.before.before.before.before.before.before.before.before.before.before.before.before.before.before.before.before.before.before.before.before.before.before.before.before.before.before.before.before.before.before.before.reduce in
-    reduce.kept.1.1.1.1.1.0
+shape_of-result_label : tie.Need-shape_of-result_label
+shape_of-result_label c =
+    let reduce = c.reduce-r in
+    reduce.auto.result_label
 
-same-length-3 : tie.Need-same-length-3
-same-length-3 c =
-    let reduce = c.before.before.before.before.before.before.before.before.before.before.before.before.before.before.before.before.before.before.before.before.before.before.before.before.before.before.before.before.before.before.before.before.before.reduce in
-    reduce.kept.1.1.1.1.1.1.0
+shape_of-result_target : tie.Need-shape_of-result_target
+shape_of-result_target c =
+    let reduce = c.reduce-r in
+    reduce.auto.result_target
 
-same-length-4 : tie.Need-same-length-4
-same-length-4 c =
-    let a = c.before.before.before.before.before.before.before.before.before.before.before.before.before.before.before.before.before.before.before.before.before.before.before.before.before.before.before.before.before.before.before.before.before in
+shape_of-block : tie.Need-shape_of-block
+shape_of-block c =
+    let a = c.before.before.before.before.before.before.before.before.before.before.before.before.before.before.before.before.before.before.before.before.before.before.before.before.before.before.before.before.before.before.before.before in
     block-length a
 
-same-length-5 : tie.Need-same-length-5
-same-length-5 c =
-    let reduce = c.before.before.before.before.before.before.before.before.before.before.before.before.before.before.before.before.before.before.before.before.before.before.before.before.before.before.before.before.before.before.before.before.before.reduce in
-    reduce.kept.1.1.1.1.1.1.1.1.0
+shape_of-elements : tie.Need-shape_of-elements
+shape_of-elements c =
+    let reduce = c.reduce-r in
+    reduce.auto.elements
 
-same-length-6 : tie.Need-same-length-6
-same-length-6 c =
-    let reduce = c.before.before.before.before.before.before.before.before.before.before.before.before.before.before.before.before.before.before.before.before.before.before.before.before.before.before.before.before.before.before.before.before.before.reduce in
-    reduce.kept.1.1.1.1.1.1.1.1.1.0
+shape_of-element_offset : tie.Need-shape_of-element_offset
+shape_of-element_offset c =
+    let reduce = c.reduce-r in
+    reduce.auto.element_offset
 
-same-length-7 : tie.Need-same-length-7
-same-length-7 c =
-    let reduce = c.before.before.before.before.before.before.before.before.before.before.before.before.before.before.before.before.before.before.before.before.before.before.before.before.before.before.before.before.before.before.before.before.before.reduce in
-    reduce.kept.1.1.1.1.1.1.1.1.1.1.0
+shape_of-element_to_block : tie.Need-shape_of-element_to_block
+shape_of-element_to_block c =
+    let reduce = c.reduce-r in
+    reduce.auto.element_to_block
 
-same-length-8 : tie.Need-same-length-8
-same-length-8 c =
-    let reduce = c.before.before.before.before.before.before.before.before.before.before.before.before.before.before.before.before.before.before.before.before.before.before.before.before.before.before.before.before.before.before.before.before.before.reduce in
-    reduce.kept.1.1.1.1.1.1.1.1.1.1.1.0
+shape_of-begin : tie.Need-shape_of-begin
+shape_of-begin c =
+    let reduce = c.reduce-r in
+    reduce.auto.begin
 
-same-length-9 : tie.Need-same-length-9
-same-length-9 c =
-    let reduce = c.before.before.before.before.before.before.before.before.before.before.before.before.before.before.before.before.before.before.before.before.before.before.before.before.before.before.before.before.before.before.before.before.before.reduce in
-    reduce.kept.1.1.1.1.1.1.1.1.1.1.1.1.0
+shape_of-marked_split : tie.Need-shape_of-marked_split
+shape_of-marked_split c =
+    let reduce = c.reduce-r in
+    reduce.auto.marked_split
 
-same-length-10 : tie.Need-same-length-10
-same-length-10 c =
-    let reduce = c.before.before.before.before.before.before.before.before.before.before.before.before.before.before.before.before.before.before.before.before.before.before.before.before.before.before.before.before.before.before.before.before.before.reduce in
-    reduce.kept.1.1.1.1.1.1.1.1.1.1.1.1.1.0
+shape_of-end : tie.Need-shape_of-end
+shape_of-end c =
+    let reduce = c.reduce-r in
+    reduce.auto.end
 
-same-length-11 : tie.Need-same-length-11
-same-length-11 c =
-    let reduce = c.before.before.before.before.before.before.before.before.before.before.before.before.before.before.before.before.before.before.before.before.before.before.before.before.before.before.before.before.before.before.before.before.before.reduce in
-    reduce.kept.1.1.1.1.1.1.1.1.1.1.1.1.1.1.0
+shape_of-numbers : tie.Need-shape_of-numbers
+shape_of-numbers c =
+    let reduce = c.reduce-r in
+    reduce.auto.numbers
 
-same-length-12 : tie.Need-same-length-12
-same-length-12 c =
-    let reduce = c.before.before.before.before.before.before.before.before.before.before.before.before.before.before.before.before.before.before.before.before.before.before.before.before.before.before.before.before.before.before.before.before.before.reduce in
-    reduce.kept.1.1.1.1.1.1.1.1.1.1.1.1.1.1.1.0
+shape_of-labels : tie.Need-shape_of-labels
+shape_of-labels c =
+    let reduce = c.reduce-r in
+    reduce.auto.labels
 
-same-length-13 : tie.Need-same-length-13
-same-length-13 c =
-    let reduce = c.before.before.before.before.before.before.before.before.before.before.before.before.before.before.before.before.before.before.before.before.before.before.before.before.before.before.before.before.before.before.before.before.before.reduce in
-    reduce.kept.1.1.1.1.1.1.1.1.1.1.1.1.1.1.1.1.0
+shape_of-blocks : tie.Need-shape_of-blocks
+shape_of-blocks c =
+    let reduce = c.reduce-r in
+    reduce.auto.blocks
 
-same-length-14 : tie.Need-same-length-14
-same-length-14 c =
-    let reduce = c.before.before.before.before.before.before.before.before.before.before.before.before.before.before.before.before.before.before.before.before.before.before.before.before.before.before.before.before.before.before.before.before.before.reduce in
-    reduce.kept.1.1.1.1.1.1.1.1.1.1.1.1.1.1.1.1.1.0
+shape_of-spare : tie.Need-shape_of-spare
+shape_of-spare c =
+    let reduce = c.reduce-r in
+    reduce.auto.spare
 
-returns-2 : tie.Need-returns-2
+returns : tie.Need-returns
 unfolding strong_reduction reduction_left
-returns-2 c =
-    let a = c.before.before.before.before.before.before.before.before.before.before.before.before.before.before.before.before.before.before.before.before.before.before.before.before.before.before.before.before.before.before.before.before.before.before.before.before.before.before.before.before.before.before.before.before.before.before.before.before.before.before.before.before.before.before.before.before.before.before.before.before.before.before.before.before.before.before.before.before.before.before in
+returns c =
+    let a = c.before.before.before.before.before.before.before.before.before.before.before.before.before.before.before.before.before.before.before.before.before.before.before.before.before.before.before.before.before.before.before.before.before.before.before.before.before.before.before.before.before.before.before.before.before.before.before.before.before.before.before.before.before.before.before.before.before.before.before.before.before.before.before.before.before.before.before.before.before in
     let t = L a in
     let start = a.args.table.initial in
     let column = a.args.block.now in
-    let checked = c.before.before.before.before.before.before.before.before.before.before.before.before.before.before.before.before.before.before.before.before.before.before.before.before.before.before.before.before.before.before.before.before.before.before.before.before.before.before.before.before.before.before.before.before.before.before.before.before.before.reduction-refusal in
-    let passes = c.before.before.before.before.before.before.before.before.before.before.before.before.before.before.before.before.before.before.before.before.before.before.before.before.before.before.before.before.before.before.before.before.before.before.before.before.before.before.before.before.before.before.before.before.before.before.before.before.if1.false in
-    let v = (ready c.before.before.before.before.before.before.before.before.before.before.before.before.before.before.before.before.before.before.before.before.before.before.before.before.before.before.before.before.before.before.before.before.before.before.before.before.before.before.before.before.before.before.before.before.before.before.before.before.before passes).valid in
-    let q = c.before.before.before.before.before.before.before.before.before.before.before.before.before.before.before.before.before.before.before.before.before.before.before.before.before.before.before.before.before.before.before.before.before.reduce.ensures in
-    let blocks = blocks-over t column c.before.before.before.before.before.before.before.before.before.before.before.before.before.before.before.before.before.before.before.before.before.before.before.before.before.before.before.before.before.before.before.before.before.reduce.new.1.1.1.1.1.1.1.0 q.1.0.0 in
-    let first = c.before.before.at.ensures.0 ∙ ap (λ (l : List ℕ). get_or l start 0) blocks
+    let checked = c.reduction_refusal-t in
+    let passes = c.if-number-ne0.false in
+    let v = (ready c.before.before.before.before.before.before.before.before.before.before.before.before.before.before.before.before.before.before.before.before.before.before.before.before.before.before.before.before.before.before.before.before.before.before.before.before.before.before.before.before.before.before.before.before.before.before.before.before passes).valid in
+    let q = c.reduce-r.ensures in
+    let blocks = blocks-over t column c.reduce-r.new.block q.1.0.0 in
+    let first = c.at-initial.ensures.0 ∙ ap (λ (l : List ℕ). get_or l start 0) blocks
     ∙ over_front (strong_blocks t) column start (omega (arith, length-blocks t, v.initial)) in
     left_done (reduction_refusal t (result_lengths (given a)) (length column) (work_lengths (given a))) _ checked.ensures (given a)
     (reduction_left t (given a)) (reduction_numbers t) _ _ passes
@@ -221,35 +221,35 @@ returns-2 c =
       ),
     ))
 
-pub strong-reduction-spec : {M : Type 1} → statement M
-strong-reduction-spec =
+pub strong_reduction_spec : {M : Type 1} → statement M
+strong_reduction_spec =
     tie.close
     (tie.spec
-    cast-n
-    slice-aggregate-reduction-refusal
-    slice-aggregate-reduction-refusal-2
-    reduction-refusal-requires
-    refusing-reduction-requires
-    returns
-    slice-relend-prefix-reduce
-    slice-aggregate-reduce
-    reduce-requires
-    cast-at
-    at-requires
-    cast-reduced
+    overflow_cast-n
+    slice_bounds-reduction_refusal-end
+    slice_bounds-reduction_refusal-end-2
+    reduction_refusal-t-requires
+    refusing_reduction-requires
+    returns-then-number-ne0
+    slice_bounds-reduce-end
+    slice_bounds-reduce-end-2
+    reduce-r-requires
+    overflow_cast-table
+    at-initial-requires
+    overflow_cast-table-2
     reduced-requires
-    same_length
-    same-length-2
-    same-length-3
-    same-length-4
-    same-length-5
-    same-length-6
-    same-length-7
-    same-length-8
-    same-length-9
-    same-length-10
-    same-length-11
-    same-length-12
-    same-length-13
-    same-length-14
-    returns-2)
+    shape_of-result_source
+    shape_of-result_label
+    shape_of-result_target
+    shape_of-block
+    shape_of-elements
+    shape_of-element_offset
+    shape_of-element_to_block
+    shape_of-begin
+    shape_of-marked_split
+    shape_of-end
+    shape_of-numbers
+    shape_of-labels
+    shape_of-blocks
+    shape_of-spare
+    returns)

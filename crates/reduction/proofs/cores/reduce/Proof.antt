@@ -18,9 +18,9 @@ use Rattle.reduction.proofs.cores.reduce.Tie as tie
 abbrev L : tie.Start → Lts
 L a = lts a.args.table a.args.source.now a.args.label.now a.args.target.now
 
-strong-blocks-requires : tie.Need-strong-blocks-requires
-strong-blocks-requires c κs =
-    let p = c.before.before.before.before.before.before.before.before.before.before.before.before.before.before.before.before.before.before.before.before.before.before.before.before.before.before.before.before.requires in
+strong_blocks-r-requires : tie.Need-strong_blocks-r-requires
+strong_blocks-r-requires c κs =
+    let p = c.requires in
     let w = p.1.1.0 in
     let b = w.1.1 in (
       p.0,
@@ -30,166 +30,165 @@ strong-blocks-requires c κs =
       ),
     )
 
-quotient-rows-requires : tie.Need-quotient-rows-requires
-quotient-rows-requires c κs =
-    let p = c.before.before.before.before.before.before.before.before.before.before.before.before.before.before.before.before.before.before.before.before.before.before.before.before.before.before.before.before.before.before.before.before.before.before.before.before.before.before.before.before.before.before.before.before.before.before.before.before.before.before.before.before.before.before.before.before.before.before.before.before.requires in
+quotient_rows-rows-requires : tie.Need-quotient_rows-rows-requires
+quotient_rows-rows-requires c κs =
+    let p = c.requires in
     let x = p.1.0 in
     let w = p.1.1.0 in
-    let k = c.before.before.before.before.before.before.before.before.before.before.before.before.before.before.before.before.before.before.before.before.before.before.before.before.before.before.before.before.before.before.before.strong-blocks.auto in (
-      (p.0.0, omega (arith, p.0.1, k.1.1.1.1.0)),
+    let k = c.strong_blocks-r.auto in (
+      (p.0.0, omega (arith, p.0.1, k.block)),
       (
         (x.0, x.1.0, x.1.1.0),
         (
           (
-            omega (arith, w.0, k.1.1.1.1.1.0),
-            omega (arith, w.1.0, k.1.1.1.1.1.1.0),
+            omega (arith, w.0, k.elements),
+            omega (arith, w.1.0, k.element_offset),
             omega
-                (arith, w.1.1.0, k.1.1.1.1.1.1.1.0),
+                (arith, w.1.1.0, k.element_to_block),
           ),
-          (omega (arith, w.1.1.1.0, k.1.1.1.1.1.1.1.1.0), omega (arith, w.1.1.1.1.0, k.1.1.1.1.1.1.1.1.1.0)),
+          (omega (arith, w.1.1.1.0, k.begin), omega (arith, w.1.1.1.1.0, k.marked_split)),
         ),
       ),
     )
 
-clear-five-requires : tie.Need-clear-five-requires
-clear-five-requires c κs = search rules
+clear_five-requires : tie.Need-clear_five-requires
+clear_five-requires c κs = search rules
 
-same_length : tie.Need-same-length
-same_length c =
-    let quotient-rows = c.before.before.before.before.before.before.before.before.before.before.before.before.before.before.before.before.before.before.before.before.before.before.before.before.before.before.before.before.before.before.before.before.quotient-rows in
-    quotient-rows.kept.1.1.1.1.1.1.1.0
+shape_of-result_source : tie.Need-shape_of-result_source
+shape_of-result_source c =
+    let quotient-rows = c.quotient_rows-rows in
+    quotient-rows.auto.result_source
 
-same-length-2 : tie.Need-same-length-2
-same-length-2 c =
-    let quotient-rows = c.before.before.before.before.before.before.before.before.before.before.before.before.before.before.before.before.before.before.before.before.before.before.before.before.before.before.before.before.before.before.before.before.quotient-rows in
-    quotient-rows.kept.1.1.1.1.1.1.1.1.0
+shape_of-result_label : tie.Need-shape_of-result_label
+shape_of-result_label c =
+    let quotient-rows = c.quotient_rows-rows in
+    quotient-rows.auto.result_label
 
-same-length-3 : tie.Need-same-length-3
-same-length-3 c =
-    let quotient-rows = c.before.before.before.before.before.before.before.before.before.before.before.before.before.before.before.before.before.before.before.before.before.before.before.before.before.before.before.before.before.before.before.before.quotient-rows in
-    quotient-rows.kept.1.1.1.1.1.1.1.1.1.0
+shape_of-result_target : tie.Need-shape_of-result_target
+shape_of-result_target c =
+    let quotient-rows = c.quotient_rows-rows in
+    quotient-rows.auto.result_target
 
-same-length-4 : tie.Need-same-length-4
-same-length-4 c =
-    let strong-blocks = c.before.before.before.before.before.before.before.before.before.before.before.before.before.before.before.before.before.before.before.before.before.before.before.before.before.before.before.before.before.before.before.before.before.before.before.before.before.before.before.before.before.before.before.before.before.before.before.before.before.before.before.before.before.before.before.before.before.before.before.before.before.before.before.before.strong-blocks in
-    strong-blocks.kept.1.1.1.1.0
+shape_of-block : tie.Need-shape_of-block
+shape_of-block c =
+    let strong-blocks = c.strong_blocks-r in
+    strong-blocks.auto.block
 
-same-length-5 : tie.Need-same-length-5
-same-length-5 c =
-    let quotient-rows = c.before.before.before.before.before.before.before.before.before.before.before.before.before.before.before.before.before.before.before.before.before.before.before.before.before.before.before.before.before.before.before.before.quotient-rows in
-    let strong-blocks = c.before.before.before.before.before.before.before.before.before.before.before.before.before.before.before.before.before.before.before.before.before.before.before.before.before.before.before.before.before.before.before.before.before.before.before.before.before.before.before.before.before.before.before.before.before.before.before.before.before.before.before.before.before.before.before.before.before.before.before.before.before.before.before.before.strong-blocks in
-    quotient-rows.kept.1.1.1.1.1.1.1.1.1.1.0 ∙ strong-blocks.kept.1.1.1.1.1.0
+shape_of-elements : tie.Need-shape_of-elements
+shape_of-elements c =
+    let quotient-rows = c.quotient_rows-rows in
+    let strong-blocks = c.strong_blocks-r in
+    quotient-rows.auto.a ∙ strong-blocks.auto.elements
 
-same-length-6 : tie.Need-same-length-6
-same-length-6 c =
-    let quotient-rows = c.before.before.before.before.before.before.before.before.before.before.before.before.before.before.before.before.before.before.before.before.before.before.before.before.before.before.before.before.before.before.before.before.quotient-rows in
-    let strong-blocks = c.before.before.before.before.before.before.before.before.before.before.before.before.before.before.before.before.before.before.before.before.before.before.before.before.before.before.before.before.before.before.before.before.before.before.before.before.before.before.before.before.before.before.before.before.before.before.before.before.before.before.before.before.before.before.before.before.before.before.before.before.before.before.before.before.strong-blocks in
-    quotient-rows.kept.1.1.1.1.1.1.1.1.1.1.1.0 ∙ strong-blocks.kept.1.1.1.1.1.1.0
+shape_of-element_offset : tie.Need-shape_of-element_offset
+shape_of-element_offset c =
+    let quotient-rows = c.quotient_rows-rows in
+    let strong-blocks = c.strong_blocks-r in
+    quotient-rows.auto.b ∙ strong-blocks.auto.element_offset
 
-same-length-7 : tie.Need-same-length-7
-same-length-7 c =
-    let quotient-rows = c.before.before.before.before.before.before.before.before.before.before.before.before.before.before.before.before.before.before.before.before.before.before.before.before.before.before.before.before.before.before.before.before.quotient-rows in
-    let strong-blocks = c.before.before.before.before.before.before.before.before.before.before.before.before.before.before.before.before.before.before.before.before.before.before.before.before.before.before.before.before.before.before.before.before.before.before.before.before.before.before.before.before.before.before.before.before.before.before.before.before.before.before.before.before.before.before.before.before.before.before.before.before.before.before.before.before.strong-blocks in
-    quotient-rows.kept.1.1.1.1.1.1.1.1.1.1.1.1.0 ∙ strong-blocks.kept.1.1.1.1.1.1.1.0
+shape_of-element_to_block : tie.Need-shape_of-element_to_block
+shape_of-element_to_block c =
+    let quotient-rows = c.quotient_rows-rows in
+    let strong-blocks = c.strong_blocks-r in
+    quotient-rows.auto.c ∙ strong-blocks.auto.element_to_block
 
-same-length-8 : tie.Need-same-length-8
-same-length-8 c =
-    let quotient-rows = c.before.before.before.before.before.before.before.before.before.before.before.before.before.before.before.before.before.before.before.before.before.before.before.before.before.before.before.before.before.before.before.before.quotient-rows in
-    let strong-blocks = c.before.before.before.before.before.before.before.before.before.before.before.before.before.before.before.before.before.before.before.before.before.before.before.before.before.before.before.before.before.before.before.before.before.before.before.before.before.before.before.before.before.before.before.before.before.before.before.before.before.before.before.before.before.before.before.before.before.before.before.before.before.before.before.before.strong-blocks in
-    quotient-rows.kept.1.1.1.1.1.1.1.1.1.1.1.1.1.0 ∙ strong-blocks.kept.1.1.1.1.1.1.1.1.0
+shape_of-begin : tie.Need-shape_of-begin
+shape_of-begin c =
+    let quotient-rows = c.quotient_rows-rows in
+    let strong-blocks = c.strong_blocks-r in
+    quotient-rows.auto.order ∙ strong-blocks.auto.begin
 
-same-length-9 : tie.Need-same-length-9
-same-length-9 c =
-    let quotient-rows = c.before.before.before.before.before.before.before.before.before.before.before.before.before.before.before.before.before.before.before.before.before.before.before.before.before.before.before.before.before.before.before.before.quotient-rows in
-    let strong-blocks = c.before.before.before.before.before.before.before.before.before.before.before.before.before.before.before.before.before.before.before.before.before.before.before.before.before.before.before.before.before.before.before.before.before.before.before.before.before.before.before.before.before.before.before.before.before.before.before.before.before.before.before.before.before.before.before.before.before.before.before.before.before.before.before.before.strong-blocks in
-    quotient-rows.kept.1.1.1.1.1.1.1.1.1.1.1.1.1.1.0 ∙ strong-blocks.kept.1.1.1.1.1.1.1.1.1.0
+shape_of-marked_split : tie.Need-shape_of-marked_split
+shape_of-marked_split c =
+    let quotient-rows = c.quotient_rows-rows in
+    let strong-blocks = c.strong_blocks-r in
+    quotient-rows.auto.spare ∙ strong-blocks.auto.marked_split
 
-same-length-10 : tie.Need-same-length-10
-same-length-10 c =
-    let clear-five = c.before.before.before.before.before.before.before.before.before.before.clear-five in
-    let strong-blocks = c.before.before.before.before.before.before.before.before.before.before.before.before.before.before.before.before.before.before.before.before.before.before.before.before.before.before.before.before.before.before.before.before.before.before.before.before.before.before.before.before.before.before.before.before.before.before.before.before.before.before.before.before.before.before.before.before.before.before.before.before.before.before.before.before.strong-blocks in
-    clear-five.auto.0 ∙ strong-blocks.kept.1.1.1.1.1.1.1.1.1.1.0
+shape_of-end : tie.Need-shape_of-end
+shape_of-end c =
+    let clear-five = c.clear_five in
+    let strong-blocks = c.strong_blocks-r in
+    clear-five.auto.a ∙ strong-blocks.auto.end
 
-same-length-11 : tie.Need-same-length-11
-same-length-11 c =
-    let clear-five = c.before.before.before.before.before.before.before.before.before.before.clear-five in
-    let strong-blocks = c.before.before.before.before.before.before.before.before.before.before.before.before.before.before.before.before.before.before.before.before.before.before.before.before.before.before.before.before.before.before.before.before.before.before.before.before.before.before.before.before.before.before.before.before.before.before.before.before.before.before.before.before.before.before.before.before.before.before.before.before.before.before.before.before.strong-blocks in
-    clear-five.auto.1.0 ∙ strong-blocks.kept.1.1.1.1.1.1.1.1.1.1.1.0
+shape_of-numbers : tie.Need-shape_of-numbers
+shape_of-numbers c =
+    let clear-five = c.clear_five in
+    let strong-blocks = c.strong_blocks-r in
+    clear-five.auto.b ∙ strong-blocks.auto.numbers
 
-same-length-12 : tie.Need-same-length-12
-same-length-12 c =
-    let clear-five = c.before.before.before.before.before.before.before.before.before.before.clear-five in
-    let strong-blocks = c.before.before.before.before.before.before.before.before.before.before.before.before.before.before.before.before.before.before.before.before.before.before.before.before.before.before.before.before.before.before.before.before.before.before.before.before.before.before.before.before.before.before.before.before.before.before.before.before.before.before.before.before.before.before.before.before.before.before.before.before.before.before.before.before.strong-blocks in
-    clear-five.auto.1.1.0 ∙ strong-blocks.kept.1.1.1.1.1.1.1.1.1.1.1.1.0
+shape_of-labels : tie.Need-shape_of-labels
+shape_of-labels c =
+    let clear-five = c.clear_five in
+    let strong-blocks = c.strong_blocks-r in
+    clear-five.auto.c ∙ strong-blocks.auto.labels
 
-same-length-13 : tie.Need-same-length-13
-same-length-13 c =
-    let clear-five = c.before.before.before.before.before.before.before.before.before.before.clear-five in
-    let strong-blocks = c.before.before.before.before.before.before.before.before.before.before.before.before.before.before.before.before.before.before.before.before.before.before.before.before.before.before.before.before.before.before.before.before.before.before.before.before.before.before.before.before.before.before.before.before.before.before.before.before.before.before.before.before.before.before.before.before.before.before.before.before.before.before.before.before.strong-blocks in
-    clear-five.auto.1.1.1.0 ∙ strong-blocks.kept.1.1.1.1.1.1.1.1.1.1.1.1.1.0
+shape_of-blocks : tie.Need-shape_of-blocks
+shape_of-blocks c =
+    let clear-five = c.clear_five in
+    let strong-blocks = c.strong_blocks-r in
+    clear-five.auto.d ∙ strong-blocks.auto.blocks
 
-same-length-14 : tie.Need-same-length-14
-same-length-14 c =
-    let clear-five = c.before.before.before.before.before.before.before.before.before.before.clear-five in
-    let strong-blocks = c.before.before.before.before.before.before.before.before.before.before.before.before.before.before.before.before.before.before.before.before.before.before.before.before.before.before.before.before.before.before.before.before.before.before.before.before.before.before.before.before.before.before.before.before.before.before.before.before.before.before.before.before.before.before.before.before.before.before.before.before.before.before.before.before.strong-blocks in
-    clear-five.auto.1.1.1.1.0 ∙ strong-blocks.kept.1.1.1.1.1.1.1.1.1.1.1.1.1.1.0
+shape_of-spare : tie.Need-shape_of-spare
+shape_of-spare c =
+    let clear-five = c.clear_five in
+    let strong-blocks = c.strong_blocks-r in
+    clear-five.auto.e ∙ strong-blocks.auto.spare
 
 returns : tie.Need-returns
 returns c =
-    let a = c.before.before.before.before.before.before.before.before.before.before.before.before.before.before.before.before.before.before.before.before.before.before.before.before.before.before.before.before.before.before.before.before.before.before.before.before.before.before.before.before.before.before.before.before.before.before.before.before.before.before.before.before.before.before.before.before.before.before.before.before.before.before.before.before.before.before.before.before.before.before.before.before.before.before.before.before.before.before.before.before.before.before.before.before.before.before.before.before.before.before.before.before.before in
+    let a = c.before.before.before.before.before.before.before.before.before.before.before.before.before.before.before.before.before.before.before.before.before.before.before.before.before.before.before.before.before.before.before.before.before.before.before.before.before.before.before.before.before.before.before.before.before.before.before.before.before.before.before.before.before.before.before.before.before.before.before.before.before.before.before.before.before.before.before.before.before.before.before.before.before.before.before.before.before.before.before.before.before.before.before.before.before.before.before.before.before.before.before.before in
     let g = a.args in
-    let b = c.before.before.before.before.before.before.before.before.before.before.before.before.before.before.before.before.before.before.before.before.before.before.before.before.before.before.before.before.before.before.before.before.before.before.before.before.before.before.before.before.before.before.before.before.before.before.before.before.before.before.before.before.before.before.before.before.before.before.before.before.before.before.before.before.strong-blocks in
-    let k = b.kept in
-    let q = c.before.before.before.before.before.before.before.before.before.before.before.before.before.before.before.before.before.before.before.before.before.before.before.before.before.before.before.before.before.before.before.before.quotient-rows.ensures in
-    let w = c.before.before.before.before.before.before.before.before.before.before.clear-five.ensures in
-    let same : naive_rows false false (block_of b.last.1.1.1.1.0) (rows (L a)) ≡ strong_rows (L a)
+    let b = c.strong_blocks-r in
+    let q = c.quotient_rows-rows.ensures in
+    let w = c.clear_five.ensures in
+    let same : naive_rows false false (block_of b.new.block) (rows (L a)) ≡ strong_rows (L a)
     = ap (λ (p : List ℕ). naive_rows false false (block_of p) (rows (L a))) b.ensures.2 ∙ naive_plain (strong_block (L a)) (rows (L a))
     in (
       (b.ensures.1, q.0.0 ∙ ap (λ (l : List Row). length l) same, b.ensures.0),
       (
         (
           b.ensures.2,
-          q.0.1 ∙ ap (λ (l : List Row). rows_over l (g.result-source.now, (g.result-label.now, g.result-target.now)))
+          q.0.1 ∙ ap (λ (l : List Row). rows_over l (g.result_source.now, (g.result_label.now, g.result_target.now)))
               same,
         ),
         (
           (
-            q.1.0 ∙ ap zeros k.1.1.1.1.1.0,
-            q.1.1 ∙ ap zeros k.1.1.1.1.1.1.0,
-            q.1.2 ∙ ap zeros k.1.1.1.1.1.1.1.0,
-            q.1.3 ∙ ap zeros k.1.1.1.1.1.1.1.1.0,
-            q.1.4 ∙ ap zeros k.1.1.1.1.1.1.1.1.1.0,
+            q.1.0 ∙ ap zeros c.strong_blocks-r.auto.elements,
+            q.1.1 ∙ ap zeros c.strong_blocks-r.auto.element_offset,
+            q.1.2 ∙ ap zeros c.strong_blocks-r.auto.element_to_block,
+            q.1.3 ∙ ap zeros c.strong_blocks-r.auto.begin,
+            q.1.4 ∙ ap zeros c.strong_blocks-r.auto.marked_split,
           ),
           (
-            w.0 ∙ ap zeros k.1.1.1.1.1.1.1.1.1.1.0,
-            w.1 ∙ ap zeros k.1.1.1.1.1.1.1.1.1.1.1.0,
-            w.2 ∙ ap zeros k.1.1.1.1.1.1.1.1.1.1.1.1.0,
-            w.3 ∙ ap zeros k.1.1.1.1.1.1.1.1.1.1.1.1.1.0,
-            w.4 ∙ ap zeros k.1.1.1.1.1.1.1.1.1.1.1.1.1.1.0,
+            w.0 ∙ ap zeros c.strong_blocks-r.auto.end,
+            w.1 ∙ ap zeros c.strong_blocks-r.auto.numbers,
+            w.2 ∙ ap zeros c.strong_blocks-r.auto.labels,
+            w.3 ∙ ap zeros c.strong_blocks-r.auto.blocks,
+            w.4 ∙ ap zeros c.strong_blocks-r.auto.spare,
           ),
         ),
       ),
     )
 
-pub reduce-spec : {M : Type 1} → statement M
-reduce-spec =
+pub reduce_spec : {M : Type 1} → statement M
+reduce_spec =
     tie.close
     (tie.spec
-    strong-blocks-requires
-    quotient-rows-requires
-    clear-five-requires
-    same_length
-    same-length-2
-    same-length-3
-    same-length-4
-    same-length-5
-    same-length-6
-    same-length-7
-    same-length-8
-    same-length-9
-    same-length-10
-    same-length-11
-    same-length-12
-    same-length-13
-    same-length-14
+    strong_blocks-r-requires
+    quotient_rows-rows-requires
+    clear_five-requires
+    shape_of-result_source
+    shape_of-result_label
+    shape_of-result_target
+    shape_of-block
+    shape_of-elements
+    shape_of-element_offset
+    shape_of-element_to_block
+    shape_of-begin
+    shape_of-marked_split
+    shape_of-end
+    shape_of-numbers
+    shape_of-labels
+    shape_of-blocks
+    shape_of-spare
     returns)

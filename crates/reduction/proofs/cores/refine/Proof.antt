@@ -12,29 +12,29 @@ use Rattle.reduction.proofs.cores.refine.Tie as tie
 abbrev P : tie.Start → Partition
 P a =
     let g = a.args in
-    parts g.elements.now g.element_offset.now g.element_to_block.now g.begin.now g.marked_split_lem.now g.end.now
+    parts g.elements.now g.element_offset.now g.element_to_block.now g.begin.now g.marked_split.now g.end.now
     g.table.n 1
 
 one_block : (a : tie.Start) → Sound (fresh (P a))
 one_block a = fresh_sound (P a) a.requires.0.0.some_states a.requires.0.0.few_states a.requires.0.1 refl
 
-cast-n : tie.Need-overflow-cast-n
-cast-n c = search rules
+overflow_cast-n : tie.Need-overflow_cast-n
+overflow_cast-n c = search rules
 
 new-requires : tie.Need-new-requires
 new-requires c κs =
-    let p = c.before.before.before.before.before.before.before.before.before.before.before.before.before.before.before.before.before.before.before.before.before.requires.0 in
+    let p = c.requires.0 in
     (p.1, (p.0.some_states, p.0.few_states))
 
 run-requires : tie.Need-run-requires
 run-requires c κs =
     let a = c.before.before.before.before.before.before.before.before.before.before.before.before.before.before.before.before.before.before.before.before.before.before.before.before.before.before.before.before.before.before.before.before.before.before.before.before.before.before.before.before.before.before.before.before.before in
-    let w = a.pre.1 in
-    let q = c.before.before.before.before.before.before.before.before.before.before.before.before.before.before.before.before.before.before.before.before.before.before.before.new in (
-      (a.pre.0.0, subst Sound (sym q.ensures) (one_block a)),
+    let w = a.requires.1 in
+    let q = c.new in (
+      (a.requires.0.0, subst Sound (sym q.ensures) (one_block a)),
       record {
-        of_elements = omega (arith, w.of_elements, q.kept.1.0);
-        of_offset = omega (arith, w.of_offset, q.kept.1.1.0);
+        of_elements = omega (arith, w.of_elements, q.auto.elements);
+        of_offset = omega (arith, w.of_offset, q.auto.element_offset);
         of_begins = w.of_begins;
         of_numbers = w.of_numbers;
         of_labels = w.of_labels;
@@ -46,88 +46,88 @@ run-requires c κs =
       },
     )
 
-same_length : tie.Need-same-length
-same_length c =
-    let run = c.before.before.before.before.before.before.before.before.before.before.before.before.before.before.before.before.before.before.before.before.before.before.run in
-    let new = c.before.before.before.before.before.before.before.before.before.before.before.before.before.before.before.before.before.before.before.before.before.before.before.before.before.before.before.before.before.before.before.before.before.before.before.before.before.before.before.before.before.before.before.before.before.before.new in
-    run.kept.1.1.1.1.0 ∙ new.kept.1.0
+shape_of-elements : tie.Need-shape_of-elements
+shape_of-elements c =
+    let run = c.run in
+    let new = c.new in
+    run.auto.elements ∙ new.auto.elements
 
-same-length-2 : tie.Need-same-length-2
-same-length-2 c =
-    let run = c.before.before.before.before.before.before.before.before.before.before.before.before.before.before.before.before.before.before.before.before.before.before.run in
-    let new = c.before.before.before.before.before.before.before.before.before.before.before.before.before.before.before.before.before.before.before.before.before.before.before.before.before.before.before.before.before.before.before.before.before.before.before.before.before.before.before.before.before.before.before.before.before.before.new in
-    run.kept.1.1.1.1.1.0 ∙ new.kept.1.1.0
+shape_of-element_offset : tie.Need-shape_of-element_offset
+shape_of-element_offset c =
+    let run = c.run in
+    let new = c.new in
+    run.auto.element_offset ∙ new.auto.element_offset
 
-same-length-3 : tie.Need-same-length-3
-same-length-3 c =
-    let run = c.before.before.before.before.before.before.before.before.before.before.before.before.before.before.before.before.before.before.before.before.before.before.run in
-    let new = c.before.before.before.before.before.before.before.before.before.before.before.before.before.before.before.before.before.before.before.before.before.before.before.before.before.before.before.before.before.before.before.before.before.before.before.before.before.before.before.before.before.before.before.before.before.before.new in
-    run.kept.1.1.1.1.1.1.0 ∙ new.kept.1.1.1.0
+shape_of-element_to_block : tie.Need-shape_of-element_to_block
+shape_of-element_to_block c =
+    let run = c.run in
+    let new = c.new in
+    run.auto.element_to_block ∙ new.auto.element_to_block
 
-same-length-4 : tie.Need-same-length-4
-same-length-4 c =
-    let run = c.before.before.before.before.before.before.before.before.before.before.before.before.before.before.before.before.before.before.before.before.before.before.run in
-    let new = c.before.before.before.before.before.before.before.before.before.before.before.before.before.before.before.before.before.before.before.before.before.before.before.before.before.before.before.before.before.before.before.before.before.before.before.before.before.before.before.before.before.before.before.before.before.before.new in
-    run.kept.1.1.1.1.1.1.1.0 ∙ new.kept.1.1.1.1.0
+shape_of-begin : tie.Need-shape_of-begin
+shape_of-begin c =
+    let run = c.run in
+    let new = c.new in
+    run.auto.begin ∙ new.auto.begin
 
-same-length-5 : tie.Need-same-length-5
-same-length-5 c =
-    let run = c.before.before.before.before.before.before.before.before.before.before.before.before.before.before.before.before.before.before.before.before.before.before.run in
-    let new = c.before.before.before.before.before.before.before.before.before.before.before.before.before.before.before.before.before.before.before.before.before.before.before.before.before.before.before.before.before.before.before.before.before.before.before.before.before.before.before.before.before.before.before.before.before.before.new in
-    run.kept.1.1.1.1.1.1.1.1.0 ∙ new.kept.1.1.1.1.1.0
+shape_of-marked_split : tie.Need-shape_of-marked_split
+shape_of-marked_split c =
+    let run = c.run in
+    let new = c.new in
+    run.auto.marked_split ∙ new.auto.marked_split
 
-same-length-6 : tie.Need-same-length-6
-same-length-6 c =
-    let run = c.before.before.before.before.before.before.before.before.before.before.before.before.before.before.before.before.before.before.before.before.before.before.run in
-    let new = c.before.before.before.before.before.before.before.before.before.before.before.before.before.before.before.before.before.before.before.before.before.before.before.before.before.before.before.before.before.before.before.before.before.before.before.before.before.before.before.before.before.before.before.before.before.before.new in
-    run.kept.1.1.1.1.1.1.1.1.1.0 ∙ new.kept.1.1.1.1.1.1.0
+shape_of-end : tie.Need-shape_of-end
+shape_of-end c =
+    let run = c.run in
+    let new = c.new in
+    run.auto.end ∙ new.auto.end
 
-same-length-7 : tie.Need-same-length-7
-same-length-7 c =
-    let run = c.before.before.before.before.before.before.before.before.before.before.before.before.before.before.before.before.before.before.before.before.before.before.run in
-    run.kept.1.1.1.1.1.1.1.1.1.1.0
+shape_of-begins : tie.Need-shape_of-begins
+shape_of-begins c =
+    let run = c.run in
+    run.auto.begins
 
-same-length-8 : tie.Need-same-length-8
-same-length-8 c =
-    let run = c.before.before.before.before.before.before.before.before.before.before.before.before.before.before.before.before.before.before.before.before.before.before.run in
-    run.kept.1.1.1.1.1.1.1.1.1.1.1.0
+shape_of-numbers : tie.Need-shape_of-numbers
+shape_of-numbers c =
+    let run = c.run in
+    run.auto.numbers
 
-same-length-9 : tie.Need-same-length-9
-same-length-9 c =
-    let run = c.before.before.before.before.before.before.before.before.before.before.before.before.before.before.before.before.before.before.before.before.before.before.run in
-    run.kept.1.1.1.1.1.1.1.1.1.1.1.1.0
+shape_of-labels : tie.Need-shape_of-labels
+shape_of-labels c =
+    let run = c.run in
+    run.auto.labels
 
-same-length-10 : tie.Need-same-length-10
-same-length-10 c =
-    let run = c.before.before.before.before.before.before.before.before.before.before.before.before.before.before.before.before.before.before.before.before.before.before.run in
-    run.kept.1.1.1.1.1.1.1.1.1.1.1.1.1.0
+shape_of-blocks : tie.Need-shape_of-blocks
+shape_of-blocks c =
+    let run = c.run in
+    run.auto.blocks
 
-same-length-11 : tie.Need-same-length-11
-same-length-11 c =
-    let run = c.before.before.before.before.before.before.before.before.before.before.before.before.before.before.before.before.before.before.before.before.before.before.run in
-    run.kept.1.1.1.1.1.1.1.1.1.1.1.1.1.1.0
+shape_of-spare : tie.Need-shape_of-spare
+shape_of-spare c =
+    let run = c.run in
+    run.auto.spare
 
 returns : tie.Need-returns
 returns c =
-    let run = c.before.before.before.before.before.before.before.before.before.before.before.before.before.before.before.before.before.before.before.before.before.before.run in
+    let run = c.run in
     run.ensures
 
-pub refine-spec : {M : Type 1} → statement M
-refine-spec =
+pub refine_spec : {M : Type 1} → statement M
+refine_spec =
     tie.close
     (tie.spec
-    cast-n
+    overflow_cast-n
     new-requires
     run-requires
-    same_length
-    same-length-2
-    same-length-3
-    same-length-4
-    same-length-5
-    same-length-6
-    same-length-7
-    same-length-8
-    same-length-9
-    same-length-10
-    same-length-11
+    shape_of-elements
+    shape_of-element_offset
+    shape_of-element_to_block
+    shape_of-begin
+    shape_of-marked_split
+    shape_of-end
+    shape_of-begins
+    shape_of-numbers
+    shape_of-labels
+    shape_of-blocks
+    shape_of-spare
     returns)

@@ -17,30 +17,30 @@ abbrev L : tie.Start → Lts
 L a = lts a.args.table a.args.source.now a.args.label.now a.args.target.now
 
 -- the partition that the rounds leave
-abbrev left : tie.After-refine → Partition
+abbrev left : tie.After-refine-r → Partition
 left q =
-    let l = q.refine.new in
-    parts l.1.1.1.1.0 l.1.1.1.1.1.0 l.1.1.1.1.1.1.0 l.1.1.1.1.1.1.1.0 l.1.1.1.1.1.1.1.1.0
-    l.1.1.1.1.1.1.1.1.1.0 q.before.before.before.before.before.before.before.before.before.before.before.before.before.before.before.before.before.before.before.before.before.before.before.before.before.before.before.before.before.before.before.before.before.before.before.before.before.args.table.n q.refine.result.count
+    let l = q.refine-r.new in
+    parts l.elements l.element_offset l.element_to_block l.begin l.marked_split
+    l.end q.args.table.n q.refine-r.result.count
 
-cast-n : tie.Need-overflow-cast-n
-cast-n c = search rules
+overflow_cast-n : tie.Need-overflow_cast-n
+overflow_cast-n c = search rules
 
-add-h : tie.Need-overflow-add-h
-add-h c =
-    let a = c.before.before.before.before.before.before.before.before.before.before.before.before.before.before.before in
+overflow_add-h : tie.Need-overflow_add-h
+overflow_add-h c =
+    let a = c in
     record { fits = omega (arith, a.requires.0.0.few_states) }
 
-clear-three-requires : tie.Need-clear-three-requires
-clear-three-requires c κs = search rules
+clear_three-requires : tie.Need-clear_three-requires
+clear_three-requires c κs = search rules
 
-refine-requires : tie.Need-refine-requires
-refine-requires c κs =
-    let a = c.before.before.before.before.before.before.before.before.before.before.before.before.before.before.before.before.before.before.before.before.before.before.before.before.before.before.before.before.before.before.before.before.before.before.before.before in
-    let p = a.pre in
+refine-r-requires : tie.Need-refine-r-requires
+refine-r-requires c κs =
+    let a = c in
+    let p = a.requires in
     let e = p.1.0 in
     let w = p.1.1 in
-    let q = c.before.before.before.before.before.before.before.before.before.before.before.before.before.before.before.before.before.clear-three in (
+    let q = c.clear_three in (
       (
         p.0.0,
         record {
@@ -57,9 +57,9 @@ refine-requires c κs =
         of_offset = omega (arith, w.1.0);
         of_begins = omega (arith, p.0.1);
         of_numbers = omega (arith, w.1.1.0);
-        of_labels = omega (arith, w.1.1.1.0, q.kept.0);
-        of_blocks = omega (arith, w.1.1.1.1.0, q.kept.1.0);
-        of_spare = omega (arith, w.1.1.1.1.1.0, q.kept.1.1.0);
+        of_labels = omega (arith, w.1.1.1.0, q.auto.a);
+        of_blocks = omega (arith, w.1.1.1.1.0, q.auto.b);
+        of_spare = omega (arith, w.1.1.1.1.1.0, q.auto.c);
         labels_zero =
             ap (take (a.args.table.n + 1)) q.ensures.0
             ∙ take-zeros (a.args.table.n + 1) (length a.args.labels.now) (omega (arith, w.1.1.1.0));
@@ -70,127 +70,127 @@ refine-requires c κs =
       },
     )
 
-slice-relend-prefix-hand-out : tie.Need-slice-relend-prefix-hand-out
-slice-relend-prefix-hand-out c =
-    let q = c.before.before.before.before.before.before.before.before.before.before.before.before.before.before.before.before.before.before.before.before.before.before.before.before.refine in
-    front_fits c.before.before.before.before.before.before.before.before.before.before.before.before.before.before.before.before.before.before.before.before.before.before.before.before.before.before.before.before.before.before.before.before.before.before.before.before.before.before.before.before.before.before.before.before.before.before.before.before.before.before.before.before.before.before.before.before.before.before.before.before.before.args.table.n
-    q.last.1.1.1.1.1.1.1.1.1.1.1.1.0 q.ensures.1.labels_zero
+slice_bounds-hand_out-end : tie.Need-slice_bounds-hand_out-end
+slice_bounds-hand_out-end c =
+    let q = c.refine-r in
+    front_fits c.args.table.n
+    q.new.labels q.ensures.1.labels_zero
 
-slice-aggregate-hand-out : tie.Need-slice-aggregate-hand-out
-slice-aggregate-hand-out c =
-    let q = c.before.before.before.before.before.before.before.before.before.before.before.before.before.before.before.before.before.before.before.before.before.before.before.before.before.refine in
-    sym (front_length c.before.before.before.before.before.before.before.before.before.before.before.before.before.before.before.before.before.before.before.before.before.before.before.before.before.before.before.before.before.before.before.before.before.before.before.before.before.before.before.before.before.before.before.before.before.before.before.before.before.before.before.before.before.before.before.before.before.before.before.before.before.before.args.table.n q.last.1.1.1.1.1.1.1.1.1.1.1.1.0 q.ensures.1.labels_zero)
+slice_bounds-hand_out-end-2 : tie.Need-slice_bounds-hand_out-end-2
+slice_bounds-hand_out-end-2 c =
+    let q = c.refine-r in
+    sym (front_length c.args.table.n q.new.labels q.ensures.1.labels_zero)
 
-hand-out-requires : tie.Need-hand-out-requires
-hand-out-requires c κs =
-    let a = c.before.before.before.before.before.before.before.before.before.before.before.before.before.before.before.before.before.before.before.before.before.before.before.before.before.before.before.before.before.before.before.before.before.before.before.before.before.before.before.before.before.before.before.before.before.before.before.before.before.before.before.before.before.before.before.before.before.before.before.before.before.before in
-    let q = c.before.before.before.before.before.before.before.before.before.before.before.before.before.before.before.before.before.before.before.before.before.before.before.before.before.refine in
+hand_out-requires : tie.Need-hand_out-requires
+hand_out-requires c κs =
+    let a = c.before.before.before.before.before.before.before.before.before.before.before.before.before.before.before.before.before.before.before.before.before.before.before.before.before.before.before.before.before.before.before.before.before.before.before.before.before.before.before.before.before.before.before.before.before.before.before.before.before.before.before.before.before.before.before.before.before.before.before.before.before in
+    let q = c.refine-r in
     let n = a.args.table.n in
     let z = q.ensures.1.labels_zero in (
-      (q.ensures.0.sound.long.element_to_block, q.ensures.1.of_begins, a.pre.0.0.few_states),
+      (q.ensures.0.sound.long.element_to_block, q.ensures.1.of_begins, a.requires.0.0.few_states),
       (
-        end_cells (L a) a.pre.0.0 _ (left c.before.before.before.before.before.before.before.before.before.before.before.before.before.before.before.before.before.before.before.before.before.before.before.before.before) refl
-            q.ensures.0 (length (take (n + 1) q.last.1.1.1.1.1.1.1.1.1.1.1.1.0))
-            (omega (arith, front_length n q.last.1.1.1.1.1.1.1.1.1.1.1.1.0 z)),
-        front_clear n q.last.1.1.1.1.1.1.1.1.1.1.1.1.0 z,
+        end_cells (L a) a.requires.0.0 _ (left c.before.before.before.before.before.before.before.before.before.before.before.before.before.before.before.before.before.before.before.before.before.before.before.before) refl
+            q.ensures.0 (length (take (n + 1) q.new.labels))
+            (omega (arith, front_length n q.new.labels z)),
+        front_clear n q.new.labels z,
       ),
     )
 
-same_length : tie.Need-same-length
-same_length c =
-    let hand-out = c.before.before.before.before.hand-out in
-    let refine = c.before.before.before.before.before.before.before.before.before.before.before.before.before.before.before.before.before.before.before.before.before.before.before.before.before.before.before.before.before.before.refine in
-    hand-out.auto.1.1.0 ∙ refine.kept.1.1.1.1.1.1.1.1.1.1.0
+shape_of-block : tie.Need-shape_of-block
+shape_of-block c =
+    let hand-out = c.hand_out in
+    let refine = c.refine-r in
+    hand-out.auto.block ∙ refine.auto.begins
 
-same-length-2 : tie.Need-same-length-2
-same-length-2 c =
-    let refine = c.before.before.before.before.before.before.before.before.before.before.before.before.before.before.before.before.before.before.before.before.before.before.before.before.before.before.before.before.before.before.refine in
-    refine.kept.1.1.1.1.0
+shape_of-elements : tie.Need-shape_of-elements
+shape_of-elements c =
+    let refine = c.refine-r in
+    refine.auto.elements
 
-same-length-3 : tie.Need-same-length-3
-same-length-3 c =
-    let refine = c.before.before.before.before.before.before.before.before.before.before.before.before.before.before.before.before.before.before.before.before.before.before.before.before.before.before.before.before.before.before.refine in
-    refine.kept.1.1.1.1.1.0
+shape_of-element_offset : tie.Need-shape_of-element_offset
+shape_of-element_offset c =
+    let refine = c.refine-r in
+    refine.auto.element_offset
 
-same-length-4 : tie.Need-same-length-4
-same-length-4 c =
-    let refine = c.before.before.before.before.before.before.before.before.before.before.before.before.before.before.before.before.before.before.before.before.before.before.before.before.before.before.before.before.before.before.refine in
-    refine.kept.1.1.1.1.1.1.0
+shape_of-element_to_block : tie.Need-shape_of-element_to_block
+shape_of-element_to_block c =
+    let refine = c.refine-r in
+    refine.auto.element_to_block
 
-same-length-5 : tie.Need-same-length-5
-same-length-5 c =
-    let refine = c.before.before.before.before.before.before.before.before.before.before.before.before.before.before.before.before.before.before.before.before.before.before.before.before.before.before.before.before.before.before.refine in
-    refine.kept.1.1.1.1.1.1.1.0
+shape_of-begin : tie.Need-shape_of-begin
+shape_of-begin c =
+    let refine = c.refine-r in
+    refine.auto.begin
 
-same-length-6 : tie.Need-same-length-6
-same-length-6 c =
-    let refine = c.before.before.before.before.before.before.before.before.before.before.before.before.before.before.before.before.before.before.before.before.before.before.before.before.before.before.before.before.before.before.refine in
-    refine.kept.1.1.1.1.1.1.1.1.0
+shape_of-marked_split : tie.Need-shape_of-marked_split
+shape_of-marked_split c =
+    let refine = c.refine-r in
+    refine.auto.marked_split
 
-same-length-7 : tie.Need-same-length-7
-same-length-7 c =
-    let refine = c.before.before.before.before.before.before.before.before.before.before.before.before.before.before.before.before.before.before.before.before.before.before.before.before.before.before.before.before.before.before.refine in
-    refine.kept.1.1.1.1.1.1.1.1.1.0
+shape_of-end : tie.Need-shape_of-end
+shape_of-end c =
+    let refine = c.refine-r in
+    refine.auto.end
 
-same-length-8 : tie.Need-same-length-8
-same-length-8 c =
-    let refine = c.before.before.before.before.before.before.before.before.before.before.before.before.before.before.before.before.before.before.before.before.before.before.before.before.before.before.before.before.before.before.refine in
-    refine.kept.1.1.1.1.1.1.1.1.1.1.1.0
+shape_of-numbers : tie.Need-shape_of-numbers
+shape_of-numbers c =
+    let refine = c.refine-r in
+    refine.auto.numbers
 
-same-length-9 : tie.Need-same-length-9
-same-length-9 c =
-    let q = c.before.before.before.before.before.before.before.before.before.before.before.before.before.before.before.before.before.before.before.before.before.before.before.before.before.before.before.before.before.before.refine in
-    length_fronted (c.before.before.before.before.before.before.before.before.before.before.before.before.before.before.before.before.before.before.before.before.before.before.before.before.before.before.before.before.before.before.before.before.before.before.before.before.before.before.before.before.before.before.before.before.before.before.before.before.before.before.before.before.before.before.before.before.before.before.before.before.before.before.before.before.before.before.before.args.table.n + 1) q.last.1.1.1.1.1.1.1.1.1.1.1.1.0
-    c.before.before.before.before.hand-out.new.1.1.1.0
-    (front_fits c.before.before.before.before.before.before.before.before.before.before.before.before.before.before.before.before.before.before.before.before.before.before.before.before.before.before.before.before.before.before.before.before.before.before.before.before.before.before.before.before.before.before.before.before.before.before.before.before.before.before.before.before.before.before.before.before.before.before.before.before.before.before.before.before.before.before.before.args.table.n q.last.1.1.1.1.1.1.1.1.1.1.1.1.0
-    q.ensures.1.labels_zero) c.before.before.before.before.hand-out.auto.1.1.1.0 ∙
-    q.kept.1.1.1.1.1.1.1.1.1.1.1.1.0
-    ∙ c.before.before.before.before.before.before.before.before.before.before.before.before.before.before.before.before.before.before.before.before.before.before.before.before.before.before.before.before.before.before.before.before.before.before.before.before.before.before.before.before.before.before.before.before.before.before.before.before.clear-three.auto.0
+shape_of-labels : tie.Need-shape_of-labels
+shape_of-labels c =
+    let q = c.refine-r in
+    length_fronted (c.args.table.n + 1) q.new.labels
+    c.hand_out.new.notes
+    (front_fits c.args.table.n q.new.labels
+    q.ensures.1.labels_zero) c.hand_out.auto.notes ∙
+    q.auto.labels
+    ∙ c.clear_three.auto.a
 
-same-length-10 : tie.Need-same-length-10
-same-length-10 c =
-    let refine = c.before.before.before.before.before.before.before.before.before.before.before.before.before.before.before.before.before.before.before.before.before.before.before.before.before.before.before.before.before.before.refine in
-    let clear-three = c.before.before.before.before.before.before.before.before.before.before.before.before.before.before.before.before.before.before.before.before.before.before.before.before.before.before.before.before.before.before.before.before.before.before.before.before.before.before.before.before.before.before.before.before.before.before.before.before.clear-three in
-    refine.kept.1.1.1.1.1.1.1.1.1.1.1.1.1.0 ∙ clear-three.kept.1.0
+shape_of-blocks : tie.Need-shape_of-blocks
+shape_of-blocks c =
+    let refine = c.refine-r in
+    let clear-three = c.clear_three in
+    refine.auto.blocks ∙ clear-three.auto.b
 
-same-length-11 : tie.Need-same-length-11
-same-length-11 c =
-    let refine = c.before.before.before.before.before.before.before.before.before.before.before.before.before.before.before.before.before.before.before.before.before.before.before.before.before.before.before.before.before.before.refine in
-    let clear-three = c.before.before.before.before.before.before.before.before.before.before.before.before.before.before.before.before.before.before.before.before.before.before.before.before.before.before.before.before.before.before.before.before.before.before.before.before.before.before.before.before.before.before.before.before.before.before.before.before.clear-three in
-    refine.kept.1.1.1.1.1.1.1.1.1.1.1.1.1.1.0 ∙ clear-three.kept.1.1.0
+shape_of-spare : tie.Need-shape_of-spare
+shape_of-spare c =
+    let refine = c.refine-r in
+    let clear-three = c.clear_three in
+    refine.auto.spare ∙ clear-three.auto.c
 
 returns : tie.Need-returns
 returns c =
-    let a = c.before.before.before.before.before.before.before.before.before.before.before.before.before.before.before.before.before.before.before.before.before.before.before.before.before.before.before.before.before.before.before.before.before.before.before.before.before.before.before.before.before.before.before.before.before.before.before.before.before.before.before.before.before.before.before.before.before.before.before.before.before.before.before.before.before.before.before in
-    let v = a.pre.0.0 in
-    let r = c.before.before.before.before.before.before.before.before.before.before.before.before.before.before.before.before.before.before.before.before.before.before.before.before.before.before.before.before.before.before in
-    let q = r.refine in (
+    let a = c.before.before.before.before.before.before.before.before.before.before.before.before.before.before.before.before.before.before.before.before.before.before.before.before.before.before.before.before.before.before.before.before.before.before.before.before.before.before.before.before.before.before.before.before.before.before.before.before.before.before.before.before.before.before.before.before.before.before.before.before.before.before.before.before.before.before in
+    let v = a.requires.0.0 in
+    let r = c.before.before.before.before.before.before.before.before.before.before.before.before.before.before.before.before.before.before.before.before.before.before.before.before.before.before.before.before.before in
+    let q = r.refine-r in (
       end_rounds (L a) v _ (left r) refl q.ensures.0,
       end_count (L a) v _ (left r) refl q.ensures.0,
-      end_numbers (L a) v _ (left r) refl q.ensures.0 q.last.1.1.1.1.1.1.1.1.1.1.0 _
-          (q.kept.1.1.1.1.1.1.1.1.1.1.0 ∙ a.pre.0.1) c.before.before.before.before.hand-out.ensures.1,
+      end_numbers (L a) v _ (left r) refl q.ensures.0 q.new.begins _
+          (q.auto.begins ∙ a.requires.0.1) c.hand_out.ensures.1,
     )
 
-pub strong-blocks-spec : {M : Type 1} → statement M
-strong-blocks-spec =
+pub strong_blocks_spec : {M : Type 1} → statement M
+strong_blocks_spec =
     tie.close
     (tie.spec
-    cast-n
-    add-h
-    clear-three-requires
-    refine-requires
-    slice-relend-prefix-hand-out
-    slice-aggregate-hand-out
-    hand-out-requires
-    same_length
-    same-length-2
-    same-length-3
-    same-length-4
-    same-length-5
-    same-length-6
-    same-length-7
-    same-length-8
-    same-length-9
-    same-length-10
-    same-length-11
+    overflow_cast-n
+    overflow_add-h
+    clear_three-requires
+    refine-r-requires
+    slice_bounds-hand_out-end
+    slice_bounds-hand_out-end-2
+    hand_out-requires
+    shape_of-block
+    shape_of-elements
+    shape_of-element_offset
+    shape_of-element_to_block
+    shape_of-begin
+    shape_of-marked_split
+    shape_of-end
+    shape_of-numbers
+    shape_of-labels
+    shape_of-blocks
+    shape_of-spare
     returns)

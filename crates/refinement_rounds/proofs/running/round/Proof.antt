@@ -20,87 +20,87 @@ L a = lts a.args.table a.args.source.now a.args.label.now a.args.target.now
 abbrev P : tie.Start → Partition
 P a =
     let g = a.args in
-    parts g.elements.now g.element_offset.now g.element_to_block.now g.begin.now g.marked_split_lem.now g.end.now
+    parts g.elements.now g.element_offset.now g.element_to_block.now g.begin.now g.marked_split.now g.end.now
     g.table.n g.count
 
-cast-n : tie.Need-overflow-cast-n
-cast-n c = search rules
+overflow_cast-n : tie.Need-overflow_cast-n
+overflow_cast-n c = search rules
 
-add-h : tie.Need-overflow-add-h
-add-h c =
-    let a = c.before.before.before.before.before.before.before.before.before.before.before.before.before.before.before in
+overflow_add-h : tie.Need-overflow_add-h
+overflow_add-h c =
+    let a = c in
     record { fits = omega (arith, a.requires.0.0.few_states) }
 
-mul-sign-all : tie.Need-overflow-mul-sign-all
-mul-sign-all c = search rules
+offset_bounds-labels-h : tie.Need-offset_bounds-labels-h
+offset_bounds-labels-h c = search rules
 
-sub-sign-all : tie.Need-overflow-sub-sign-all
-sub-sign-all c =
-    let a = c.before.before.before.before.before.before.before.before.before.before.before.before.before.before.before.before in
-    omega (arith, a.pre.1.of_labels)
+slice_bounds-sign_all-count : tie.Need-slice_bounds-sign_all-count
+slice_bounds-sign_all-count c =
+    let a = c in
+    omega (arith, a.requires.1.of_labels)
 
-part-sign-all-start : tie.Need-slice-bounds-sign-all-start
-part-sign-all-start c =
-    let a = c.before.before.before.before.before.before.before.before.before.before.before.before.before.before.before.before in
-    omega (arith, a.pre.1.of_labels)
+slice_bounds-sign_all-start : tie.Need-slice_bounds-sign_all-start
+slice_bounds-sign_all-start c =
+    let a = c in
+    omega (arith, a.requires.1.of_labels)
 
-part-sign-all-end : tie.Need-slice-bounds-sign-all-end
-part-sign-all-end c = search rules
+slice_bounds-sign_all-end : tie.Need-slice_bounds-sign_all-end
+slice_bounds-sign_all-end c = search rules
 
-mul-sign-all-2 : tie.Need-overflow-mul-sign-all-2
-mul-sign-all-2 c = search rules
+offset_bounds-blocks-h : tie.Need-offset_bounds-blocks-h
+offset_bounds-blocks-h c = search rules
 
-sub-sign-all-2 : tie.Need-overflow-sub-sign-all-2
-sub-sign-all-2 c =
-    let a = c.before.before.before.before.before.before.before.before.before.before.before.before.before.before.before.before.before in
-    omega (arith, a.pre.1.of_blocks)
+slice_bounds-sign_all-count-2 : tie.Need-slice_bounds-sign_all-count-2
+slice_bounds-sign_all-count-2 c =
+    let a = c in
+    omega (arith, a.requires.1.of_blocks)
 
-part-sign-all-start-2 : tie.Need-slice-bounds-sign-all-start-2
-part-sign-all-start-2 c =
-    let a = c.before.before.before.before.before.before.before.before.before.before.before.before.before.before.before.before.before in
-    omega (arith, a.pre.1.of_blocks)
+slice_bounds-sign_all-start-2 : tie.Need-slice_bounds-sign_all-start-2
+slice_bounds-sign_all-start-2 c =
+    let a = c in
+    omega (arith, a.requires.1.of_blocks)
 
-part-sign-all-end-2 : tie.Need-slice-bounds-sign-all-end-2
-part-sign-all-end-2 c = search rules
+slice_bounds-sign_all-end-2 : tie.Need-slice_bounds-sign_all-end-2
+slice_bounds-sign_all-end-2 c = search rules
 
-mul-sign-all-3 : tie.Need-overflow-mul-sign-all-3
-mul-sign-all-3 c = search rules
+offset_bounds-elements-h : tie.Need-offset_bounds-elements-h
+offset_bounds-elements-h c = search rules
 
-sub-sign-all-3 : tie.Need-overflow-sub-sign-all-3
-sub-sign-all-3 c =
-    let a = c.before.before.before.before.before.before.before.before.before.before.before.before.before.before.before.before.before.before.before in
-    omega (arith, a.pre.1.of_elements)
+slice_bounds-sign_all-count-3 : tie.Need-slice_bounds-sign_all-count-3
+slice_bounds-sign_all-count-3 c =
+    let a = c in
+    omega (arith, a.requires.1.of_elements)
 
-part-sign-all-start-3 : tie.Need-slice-bounds-sign-all-start-3
-part-sign-all-start-3 c =
-    let a = c.before.before.before.before.before.before.before.before.before.before.before.before.before.before.before.before.before.before.before in
-    omega (arith, a.pre.1.of_elements)
+slice_bounds-sign_all-start-3 : tie.Need-slice_bounds-sign_all-start-3
+slice_bounds-sign_all-start-3 c =
+    let a = c in
+    omega (arith, a.requires.1.of_elements)
 
-part-sign-all-end-3 : tie.Need-slice-bounds-sign-all-end-3
-part-sign-all-end-3 c = search rules
+slice_bounds-sign_all-end-3 : tie.Need-slice_bounds-sign_all-end-3
+slice_bounds-sign_all-end-3 c = search rules
 
-mul-sign-all-4 : tie.Need-overflow-mul-sign-all-4
-mul-sign-all-4 c = search rules
+offset_bounds-element_offset-h : tie.Need-offset_bounds-element_offset-h
+offset_bounds-element_offset-h c = search rules
 
-sub-sign-all-4 : tie.Need-overflow-sub-sign-all-4
-sub-sign-all-4 c =
-    let a = c.before.before.before.before.before.before.before.before.before.before.before.before.before.before.before.before.before.before.before.before in
-    omega (arith, a.pre.1.of_offset)
+slice_bounds-sign_all-count-4 : tie.Need-slice_bounds-sign_all-count-4
+slice_bounds-sign_all-count-4 c =
+    let a = c in
+    omega (arith, a.requires.1.of_offset)
 
-part-sign-all-start-4 : tie.Need-slice-bounds-sign-all-start-4
-part-sign-all-start-4 c =
-    let a = c.before.before.before.before.before.before.before.before.before.before.before.before.before.before.before.before.before.before.before.before in
-    omega (arith, a.pre.1.of_offset)
+slice_bounds-sign_all-start-4 : tie.Need-slice_bounds-sign_all-start-4
+slice_bounds-sign_all-start-4 c =
+    let a = c in
+    omega (arith, a.requires.1.of_offset)
 
-part-sign-all-end-4 : tie.Need-slice-bounds-sign-all-end-4
-part-sign-all-end-4 c = search rules
+slice_bounds-sign_all-end-4 : tie.Need-slice_bounds-sign_all-end-4
+slice_bounds-sign_all-end-4 c = search rules
 
-sign-all-requires : tie.Need-sign-all-requires
-sign-all-requires c κs =
-    let a = c.before.before.before.before.before.before.before.before.before.before.before.before.before.before.before.before.before.before.before.before.before.before.before in
+sign_all-d-requires : tie.Need-sign_all-d-requires
+sign_all-d-requires c κs =
+    let a = c in
     let g = a.args in
-    let w = a.pre.1 in (
-      (a.pre.0.0, a.pre.0.1.long.element_to_block, w.of_begins),
+    let w = a.requires.1 in (
+      (a.requires.0.0, a.requires.0.1.long.element_to_block, w.of_begins),
       (
         (
           behind_room g.table.n g.table.m g.labels.now w.of_labels,
@@ -112,172 +112,172 @@ sign-all-requires c κs =
       ),
     )
 
-split-all-requires : tie.Need-split-all-requires
-split-all-requires c κs =
-    let a = c.before.before.before.before.before.before.before.before.before.before.before.before.before.before.before.before.before.before.before.before.before.before.before.before.before.before.before.before.before.before.before.before.before.before.before.before.before.before.before.before.before.before.before.before.before.before.before.before.before in
+split_all-requires : tie.Need-split_all-requires
+split_all-requires c κs =
+    let a = c.before.before.before.before.before.before.before.before.before.before.before.before.before.before.before.before.before.before.before.before.before.before.before.before.before.before.before.before.before.before.before.before.before.before.before.before.before.before.before.before.before.before.before.before.before.before.before in
     let g = a.args in
     let n = g.table.n in
     let m = g.table.m in
-    let w = a.pre.1 in
-    let q = c.before.before.before.before.before.before.before.before.before.before.before.before.before.before.before.before.before.before.before.before.before.before.before.before.before.sign-all in (
-      sound_front (P a) a.pre.0.1 _ _ (lent_length n m g.elements.now q.last.1.1.1.1.1.1.1.1.0 w.of_elements
-          q.kept.1.1.1.1.1.1.1.1.0)
-          (lent_length n m g.element_offset.now q.last.1.1.1.1.1.1.1.1.1.0 w.of_offset
-          q.kept.1.1.1.1.1.1.1.1.1.0)
-          (lent-cell n m g.elements.now q.last.1.1.1.1.1.1.1.1.0 w.of_elements)
-          (lent-cell n m g.element_offset.now q.last.1.1.1.1.1.1.1.1.1.0 w.of_offset),
+    let w = a.requires.1 in
+    let q = c.sign_all-d in (
+      sound_front (P a) a.requires.0.1 _ _ (lent_length n m g.elements.now q.new.pushed_labels w.of_elements
+          q.auto.pushed_labels)
+          (lent_length n m g.element_offset.now q.new.pushed_blocks w.of_offset
+          q.auto.pushed_blocks)
+          (lent-cell n m g.elements.now q.new.pushed_labels w.of_elements)
+          (lent-cell n m g.element_offset.now q.new.pushed_blocks w.of_offset),
       (
         (
-          subst Held (lent-store n m g.labels.now g.blocks.now q.last.1.1.1.1.1.0 q.last.1.1.1.1.1.1.0
-              q.result q.last.1.1.1.1.1.1.1.0 w.of_labels w.of_blocks)
+          subst Held (lent-store n m g.labels.now g.blocks.now q.new.labels q.new.blocks
+              q.result q.new.begins w.of_labels w.of_blocks)
               q.ensures.0.held,
-          omega (arith, w.of_numbers, q.kept.1.1.1.1.1.1.1.1.1.1.0),
+          omega (arith, w.of_numbers, q.auto.order),
         ),
         (
-          lent_clear n m g.labels.now q.last.1.1.1.1.1.0 w.of_labels w.labels_zero,
-          lent_clear n m g.blocks.now q.last.1.1.1.1.1.1.0 w.of_blocks w.blocks_zero,
-          omega (arith, w.of_spare, q.kept.1.1.1.1.1.1.1.1.1.1.1.0),
+          lent_clear n m g.labels.now q.new.labels w.of_labels w.labels_zero,
+          lent_clear n m g.blocks.now q.new.blocks w.of_blocks w.blocks_zero,
+          omega (arith, w.of_spare, q.auto.spare),
           still_zeros _ (length g.spare.now) q.ensures.2,
         ),
       ),
     )
 
-same_length : tie.Need-same-length
-same_length c =
-    let a = c.before.before.before.before.before.before.before.before.before.before.before.before.before.before.before.before.before.before.before.before.before.before.before.before.before.before.before.before.before.before.before.before.before.before.before.before.before.before.before.before.before.before.before.before.before.before.before.before.before.before.before.before.before.before.before.before.before.before.before.before.before.before.before.before.before.before.before.before.before.before in
-    let w = a.pre.1 in
-    let s = c.before.before.before.before.before.before.before.before.before.before.before.before.before.before.before.before.before.before.before.before.before.before.before.before.before.before.before.before.before.before.before.before.before.before.before.before.before.before.before.before.before.before.before.before.before.before.sign-all in
-    let k = c.before.before.before.before.before.before.before.before.before.before.before.before.before.before.before.before.before.before.before.before.split-all.auto in
-    k.1.1.0 ∙ lent_length a.args.table.n a.args.table.m a.args.elements.now
-    s.last.1.1.1.1.1.1.1.1.0 w.of_elements s.kept.1.1.1.1.1.1.1.1.0
+shape_of-elements : tie.Need-shape_of-elements
+shape_of-elements c =
+    let a = c in
+    let w = a.requires.1 in
+    let s = c.sign_all-d in
+    let k = c.split_all.auto in
+    k.elements ∙ lent_length a.args.table.n a.args.table.m a.args.elements.now
+    s.new.pushed_labels w.of_elements s.auto.pushed_labels
 
-same-length-2 : tie.Need-same-length-2
-same-length-2 c =
-    let a = c.before.before.before.before.before.before.before.before.before.before.before.before.before.before.before.before.before.before.before.before.before.before.before.before.before.before.before.before.before.before.before.before.before.before.before.before.before.before.before.before.before.before.before.before.before.before.before.before.before.before.before.before.before.before.before.before.before.before.before.before.before.before.before.before.before.before.before.before.before.before in
-    let w = a.pre.1 in
-    let s = c.before.before.before.before.before.before.before.before.before.before.before.before.before.before.before.before.before.before.before.before.before.before.before.before.before.before.before.before.before.before.before.before.before.before.before.before.before.before.before.before.before.before.before.before.before.before.sign-all in
-    let k = c.before.before.before.before.before.before.before.before.before.before.before.before.before.before.before.before.before.before.before.before.split-all.auto in
-    k.1.1.1.0 ∙ lent_length a.args.table.n a.args.table.m a.args.element_offset.now
-    s.last.1.1.1.1.1.1.1.1.1.0 w.of_offset s.kept.1.1.1.1.1.1.1.1.1.0
+shape_of-element_offset : tie.Need-shape_of-element_offset
+shape_of-element_offset c =
+    let a = c in
+    let w = a.requires.1 in
+    let s = c.sign_all-d in
+    let k = c.split_all.auto in
+    k.element_offset ∙ lent_length a.args.table.n a.args.table.m a.args.element_offset.now
+    s.new.pushed_blocks w.of_offset s.auto.pushed_blocks
 
-same-length-3 : tie.Need-same-length-3
-same-length-3 c =
-    let split-all = c.before.before.before.before.before.before.before.before.before.before.before.before.before.before.before.before.before.before.before.before.split-all in
-    split-all.kept.1.1.1.1.0
+shape_of-element_to_block : tie.Need-shape_of-element_to_block
+shape_of-element_to_block c =
+    let split-all = c.split_all in
+    split-all.auto.element_to_block
 
-same-length-4 : tie.Need-same-length-4
-same-length-4 c =
-    let split-all = c.before.before.before.before.before.before.before.before.before.before.before.before.before.before.before.before.before.before.before.before.split-all in
-    split-all.kept.1.1.1.1.1.0
+shape_of-begin : tie.Need-shape_of-begin
+shape_of-begin c =
+    let split-all = c.split_all in
+    split-all.auto.begin
 
-same-length-5 : tie.Need-same-length-5
-same-length-5 c =
-    let split-all = c.before.before.before.before.before.before.before.before.before.before.before.before.before.before.before.before.before.before.before.before.split-all in
-    split-all.kept.1.1.1.1.1.1.0
+shape_of-marked_split : tie.Need-shape_of-marked_split
+shape_of-marked_split c =
+    let split-all = c.split_all in
+    split-all.auto.marked_split
 
-same-length-6 : tie.Need-same-length-6
-same-length-6 c =
-    let split-all = c.before.before.before.before.before.before.before.before.before.before.before.before.before.before.before.before.before.before.before.before.split-all in
-    split-all.kept.1.1.1.1.1.1.1.0
+shape_of-end : tie.Need-shape_of-end
+shape_of-end c =
+    let split-all = c.split_all in
+    split-all.auto.end
 
-same-length-7 : tie.Need-same-length-7
-same-length-7 c =
-    let sign-all = c.before.before.before.before.before.before.before.before.before.before.before.before.before.before.before.before.before.before.before.before.before.before.before.before.before.before.before.before.before.before.before.before.before.before.before.before.before.before.before.before.before.before.before.before.before.before.sign-all in
-    sign-all.kept.1.1.1.1.1.1.1.0
+shape_of-begins : tie.Need-shape_of-begins
+shape_of-begins c =
+    let sign-all = c.sign_all-d in
+    sign-all.auto.begins
 
-same-length-8 : tie.Need-same-length-8
-same-length-8 c =
-    let split-all = c.before.before.before.before.before.before.before.before.before.before.before.before.before.before.before.before.before.before.before.before.split-all in
-    let sign-all = c.before.before.before.before.before.before.before.before.before.before.before.before.before.before.before.before.before.before.before.before.before.before.before.before.before.before.before.before.before.before.before.before.before.before.before.before.before.before.before.before.before.before.before.before.before.before.sign-all in
-    split-all.kept.1.1.1.1.1.1.1.1.1.0 ∙ sign-all.kept.1.1.1.1.1.1.1.1.1.1.0
+shape_of-numbers : tie.Need-shape_of-numbers
+shape_of-numbers c =
+    let split-all = c.split_all in
+    let sign-all = c.sign_all-d in
+    split-all.auto.numbers ∙ sign-all.auto.order
 
-same-length-9 : tie.Need-same-length-9
-same-length-9 c =
-    let a = c.before.before.before.before.before.before.before.before.before.before.before.before.before.before.before.before.before.before.before.before.before.before.before.before.before.before.before.before.before.before.before.before.before.before.before.before.before.before.before.before.before.before.before.before.before.before.before.before.before.before.before.before.before.before.before.before.before.before.before.before.before.before.before.before.before.before.before.before.before.before in
-    let w = a.pre.1 in
-    let s = c.before.before.before.before.before.before.before.before.before.before.before.before.before.before.before.before.before.before.before.before.before.before.before.before.before.before.before.before.before.before.before.before.before.before.before.before.before.before.before.before.before.before.before.before.before.before.sign-all in
-    let k = c.before.before.before.before.before.before.before.before.before.before.before.before.before.before.before.before.before.before.before.before.split-all.auto in
-    k.1.1.1.1.1.1.1.1.1.1.0 ∙ lent_length a.args.table.n a.args.table.m a.args.labels.now
-    s.last.1.1.1.1.1.0 w.of_labels s.kept.1.1.1.1.1.0
+shape_of-labels : tie.Need-shape_of-labels
+shape_of-labels c =
+    let a = c in
+    let w = a.requires.1 in
+    let s = c.sign_all-d in
+    let k = c.split_all.auto in
+    k.labels ∙ lent_length a.args.table.n a.args.table.m a.args.labels.now
+    s.new.labels w.of_labels s.auto.labels
 
-same-length-10 : tie.Need-same-length-10
-same-length-10 c =
-    let a = c.before.before.before.before.before.before.before.before.before.before.before.before.before.before.before.before.before.before.before.before.before.before.before.before.before.before.before.before.before.before.before.before.before.before.before.before.before.before.before.before.before.before.before.before.before.before.before.before.before.before.before.before.before.before.before.before.before.before.before.before.before.before.before.before.before.before.before.before.before.before in
-    let w = a.pre.1 in
-    let s = c.before.before.before.before.before.before.before.before.before.before.before.before.before.before.before.before.before.before.before.before.before.before.before.before.before.before.before.before.before.before.before.before.before.before.before.before.before.before.before.before.before.before.before.before.before.before.sign-all in
-    let k = c.before.before.before.before.before.before.before.before.before.before.before.before.before.before.before.before.before.before.before.before.split-all.auto in
-    k.1.1.1.1.1.1.1.1.1.1.1.0 ∙ lent_length a.args.table.n a.args.table.m a.args.blocks.now
-    s.last.1.1.1.1.1.1.0 w.of_blocks s.kept.1.1.1.1.1.1.0
+shape_of-blocks : tie.Need-shape_of-blocks
+shape_of-blocks c =
+    let a = c in
+    let w = a.requires.1 in
+    let s = c.sign_all-d in
+    let k = c.split_all.auto in
+    k.blocks ∙ lent_length a.args.table.n a.args.table.m a.args.blocks.now
+    s.new.blocks w.of_blocks s.auto.blocks
 
-same-length-11 : tie.Need-same-length-11
-same-length-11 c =
-    let split-all = c.before.before.before.before.before.before.before.before.before.before.before.before.before.before.before.before.before.before.before.before.split-all in
-    let sign-all = c.before.before.before.before.before.before.before.before.before.before.before.before.before.before.before.before.before.before.before.before.before.before.before.before.before.before.before.before.before.before.before.before.before.before.before.before.before.before.before.before.before.before.before.before.before.before.sign-all in
-    split-all.kept.1.1.1.1.1.1.1.1.1.1.1.1.1.0 ∙ sign-all.kept.1.1.1.1.1.1.1.1.1.1.1.0
+shape_of-spare : tie.Need-shape_of-spare
+shape_of-spare c =
+    let split-all = c.split_all in
+    let sign-all = c.sign_all-d in
+    split-all.auto.spare ∙ sign-all.auto.spare
 
 returns : tie.Need-returns
 returns c =
-    let a = c.before.before.before.before.before.before.before.before.before.before.before.before.before.before.before.before.before.before.before.before.before.before.before.before.before.before.before.before.before.before.before.before.before.before.before.before.before.before.before.before.before.before.before.before.before.before.before.before.before.before.before.before.before.before.before.before.before.before.before.before.before.before.before.before.before.before.before.before.before.before in
+    let a = c.before.before.before.before.before.before.before.before.before.before.before.before.before.before.before.before.before.before.before.before.before.before.before.before.before.before.before.before.before.before.before.before.before.before.before.before.before.before.before.before.before.before.before.before.before.before.before.before.before.before.before.before.before.before.before.before.before.before.before.before.before.before.before.before.before.before.before.before in
     let g = a.args in
     let n = g.table.n in
     let m = g.table.m in
-    let w = a.pre.1 in
-    let s = c.before.before.before.before.before.before.before.before.before.before.before.before.before.before.before.before.before.before.before.before.before.before.before.before.before.before.before.before.before.before.before.before.before.before.before.before.before.before.before.before.before.before.before.before.before.before.sign-all in
-    let q = c.before.before.before.before.before.before.before.before.before.before.before.before.before.before.before.before.before.before.before.before.split-all in
+    let w = a.requires.1 in
+    let s = c.sign_all-d in
+    let q = c.split_all in
     let signed = subst (λ (t : Store). AllSigned t (strong_signature (L a) g.element_to_block.now))
-    (lent-store n m g.labels.now g.blocks.now s.last.1.1.1.1.1.0 s.last.1.1.1.1.1.1.0 s.result
-    s.last.1.1.1.1.1.1.1.0 w.of_labels w.of_blocks)
+    (lent-store n m g.labels.now g.blocks.now s.new.labels s.new.blocks s.result
+    s.new.begins w.of_labels w.of_blocks)
     s.ensures.0 in (
       by_signatures (strong_signature (L a)) _ (P a) _ _ _ refl signed q.ensures.0,
       record {
-        of_elements = omega (arith, w.of_elements, same_length c);
-        of_offset = omega (arith, w.of_offset, same-length-2 c);
-        of_begins = omega (arith, w.of_begins, same-length-7 c);
-        of_numbers = omega (arith, w.of_numbers, same-length-8 c);
-        of_labels = omega (arith, w.of_labels, same-length-9 c);
-        of_blocks = omega (arith, w.of_blocks, same-length-10 c);
-        of_spare = omega (arith, w.of_spare, same-length-11 c);
-        labels_zero = ap (take (n + 1)) q.ensures.1.0 ∙ lent_clear n m g.labels.now s.last.1.1.1.1.1.0 w.of_labels
+        of_elements = omega (arith, w.of_elements, shape_of-elements c);
+        of_offset = omega (arith, w.of_offset, shape_of-element_offset c);
+        of_begins = omega (arith, w.of_begins, shape_of-begins c);
+        of_numbers = omega (arith, w.of_numbers, shape_of-numbers c);
+        of_labels = omega (arith, w.of_labels, shape_of-labels c);
+        of_blocks = omega (arith, w.of_blocks, shape_of-blocks c);
+        of_spare = omega (arith, w.of_spare, shape_of-spare c);
+        labels_zero = ap (take (n + 1)) q.ensures.1.0 ∙ lent_clear n m g.labels.now s.new.labels w.of_labels
             w.labels_zero;
-        blocks_zero = ap (take (n + 1)) q.ensures.1.1 ∙ lent_clear n m g.blocks.now s.last.1.1.1.1.1.1.0
+        blocks_zero = ap (take (n + 1)) q.ensures.1.1 ∙ lent_clear n m g.blocks.now s.new.blocks
             w.of_blocks w.blocks_zero;
         spare_zero = still_zeros _ (length g.spare.now) (q.ensures.1.2 ∙ s.ensures.2);
       },
     )
 
-pub round-spec : {M : Type 1} → statement M
-round-spec =
+pub round_spec : {M : Type 1} → statement M
+round_spec =
     tie.close
     (tie.spec
-    cast-n
-    add-h
-    mul-sign-all
-    sub-sign-all
-    part-sign-all-start
-    part-sign-all-end
-    mul-sign-all-2
-    sub-sign-all-2
-    part-sign-all-start-2
-    part-sign-all-end-2
-    mul-sign-all-3
-    sub-sign-all-3
-    part-sign-all-start-3
-    part-sign-all-end-3
-    mul-sign-all-4
-    sub-sign-all-4
-    part-sign-all-start-4
-    part-sign-all-end-4
-    sign-all-requires
-    split-all-requires
-    same_length
-    same-length-2
-    same-length-3
-    same-length-4
-    same-length-5
-    same-length-6
-    same-length-7
-    same-length-8
-    same-length-9
-    same-length-10
-    same-length-11
+    overflow_cast-n
+    overflow_add-h
+    offset_bounds-labels-h
+    slice_bounds-sign_all-count
+    slice_bounds-sign_all-start
+    slice_bounds-sign_all-end
+    offset_bounds-blocks-h
+    slice_bounds-sign_all-count-2
+    slice_bounds-sign_all-start-2
+    slice_bounds-sign_all-end-2
+    offset_bounds-elements-h
+    slice_bounds-sign_all-count-3
+    slice_bounds-sign_all-start-3
+    slice_bounds-sign_all-end-3
+    offset_bounds-element_offset-h
+    slice_bounds-sign_all-count-4
+    slice_bounds-sign_all-start-4
+    slice_bounds-sign_all-end-4
+    sign_all-d-requires
+    split_all-requires
+    shape_of-elements
+    shape_of-element_offset
+    shape_of-element_to_block
+    shape_of-begin
+    shape_of-marked_split
+    shape_of-end
+    shape_of-begins
+    shape_of-numbers
+    shape_of-labels
+    shape_of-blocks
+    shape_of-spare
     returns)

@@ -13,8 +13,8 @@ use Rattle.table.specs.Lts.{Lts, lts}
 use Rattle.refinement_rounds.proofs.running.run.Statement.{statement}
 use Rattle.refinement_rounds.proofs.running.run.Tie as tie
 
-abbrev invariant-loop : tie.invariant-loop
-invariant-loop table source label target elements₀ element-offset₀ element-to-block₀ begin₀ marked-split₀ end₀ begins₀ numbers₀ labels₀ blocks₀
+abbrev invariant-loop-rounds : tie.invariant-loop-rounds
+invariant-loop-rounds table source label target elements₀ element-offset₀ element-to-block₀ begin₀ marked-split₀ end₀ begins₀ numbers₀ labels₀ blocks₀
     spare₀ n count₀ rounds₀ elements element_offset element_to_block begin marked_split_lem end begins numbers labels blocks spare count
     rounds =
     RoundsGoing (strong_signature (lts table source label target)) rounds
@@ -32,38 +32,38 @@ invariant-loop table source label target elements₀ element-offset₀ element-t
     × (length blocks ≡ length blocks₀)
     × (length spare ≡ length spare₀)
 
-abbrev decreases-loop : tie.decreases-loop
-decreases-loop table source label target elements₀ element-offset₀ element-to-block₀ begin₀ marked-split₀ end₀ begins₀ numbers₀ labels₀ blocks₀
+abbrev decreases-loop-rounds : tie.decreases-loop-rounds
+decreases-loop-rounds table source label target elements₀ element-offset₀ element-to-block₀ begin₀ marked-split₀ end₀ begins₀ numbers₀ labels₀ blocks₀
     spare₀ n count₀ rounds₀ elements element_offset element_to_block begin marked_split_lem end begins numbers labels blocks spare count
     rounds = table.n - rounds
 
 -- the table that is lent
-abbrev L : tie.Start invariant-loop decreases-loop → Lts
+abbrev L : tie.Start invariant-loop-rounds decreases-loop-rounds → Lts
 L a = lts a.args.table a.args.source.now a.args.label.now a.args.target.now
 
-by : (a : tie.Start invariant-loop decreases-loop) → ByBlocks a.args.table.n (strong_signature (L a))
+by : (a : tie.Start invariant-loop-rounds decreases-loop-rounds) → ByBlocks a.args.table.n (strong_signature (L a))
 by a = strong_by_blocks (L a) a.requires.0.0
 
 -- the partition as a round begins, and as it ends
-abbrev given : tie.At-loop invariant-loop decreases-loop → Partition
+abbrev given : tie.At-loop-rounds invariant-loop-rounds decreases-loop-rounds → Partition
 given q =
-    let l = q.loop in
-    parts l.elements l.element_offset l.element_to_block l.begin l.marked_split_lem l.end
-    q.before.before.before.before.before.before.before.before.before.before.before.before.before.before.before.before.args.table.n l.count
+    let l = q.loop-rounds in
+    parts l.elements l.element_offset l.element_to_block l.begin l.marked_split l.end
+    q.args.table.n l.count
 
-abbrev left : tie.After-round invariant-loop decreases-loop → Partition
+abbrev left : tie.After-round-c invariant-loop-rounds decreases-loop-rounds → Partition
 left q =
-    let l = q.round.new in
-    parts l.1.1.1.1.1.0 l.1.1.1.1.1.1.0 l.1.1.1.1.1.1.1.0 l.1.1.1.1.1.1.1.1.0
-    l.1.1.1.1.1.1.1.1.1.0 l.1.1.1.1.1.1.1.1.1.1.0
-    q.before.before.before.before.before.before.before.before.before.before.before.before.before.before.before.before.before.before.before.before.before.before.before.before.before.before.before.before.before.args.table.n
-    q.round.result
+    let l = q.round-c.new in
+    parts l.elements l.element_offset l.element_to_block l.begin
+    l.marked_split l.end
+    q.args.table.n
+    q.round-c.result
 
-cast-n : tie.Need-overflow-cast-n invariant-loop decreases-loop
-cast-n c = search rules
+overflow_cast-n : tie.Need-overflow_cast-n invariant-loop-rounds decreases-loop-rounds
+overflow_cast-n c = search rules
 
-loop-holds : tie.Need-loop-init invariant-loop decreases-loop
-loop-holds c =
+loop-rounds-init : tie.Need-loop-rounds-init invariant-loop-rounds decreases-loop-rounds
+loop-rounds-init c =
     let a = c.before.before.before.before.before.before.before.before.before.before.before.before.before.before.before in (
       go_start (strong_signature (L a)) _ (by a) a.requires.0.1 refl,
       a.requires.1,
@@ -80,200 +80,200 @@ loop-holds c =
       refl,
     )
 
-round-requires : tie.Need-round-requires invariant-loop decreases-loop
-round-requires c κs =
-    let i = c.before.before.before.before.before.before.before.before.before.before.before.before.loop.invariant in (
+round-c-requires : tie.Need-round-c-requires invariant-loop-rounds decreases-loop-rounds
+round-c-requires c κs =
+    let i = c.loop-rounds.invariant in (
       (
-        c.before.before.before.before.before.before.before.before.before.before.before.before.before.before.before.before.before.before.before.before.before.before.before.before.before.before.before.before.requires.0.0,
+        c.requires.0.0,
         i.0.sound,
       ),
       i.1,
     )
 
-same_length : tie.Need-same-length invariant-loop decreases-loop
-same_length c =
-    let round = c.before.before.before.before.before.before.before.before.before.before.before.before.before.before.before.before.before.before.before.before.before.before.before.round in
-    let l = c.before.before.before.before.before.before.before.before.before.before.before.before.before.before.before.before.before.before.before.before.before.before.before.before.before.before.before.before.before.before.before.before.before.before.before.before.loop in
-    round.kept.1.1.1.1.1.0 ∙ l.inv.2
+shape_of-elements-then-c-count : tie.Need-shape_of-elements-then-c-count invariant-loop-rounds decreases-loop-rounds
+shape_of-elements-then-c-count c =
+    let round = c.round-c in
+    let l = c.loop-rounds in
+    round.auto.elements ∙ l.invariant.2
 
-same-length-2 : tie.Need-same-length-2 invariant-loop decreases-loop
-same-length-2 c =
-    let round = c.before.before.before.before.before.before.before.before.before.before.before.before.before.before.before.before.before.before.before.before.before.before.before.round in
-    let l = c.before.before.before.before.before.before.before.before.before.before.before.before.before.before.before.before.before.before.before.before.before.before.before.before.before.before.before.before.before.before.before.before.before.before.before.before.loop in
-    round.kept.1.1.1.1.1.1.0 ∙ l.inv.3
+shape_of-element_offset-then-c-count : tie.Need-shape_of-element_offset-then-c-count invariant-loop-rounds decreases-loop-rounds
+shape_of-element_offset-then-c-count c =
+    let round = c.round-c in
+    let l = c.loop-rounds in
+    round.auto.element_offset ∙ l.invariant.3
 
-same-length-3 : tie.Need-same-length-3 invariant-loop decreases-loop
-same-length-3 c =
-    let round = c.before.before.before.before.before.before.before.before.before.before.before.before.before.before.before.before.before.before.before.before.before.before.before.round in
-    let l = c.before.before.before.before.before.before.before.before.before.before.before.before.before.before.before.before.before.before.before.before.before.before.before.before.before.before.before.before.before.before.before.before.before.before.before.before.loop in
-    round.kept.1.1.1.1.1.1.1.0 ∙ l.inv.4
+shape_of-element_to_block-then-c-count : tie.Need-shape_of-element_to_block-then-c-count invariant-loop-rounds decreases-loop-rounds
+shape_of-element_to_block-then-c-count c =
+    let round = c.round-c in
+    let l = c.loop-rounds in
+    round.auto.element_to_block ∙ l.invariant.4
 
-same-length-4 : tie.Need-same-length-4 invariant-loop decreases-loop
-same-length-4 c =
-    let round = c.before.before.before.before.before.before.before.before.before.before.before.before.before.before.before.before.before.before.before.before.before.before.before.round in
-    let l = c.before.before.before.before.before.before.before.before.before.before.before.before.before.before.before.before.before.before.before.before.before.before.before.before.before.before.before.before.before.before.before.before.before.before.before.before.loop in
-    round.kept.1.1.1.1.1.1.1.1.0 ∙ l.inv.5
+shape_of-begin-then-c-count : tie.Need-shape_of-begin-then-c-count invariant-loop-rounds decreases-loop-rounds
+shape_of-begin-then-c-count c =
+    let round = c.round-c in
+    let l = c.loop-rounds in
+    round.auto.begin ∙ l.invariant.5
 
-same-length-5 : tie.Need-same-length-5 invariant-loop decreases-loop
-same-length-5 c =
-    let round = c.before.before.before.before.before.before.before.before.before.before.before.before.before.before.before.before.before.before.before.before.before.before.before.round in
-    let l = c.before.before.before.before.before.before.before.before.before.before.before.before.before.before.before.before.before.before.before.before.before.before.before.before.before.before.before.before.before.before.before.before.before.before.before.before.loop in
-    round.kept.1.1.1.1.1.1.1.1.1.0 ∙ l.inv.6
+shape_of-marked_split-then-c-count : tie.Need-shape_of-marked_split-then-c-count invariant-loop-rounds decreases-loop-rounds
+shape_of-marked_split-then-c-count c =
+    let round = c.round-c in
+    let l = c.loop-rounds in
+    round.auto.marked_split ∙ l.invariant.6
 
-same-length-6 : tie.Need-same-length-6 invariant-loop decreases-loop
-same-length-6 c =
-    let round = c.before.before.before.before.before.before.before.before.before.before.before.before.before.before.before.before.before.before.before.before.before.before.before.round in
-    let l = c.before.before.before.before.before.before.before.before.before.before.before.before.before.before.before.before.before.before.before.before.before.before.before.before.before.before.before.before.before.before.before.before.before.before.before.before.loop in
-    round.kept.1.1.1.1.1.1.1.1.1.1.0 ∙ l.inv.7
+shape_of-end-then-c-count : tie.Need-shape_of-end-then-c-count invariant-loop-rounds decreases-loop-rounds
+shape_of-end-then-c-count c =
+    let round = c.round-c in
+    let l = c.loop-rounds in
+    round.auto.end ∙ l.invariant.7
 
-same-length-7 : tie.Need-same-length-7 invariant-loop decreases-loop
-same-length-7 c =
-    let round = c.before.before.before.before.before.before.before.before.before.before.before.before.before.before.before.before.before.before.before.before.before.before.before.round in
-    let l = c.before.before.before.before.before.before.before.before.before.before.before.before.before.before.before.before.before.before.before.before.before.before.before.before.before.before.before.before.before.before.before.before.before.before.before.before.loop in
-    round.kept.1.1.1.1.1.1.1.1.1.1.1.0 ∙ l.inv.8
+shape_of-begins-then-c-count : tie.Need-shape_of-begins-then-c-count invariant-loop-rounds decreases-loop-rounds
+shape_of-begins-then-c-count c =
+    let round = c.round-c in
+    let l = c.loop-rounds in
+    round.auto.begins ∙ l.invariant.8
 
-same-length-8 : tie.Need-same-length-8 invariant-loop decreases-loop
-same-length-8 c =
-    let round = c.before.before.before.before.before.before.before.before.before.before.before.before.before.before.before.before.before.before.before.before.before.before.before.round in
-    let l = c.before.before.before.before.before.before.before.before.before.before.before.before.before.before.before.before.before.before.before.before.before.before.before.before.before.before.before.before.before.before.before.before.before.before.before.before.loop in
-    round.kept.1.1.1.1.1.1.1.1.1.1.1.1.0 ∙ l.inv.9
+shape_of-numbers-then-c-count : tie.Need-shape_of-numbers-then-c-count invariant-loop-rounds decreases-loop-rounds
+shape_of-numbers-then-c-count c =
+    let round = c.round-c in
+    let l = c.loop-rounds in
+    round.auto.numbers ∙ l.invariant.9
 
-same-length-9 : tie.Need-same-length-9 invariant-loop decreases-loop
-same-length-9 c =
-    let round = c.before.before.before.before.before.before.before.before.before.before.before.before.before.before.before.before.before.before.before.before.before.before.before.round in
-    let l = c.before.before.before.before.before.before.before.before.before.before.before.before.before.before.before.before.before.before.before.before.before.before.before.before.before.before.before.before.before.before.before.before.before.before.before.before.loop in
-    round.kept.1.1.1.1.1.1.1.1.1.1.1.1.1.0 ∙ l.inv.10
+shape_of-labels-then-c-count : tie.Need-shape_of-labels-then-c-count invariant-loop-rounds decreases-loop-rounds
+shape_of-labels-then-c-count c =
+    let round = c.round-c in
+    let l = c.loop-rounds in
+    round.auto.labels ∙ l.invariant.10
 
-same-length-10 : tie.Need-same-length-10 invariant-loop decreases-loop
-same-length-10 c =
-    let round = c.before.before.before.before.before.before.before.before.before.before.before.before.before.before.before.before.before.before.before.before.before.before.before.round in
-    let l = c.before.before.before.before.before.before.before.before.before.before.before.before.before.before.before.before.before.before.before.before.before.before.before.before.before.before.before.before.before.before.before.before.before.before.before.before.loop in
-    round.kept.1.1.1.1.1.1.1.1.1.1.1.1.1.1.0 ∙ l.inv.11
+shape_of-blocks-then-c-count : tie.Need-shape_of-blocks-then-c-count invariant-loop-rounds decreases-loop-rounds
+shape_of-blocks-then-c-count c =
+    let round = c.round-c in
+    let l = c.loop-rounds in
+    round.auto.blocks ∙ l.invariant.11
 
-same-length-11 : tie.Need-same-length-11 invariant-loop decreases-loop
-same-length-11 c =
-    let round = c.before.before.before.before.before.before.before.before.before.before.before.before.before.before.before.before.before.before.before.before.before.before.before.round in
-    let l = c.before.before.before.before.before.before.before.before.before.before.before.before.before.before.before.before.before.before.before.before.before.before.before.before.before.before.before.before.before.before.before.before.before.before.before.before.loop in
-    round.kept.1.1.1.1.1.1.1.1.1.1.1.1.1.1.1.0 ∙ l.inv.12
+shape_of-spare-then-c-count : tie.Need-shape_of-spare-then-c-count invariant-loop-rounds decreases-loop-rounds
+shape_of-spare-then-c-count c =
+    let round = c.round-c in
+    let l = c.loop-rounds in
+    round.auto.spare ∙ l.invariant.12
 
-returns : tie.Need-returns invariant-loop decreases-loop
-returns c =
+returns-then-c-count : tie.Need-returns-then-c-count invariant-loop-rounds decreases-loop-rounds
+returns-then-c-count c =
     let a = c.before.before.before.before.before.before.before.before.before.before.before.before.before.before.before.before.before.before.before.before.before.before.before.before.before.before.before.before.before.before.before.before.before.before.before.before.before.before.before.before.before.before.before.before.before.before.before.before.before.before.before.before in
-    let q = c.before.before.before.before.before.before.before.before.before.before.before.before.before.before.before.before.before.before.before.before.before.before.before.round in (
+    let q = c.round-c in (
       go_done (strong_signature (L a)) (given c.before.before.before.before.before.before.before.before.before.before.before.before.before.before.before.before.before.before.before.before.before.before.before.before.before.before.before.before.before.before.before.before.before.before.before.before) (by a) _
-          c.before.before.before.before.before.before.before.before.before.before.before.before.before.before.before.before.before.before.before.before.before.before.before.before.before.before.before.before.before.before.before.before.before.before.before.before.loop.invariant.0 (left
-          c.before.before.before.before.before.before.before.before.before.before.before.before.before.before.before.before.before.before.before.before.before.before.before) refl q.ensures.0 c.if1.true,
+          c.loop-rounds.invariant.0 (left
+          c.before.before.before.before.before.before.before.before.before.before.before.before.before.before.before.before.before.before.before.before.before.before.before) refl q.ensures.0 c.if-c-count.true,
       q.ensures.1,
     )
 
-add_rounds : tie.Need-overflow-add-rounds invariant-loop decreases-loop
-add_rounds c =
-    let a = c.before.before.before.before.before.before.before.before.before.before.before.before.before.before.before.before.before.before.before.before.before.before.before.before.before.before.before.before.before.before.before.before.before.before.before.before.before.before.before.before.before.before.before.before.before.before.before.before.before.before.before.before in
+overflow_add-rounds : tie.Need-overflow_add-rounds invariant-loop-rounds decreases-loop-rounds
+overflow_add-rounds c =
+    let a = c in
     record {
       fits = omega (
         arith,
-        c.before.before.before.before.before.before.before.before.before.before.before.before.before.before.before.before.before.before.before.before.before.before.before.before.before.before.before.before.before.before.before.before.before.before.before.loop-test,
-        a.pre.0.0.few_states,
+        c.loop-rounds-test,
+        a.requires.0.0.few_states,
       );
     }
 
-loop-less : tie.Need-loop-smaller invariant-loop decreases-loop
-loop-less c =
-    let loop-test = c.before.before.before.before.before.before.before.before.before.before.before.before.before.before.before.before.before.before.before.before.before.before.before.before.before.before.before.before.before.before.before.before.before.before.before.loop-test in
+loop-rounds-smaller : tie.Need-loop-rounds-smaller invariant-loop-rounds decreases-loop-rounds
+loop-rounds-smaller c =
+    let loop-test = c.loop-rounds-test in
     omega (arith, loop-test)
 
-loop-again : tie.Need-loop-preserved invariant-loop decreases-loop
-loop-again c =
+loop-rounds-preserved : tie.Need-loop-rounds-preserved invariant-loop-rounds decreases-loop-rounds
+loop-rounds-preserved c =
     let a = c.before.before.before.before.before.before.before.before.before.before.before.before.before.before.before.before.before.before.before.before.before.before.before.before.before.before.before.before.before.before.before.before.before.before.before.before.before.before.before.before.before.before.before.before.before.before.before.before.before.before.before.before in
-    let q = c.before.before.before.before.before.before.before.before.before.before.before.before.before.before.before.before.before.before.before.before.before.before.before.round in
-    let i = c.before.before.before.before.before.before.before.before.before.before.before.before.before.before.before.before.before.before.before.before.before.before.before.before.before.before.before.before.before.before.before.before.before.before.before.before.loop.invariant in (
+    let q = c.round-c in
+    let i = c.loop-rounds.invariant in (
       go_more (strong_signature (L a)) (given c.before.before.before.before.before.before.before.before.before.before.before.before.before.before.before.before.before.before.before.before.before.before.before.before.before.before.before.before.before.before.before.before.before.before.before.before) (by a) _ i.0
-          (left c.before.before.before.before.before.before.before.before.before.before.before.before.before.before.before.before.before.before.before.before.before.before.before) refl q.ensures.0 c.if1.false,
+          (left c.before.before.before.before.before.before.before.before.before.before.before.before.before.before.before.before.before.before.before.before.before.before.before) refl q.ensures.0 c.if-c-count.false,
       q.ensures.1,
-      q.kept.1.1.1.1.1.0 ∙ i.2,
-      q.kept.1.1.1.1.1.1.0 ∙ i.3,
-      q.kept.1.1.1.1.1.1.1.0 ∙ i.4,
-      q.kept.1.1.1.1.1.1.1.1.0 ∙ i.5,
-      q.kept.1.1.1.1.1.1.1.1.1.0 ∙ i.6,
-      q.kept.1.1.1.1.1.1.1.1.1.1.0 ∙ i.7,
-      q.kept.1.1.1.1.1.1.1.1.1.1.1.0 ∙ i.8,
-      q.kept.1.1.1.1.1.1.1.1.1.1.1.1.0 ∙ i.9,
-      q.kept.1.1.1.1.1.1.1.1.1.1.1.1.1.0 ∙ i.10,
-      q.kept.1.1.1.1.1.1.1.1.1.1.1.1.1.1.0 ∙ i.11,
-      q.kept.1.1.1.1.1.1.1.1.1.1.1.1.1.1.1.0 ∙ i.12,
+      q.auto.elements ∙ i.2,
+      q.auto.element_offset ∙ i.3,
+      q.auto.element_to_block ∙ i.4,
+      q.auto.begin ∙ i.5,
+      q.auto.marked_split ∙ i.6,
+      q.auto.end ∙ i.7,
+      q.auto.begins ∙ i.8,
+      q.auto.numbers ∙ i.9,
+      q.auto.labels ∙ i.10,
+      q.auto.blocks ∙ i.11,
+      q.auto.spare ∙ i.12,
     )
 
-same-length-12 : tie.Need-same-length-12 invariant-loop decreases-loop
-same-length-12 c = c.before.loop.invariant.2
+shape_of-elements : tie.Need-shape_of-elements invariant-loop-rounds decreases-loop-rounds
+shape_of-elements c = c.loop-rounds.invariant.2
 
-same-length-13 : tie.Need-same-length-13 invariant-loop decreases-loop
-same-length-13 c = c.before.loop.invariant.3
+shape_of-element_offset : tie.Need-shape_of-element_offset invariant-loop-rounds decreases-loop-rounds
+shape_of-element_offset c = c.loop-rounds.invariant.3
 
-same-length-14 : tie.Need-same-length-14 invariant-loop decreases-loop
-same-length-14 c = c.before.loop.invariant.4
+shape_of-element_to_block : tie.Need-shape_of-element_to_block invariant-loop-rounds decreases-loop-rounds
+shape_of-element_to_block c = c.loop-rounds.invariant.4
 
-same-length-15 : tie.Need-same-length-15 invariant-loop decreases-loop
-same-length-15 c = c.before.loop.invariant.5
+shape_of-begin : tie.Need-shape_of-begin invariant-loop-rounds decreases-loop-rounds
+shape_of-begin c = c.loop-rounds.invariant.5
 
-same-length-16 : tie.Need-same-length-16 invariant-loop decreases-loop
-same-length-16 c = c.before.loop.invariant.6
+shape_of-marked_split : tie.Need-shape_of-marked_split invariant-loop-rounds decreases-loop-rounds
+shape_of-marked_split c = c.loop-rounds.invariant.6
 
-same-length-17 : tie.Need-same-length-17 invariant-loop decreases-loop
-same-length-17 c = c.before.loop.invariant.7
+shape_of-end : tie.Need-shape_of-end invariant-loop-rounds decreases-loop-rounds
+shape_of-end c = c.loop-rounds.invariant.7
 
-same-length-18 : tie.Need-same-length-18 invariant-loop decreases-loop
-same-length-18 c = c.before.loop.invariant.8
+shape_of-begins : tie.Need-shape_of-begins invariant-loop-rounds decreases-loop-rounds
+shape_of-begins c = c.loop-rounds.invariant.8
 
-same-length-19 : tie.Need-same-length-19 invariant-loop decreases-loop
-same-length-19 c = c.before.loop.invariant.9
+shape_of-numbers : tie.Need-shape_of-numbers invariant-loop-rounds decreases-loop-rounds
+shape_of-numbers c = c.loop-rounds.invariant.9
 
-same-length-20 : tie.Need-same-length-20 invariant-loop decreases-loop
-same-length-20 c = c.before.loop.invariant.10
+shape_of-labels : tie.Need-shape_of-labels invariant-loop-rounds decreases-loop-rounds
+shape_of-labels c = c.loop-rounds.invariant.10
 
-same-length-21 : tie.Need-same-length-21 invariant-loop decreases-loop
-same-length-21 c = c.before.loop.invariant.11
+shape_of-blocks : tie.Need-shape_of-blocks invariant-loop-rounds decreases-loop-rounds
+shape_of-blocks c = c.loop-rounds.invariant.11
 
-same-length-22 : tie.Need-same-length-22 invariant-loop decreases-loop
-same-length-22 c = c.before.loop.invariant.12
+shape_of-spare : tie.Need-shape_of-spare invariant-loop-rounds decreases-loop-rounds
+shape_of-spare c = c.loop-rounds.invariant.12
 
-returns-2 : tie.Need-returns-2 invariant-loop decreases-loop
-returns-2 c =
+returns : tie.Need-returns invariant-loop-rounds decreases-loop-rounds
+returns c =
     let a = c.before.before.before.before.before.before.before.before.before.before.before.before.before.before.before.before.before in
-    absurd (omega (arith, c.loop-test, go_few (strong_signature (L a)) (given c.before) (by a) _ c.before.loop.invariant.0))
+    absurd (omega (arith, c.loop-rounds-test, go_few (strong_signature (L a)) (given c.before) (by a) _ c.loop-rounds.invariant.0))
 
 pub run_spec : {M : Type 1} → statement M
 run_spec =
     tie.close
     (tie.spec
-    invariant-loop
-    decreases-loop
-    cast-n
-    loop-holds
-    round-requires
-    same_length
-    same-length-2
-    same-length-3
-    same-length-4
-    same-length-5
-    same-length-6
-    same-length-7
-    same-length-8
-    same-length-9
-    same-length-10
-    same-length-11
-    returns
-    add_rounds
-    loop-less
-    loop-again
-    same-length-12
-    same-length-13
-    same-length-14
-    same-length-15
-    same-length-16
-    same-length-17
-    same-length-18
-    same-length-19
-    same-length-20
-    same-length-21
-    same-length-22
-    returns-2)
+    invariant-loop-rounds
+    decreases-loop-rounds
+    overflow_cast-n
+    loop-rounds-init
+    round-c-requires
+    shape_of-elements-then-c-count
+    shape_of-element_offset-then-c-count
+    shape_of-element_to_block-then-c-count
+    shape_of-begin-then-c-count
+    shape_of-marked_split-then-c-count
+    shape_of-end-then-c-count
+    shape_of-begins-then-c-count
+    shape_of-numbers-then-c-count
+    shape_of-labels-then-c-count
+    shape_of-blocks-then-c-count
+    shape_of-spare-then-c-count
+    returns-then-c-count
+    overflow_add-rounds
+    loop-rounds-smaller
+    loop-rounds-preserved
+    shape_of-elements
+    shape_of-element_offset
+    shape_of-element_to_block
+    shape_of-begin
+    shape_of-marked_split
+    shape_of-end
+    shape_of-begins
+    shape_of-numbers
+    shape_of-labels
+    shape_of-blocks
+    shape_of-spare
+    returns)

@@ -17,7 +17,7 @@ use Rattle.refinement_rounds.proofs.splitting.split_block.Tie as tie
 abbrev P : tie.Start → Partition
 P a =
     let g = a.args in
-    parts g.elements.now g.element_offset.now g.element_to_block.now g.begin.now g.marked_split_lem.now g.end.now
+    parts g.elements.now g.element_offset.now g.element_to_block.now g.begin.now g.marked_split.now g.end.now
     g.n g.count
 
 abbrev S : tie.Start → Store
@@ -29,60 +29,60 @@ labels-fit a = front_fits a.args.n a.args.labels.now a.requires.1.1.0
 blocks-fit : (a : tie.Start) → a.args.n + 1 ≤ length a.args.blocks.now
 blocks-fit a = front_fits a.args.n a.args.blocks.now a.requires.1.1.1
 
-add-h : tie.Need-overflow-add-h
-add-h c =
-    let a = c.before.before.before.before.before.before.before.before.before.before.before in
+overflow_add-h : tie.Need-overflow_add-h
+overflow_add-h c =
+    let a = c in
     record { fits = omega (arith, a.requires.0.0.small) }
 
-at-requires : tie.Need-at-requires
-at-requires c κs =
-    let g = c.before.before.before.before.before.before.before.before.before.before.before.before.requires.0 in
+at-x-requires : tie.Need-at-x-requires
+at-x-requires c κs =
+    let g = c.requires.0 in
     omega (arith, g.1, g.0.consistent.most, g.0.long.begin)
 
-at-requires-2 : tie.Need-at-requires-2
-at-requires-2 c κs =
-    let g = c.before.before.before.before.before.before.before.before.before.before.before.before.before.before.requires.0 in
+at-z-requires : tie.Need-at-z-requires
+at-z-requires c κs =
+    let g = c.requires.0 in
     omega (arith, g.1, g.0.consistent.most, g.0.long.end)
 
-mul-number-block : tie.Need-overflow-mul-number-block
-mul-number-block c = search rules
+offset_bounds-labels-h : tie.Need-offset_bounds-labels-h
+offset_bounds-labels-h c = search rules
 
-sub-number-block : tie.Need-overflow-sub-number-block
-sub-number-block c =
-    let a = c.before.before.before.before.before.before.before.before.before.before.before.before.before.before.before.before in
+slice_bounds-number_block-count : tie.Need-slice_bounds-number_block-count
+slice_bounds-number_block-count c =
+    let a = c.before.before.before.before.before.before.before.before.before.before.before.before.before in
     omega (arith, labels-fit a)
 
-part-number-block-start : tie.Need-slice-bounds-number-block-start
-part-number-block-start c =
-    let a = c.before.before.before.before.before.before.before.before.before.before.before.before.before.before.before.before.before in
+slice_bounds-number_block-start : tie.Need-slice_bounds-number_block-start
+slice_bounds-number_block-start c =
+    let a = c.before.before.before.before.before.before.before.before.before.before.before.before.before in
     labels-fit a
 
-part-number-block-end : tie.Need-slice-bounds-number-block-end
-part-number-block-end c = search rules
+slice_bounds-number_block-end : tie.Need-slice_bounds-number_block-end
+slice_bounds-number_block-end c = search rules
 
-mul-number-block-2 : tie.Need-overflow-mul-number-block-2
-mul-number-block-2 c = search rules
+offset_bounds-blocks-h : tie.Need-offset_bounds-blocks-h
+offset_bounds-blocks-h c = search rules
 
-sub-number-block-2 : tie.Need-overflow-sub-number-block-2
-sub-number-block-2 c =
-    let a = c.before.before.before.before.before.before.before.before.before.before.before.before.before.before.before.before.before.before in
+slice_bounds-number_block-count-2 : tie.Need-slice_bounds-number_block-count-2
+slice_bounds-number_block-count-2 c =
+    let a = c.before.before.before.before.before.before.before.before.before.before.before.before.before.before in
     omega (arith, blocks-fit a)
 
-part-number-block-start-2 : tie.Need-slice-bounds-number-block-start-2
-part-number-block-start-2 c =
-    let a = c.before.before.before.before.before.before.before.before.before.before.before.before.before.before.before.before.before.before.before in
+slice_bounds-number_block-start-2 : tie.Need-slice_bounds-number_block-start-2
+slice_bounds-number_block-start-2 c =
+    let a = c.before.before.before.before.before.before.before.before.before.before.before.before.before.before in
     blocks-fit a
 
-part-number-block-end-2 : tie.Need-slice-bounds-number-block-end-2
-part-number-block-end-2 c = search rules
+slice_bounds-number_block-end-2 : tie.Need-slice_bounds-number_block-end-2
+slice_bounds-number_block-end-2 c = search rules
 
-number-block-requires : tie.Need-number-block-requires
-number-block-requires c κs =
-    let a = c.before.before.before.before.before.before.before.before.before.before.before.before.before.before.before.before.before.before.before.before.before in
-    let read = c.before.before.before.before.before.before.before.before.at in
-    let read2 = c.before.before.before.before.before.before.at2 in
+number_block-requires : tie.Need-number_block-requires
+number_block-requires c κs =
+    let a = c.before.before.before.before.before.before.before.before.before.before.before.before.before.before.before.before in
+    let read = c.at-x in
+    let read2 = c.at-z in
     let a = a in
-    let p = a.pre in
+    let p = a.requires in
     let x = read in
     let z = read2 in
     let w = read_bounds (P a) p.0.0 _ p.0.1 _ _ x.ensures.0 z.ensures.0 in (
@@ -95,64 +95,64 @@ number-block-requires c κs =
     )
 
 -- the numbers that the states of the block get
-numbered : (q : tie.After-number-block) →
-    let g = q.before.before.before.before.before.before.before.before.before.before.before.before.before.before.before.before.before.before.before.before.before.before.args in
-    let x = q.before.before.before.before.before.before.before.before.before.at.result in
-    Numbered (alike_at g.elements.now (S q.before.before.before.before.before.before.before.before.before.before.before.before.before.before.before.before.before.before.before.before.before.before) x) g.elements.now x
-    (q.before.before.before.before.before.before.before.at2.result - x)
-    q.number-block.new.1.1.1.1.1.1.1.1.0 q.number-block.result
+numbered : (q : tie.After-number_block) →
+    let g = q.args in
+    let x = q.at-x.result in
+    Numbered (alike_at g.elements.now (S q.before.before.before.before.before.before.before.before.before.before.before.before.before.before.before.before.before) x) g.elements.now x
+    (q.at-z.result - x)
+    q.number_block.new.numbers q.number_block.result
 numbered q =
-    let a = q.before.before.before.before.before.before.before.before.before.before.before.before.before.before.before.before.before.before.before.before.before.before in
-    let read = q.before.before.before.before.before.before.before.before.before.at in
-    let read2 = q.before.before.before.before.before.before.before.at2 in
+    let a = q in
+    let read = q.at-x in
+    let read2 = q.at-z in
     let g = a.args in
     let x = read.result in
     subst
     (λ (t : Store).
     Numbered (alike_at g.elements.now t x) g.elements.now x (read2.result - x)
-    q.number-block.new.1.1.1.1.1.1.1.1.0 q.number-block.result)
-    (parts-behind g.n g.labels.now g.blocks.now g.d g.begins.now) q.number-block.ensures.0
+    q.number_block.new.numbers q.number_block.result)
+    (parts-behind g.n g.labels.now g.blocks.now g.d g.begins.now) q.number_block.ensures.0
 
-mark-all-requires : tie.Need-mark-all-requires
-mark-all-requires c κs =
-    let a = c.before.before.before.before.before.before.before.before.before.before.before.before.before.before.before.before.before.before.before.before.before.before.before.before.before.before in
-    let g = a.pre.0 in
+mark_all-requires : tie.Need-mark_all-requires
+mark_all-requires c κs =
+    let a = c in
+    let g = a.requires.0 in
     (omega (arith, g.1, g.0.consistent.most, g.0.long.begin), omega (arith, g.1, g.0.consistent.most, g.0.long.marked_split_lem))
 
-slice-relend-prefix-partition-marked-with : tie.Need-slice-relend-prefix-partition-marked-with
-slice-relend-prefix-partition-marked-with c =
-    let a = c.before.before.before.before.before.before.before.before.before.before.before.before.before.before.before.before.before.before.before.before.before.before.before.before.before.before.before.before.before.before.before.before.before.before.before.before in
+slice_bounds-partition_marked_with-end : tie.Need-slice_bounds-partition_marked_with-end
+slice_bounds-partition_marked_with-end c =
+    let a = c.before.before.before.before.before.before.before.before.before.before.before.before.before.before.before.before.before.before.before.before.before.before.before.before.before.before.before.before.before in
     labels-fit a
 
-slice-aggregate-partition-marked-with : tie.Need-slice-aggregate-partition-marked-with
-slice-aggregate-partition-marked-with c =
-    let a = c.before.before.before.before.before.before.before.before.before.before.before.before.before.before.before.before.before.before.before.before.before.before.before.before.before.before.before.before.before.before.before.before.before.before.before.before.before in
+slice_bounds-partition_marked_with-end-2 : tie.Need-slice_bounds-partition_marked_with-end-2
+slice_bounds-partition_marked_with-end-2 c =
+    let a = c in
     let a = a in
-    sym (front_length a.args.n a.args.labels.now a.pre.1.1.0)
+    sym (front_length a.args.n a.args.labels.now a.requires.1.1.0)
 
-slice-relend-prefix-partition-marked-with-2 : tie.Need-slice-relend-prefix-partition-marked-with-2
-slice-relend-prefix-partition-marked-with-2 c =
-    let a = c.before.before.before.before.before.before.before.before.before.before.before.before.before.before.before.before.before.before.before.before.before.before.before.before.before.before.before.before.before.before.before.before.before.before.before.before.before in
+slice_bounds-partition_marked_with-end-3 : tie.Need-slice_bounds-partition_marked_with-end-3
+slice_bounds-partition_marked_with-end-3 c =
+    let a = c.before.before.before.before.before.before.before.before.before.before.before.before.before.before.before.before.before.before.before.before.before.before.before.before.before.before.before.before.before.before in
     blocks-fit a
 
-slice-aggregate-partition-marked-with-2 : tie.Need-slice-aggregate-partition-marked-with-2
-slice-aggregate-partition-marked-with-2 c =
-    let a = c.before.before.before.before.before.before.before.before.before.before.before.before.before.before.before.before.before.before.before.before.before.before.before.before.before.before.before.before.before.before.before.before.before.before.before.before.before.before in
+slice_bounds-partition_marked_with-end-4 : tie.Need-slice_bounds-partition_marked_with-end-4
+slice_bounds-partition_marked_with-end-4 c =
+    let a = c in
     let a = a in
-    sym (front_length a.args.n a.args.blocks.now a.pre.1.1.1)
+    sym (front_length a.args.n a.args.blocks.now a.requires.1.1.1)
 
-partition-marked-with-requires : tie.Need-partition-marked-with-requires
-partition-marked-with-requires c κs =
-    let a = c.before.before.before.before.before.before.before.before.before.before.before.before.before.before.before.before.before.before.before.before.before.before.before.before.before.before.before.before.before.before.before.before.before.before.before.before.before.before.before in
-    let p = a.pre in
-    let x = c.before.before.before.before.before.before.before.before.before.before.before.before.before.before.before.before.before.before.before.before.before.before.before.before.before.before.at in
-    let z = c.before.before.before.before.before.before.before.before.before.before.before.before.before.before.before.before.before.before.before.before.before.before.before.before.at2 in
-    let n = c.before.before.before.before.before.before.before.before.before.before.before.before.before.before.before.before.before in (
+partition_marked_with-requires : tie.Need-partition_marked_with-requires
+partition_marked_with-requires c κs =
+    let a = c.before.before.before.before.before.before.before.before.before.before.before.before.before.before.before.before.before.before.before.before.before.before.before.before.before.before.before.before.before.before.before.before in
+    let p = a.requires in
+    let x = c.at-x in
+    let z = c.at-z in
+    let n = c.before.before.before.before.before.before.before.before.before.before.before.before.before.before.before in (
       read_ready (P a) p.0.0 _ p.0.1 _ _ x.ensures.0 z.ensures.0 (S a) _ _ (numbered n) _
-          c.before.before.before.before.before.before.before.before.before.before.before.before.mark-all.ensures,
+          c.mark_all.ensures,
       (
         (
-          omega (arith, p.1.0.1, n.number-block.kept.1.1.1.1.1.1.1.1.0),
+          omega (arith, p.1.0.1, n.number_block.auto.numbers),
           omega (arith, front_length a.args.n a.args.labels.now p.1.1.0),
           omega (arith, front_length a.args.n a.args.blocks.now p.1.1.1),
           p.1.1.2,
@@ -165,63 +165,63 @@ partition-marked-with-requires c κs =
       ),
     )
 
-same_length : tie.Need-same-length
-same_length c =
-    let partition_marked_with_lem = c.before.before.before.before.before.before.before.before.before.before.before.before.before.before.before.before.before.before.partition_marked_with_lem in
-    partition_marked_with_lem.kept.1.1.0
+shape_of-elements : tie.Need-shape_of-elements
+shape_of-elements c =
+    let partition_marked_with_lem = c.partition_marked_with in
+    partition_marked_with_lem.auto.elements
 
-same-length-2 : tie.Need-same-length-2
-same-length-2 c =
-    let partition_marked_with_lem = c.before.before.before.before.before.before.before.before.before.before.before.before.before.before.before.before.before.before.partition_marked_with_lem in
-    partition_marked_with_lem.kept.1.1.1.0
+shape_of-element_offset : tie.Need-shape_of-element_offset
+shape_of-element_offset c =
+    let partition_marked_with_lem = c.partition_marked_with in
+    partition_marked_with_lem.auto.element_offset
 
-same-length-3 : tie.Need-same-length-3
-same-length-3 c =
-    let partition_marked_with_lem = c.before.before.before.before.before.before.before.before.before.before.before.before.before.before.before.before.before.before.partition_marked_with_lem in
-    partition_marked_with_lem.kept.1.1.1.1.0
+shape_of-element_to_block : tie.Need-shape_of-element_to_block
+shape_of-element_to_block c =
+    let partition_marked_with_lem = c.partition_marked_with in
+    partition_marked_with_lem.auto.element_to_block
 
-same-length-4 : tie.Need-same-length-4
-same-length-4 c =
-    let partition_marked_with_lem = c.before.before.before.before.before.before.before.before.before.before.before.before.before.before.before.before.before.before.partition_marked_with_lem in
-    partition_marked_with_lem.kept.1.1.1.1.1.0
+shape_of-begin : tie.Need-shape_of-begin
+shape_of-begin c =
+    let partition_marked_with_lem = c.partition_marked_with in
+    partition_marked_with_lem.auto.begin
 
-same-length-5 : tie.Need-same-length-5
-same-length-5 c =
-    let partition_marked_with_lem = c.before.before.before.before.before.before.before.before.before.before.before.before.before.before.before.before.before.before.partition_marked_with_lem in
-    let mark-all = c.before.before.before.before.before.before.before.before.before.before.before.before.before.before.before.before.before.before.before.before.before.before.before.before.before.before.before.before.before.before.before.mark-all in
-    partition_marked_with_lem.kept.1.1.1.1.1.1.0 ∙ mark-all.kept.1.0
+shape_of-marked_split : tie.Need-shape_of-marked_split
+shape_of-marked_split c =
+    let partition_marked_with_lem = c.partition_marked_with in
+    let mark-all = c.mark_all in
+    partition_marked_with_lem.auto.marked_split ∙ mark-all.auto.marked_split
 
-same-length-6 : tie.Need-same-length-6
-same-length-6 c =
-    let partition_marked_with_lem = c.before.before.before.before.before.before.before.before.before.before.before.before.before.before.before.before.before.before.partition_marked_with_lem in
-    partition_marked_with_lem.kept.1.1.1.1.1.1.1.0
+shape_of-end : tie.Need-shape_of-end
+shape_of-end c =
+    let partition_marked_with_lem = c.partition_marked_with in
+    partition_marked_with_lem.auto.end
 
-same-length-7 : tie.Need-same-length-7
-same-length-7 c =
-    let number-block = c.before.before.before.before.before.before.before.before.before.before.before.before.before.before.before.before.before.before.before.before.before.before.before.before.before.before.before.before.before.before.before.before.before.before.before.before.number-block in
-    number-block.kept.1.1.1.1.1.1.1.1.0
+shape_of-numbers : tie.Need-shape_of-numbers
+shape_of-numbers c =
+    let number-block = c.number_block in
+    number-block.auto.numbers
 
-same-length-8 : tie.Need-same-length-8
-same-length-8 c = search rules
+shape_of-labels : tie.Need-shape_of-labels
+shape_of-labels c = search rules
 
-same-length-9 : tie.Need-same-length-9
-same-length-9 c = search rules
+shape_of-blocks : tie.Need-shape_of-blocks
+shape_of-blocks c = search rules
 
-same-length-10 : tie.Need-same-length-10
-same-length-10 c =
-    let partition_marked_with_lem = c.before.before.before.before.before.before.before.before.before.before.before.before.before.before.before.before.before.before.partition_marked_with_lem in
-    partition_marked_with_lem.kept.1.1.1.1.1.1.1.1.1.1.1.1.0
+shape_of-spare : tie.Need-shape_of-spare
+shape_of-spare c =
+    let partition_marked_with_lem = c.partition_marked_with in
+    partition_marked_with_lem.auto.spare
 
 returns : tie.Need-returns
 returns c =
-    let a = c.before.before.before.before.before.before.before.before.before.before.before.before.before.before.before.before.before.before.before.before.before.before.before.before.before.before.before.before.before.before.before.before.before.before.before.before.before.before.before.before.before.before.before.before.before.before.before.before.before.before.before.before.before.before.before.before.before.before in
-    let p = a.pre in
+    let a = c.before.before.before.before.before.before.before.before.before.before.before.before.before.before.before.before.before.before.before.before.before.before.before.before.before.before.before.before.before.before.before.before.before.before.before.before.before.before.before.before.before.before.before.before.before.before.before.before.before.before.before in
+    let p = a.requires in
     let g = a.args in
-    let x = c.before.before.before.before.before.before.before.before.before.before.before.before.before.before.before.before.before.before.before.before.before.before.before.before.before.before.before.before.before.before.before.before.before.before.before.before.before.before.before.before.before.before.before.before.before.at in
-    let z = c.before.before.before.before.before.before.before.before.before.before.before.before.before.before.before.before.before.before.before.before.before.before.before.before.before.before.before.before.before.before.before.before.before.before.before.before.before.before.before.before.before.before.before.at2 in
-    let n = c.before.before.before.before.before.before.before.before.before.before.before.before.before.before.before.before.before.before.before.before.before.before.before.before.before.before.before.before.before.before.before.before.before.before.before.before in
-    let marked = c.before.before.before.before.before.before.before.before.before.before.before.before.before.before.before.before.before.before.before.before.before.before.before.before.before.before.before.before.before.before.before.mark-all in
-    let q = c.before.before.before.before.before.before.before.before.before.before.before.before.before.before.before.before.before.before.partition_marked_with_lem.ensures in (
+    let x = c.at-x in
+    let z = c.at-z in
+    let n = c.before.before.before.before.before.before.before.before.before.before.before.before.before.before.before.before.before.before.before.before.before.before.before.before.before.before.before.before.before.before.before.before.before.before in
+    let marked = c.mark_all in
+    let q = c.partition_marked_with.ensures in (
       read_divided (P a) p.0.0 _ p.0.1 _ _ x.ensures.0 z.ensures.0 (S a) _ _ (numbered n) _ marked.ensures _ q.0 refl,
       (
         front_back g.n g.labels.now p.1.1.0 _ q.1.0,
@@ -230,36 +230,36 @@ returns c =
       ),
     )
 
-pub split-block-spec : {M : Type 1} → statement M
-split-block-spec =
+pub split_block_spec : {M : Type 1} → statement M
+split_block_spec =
     tie.close
     (tie.spec
-    add-h
-    at-requires
-    at-requires-2
-    mul-number-block
-    sub-number-block
-    part-number-block-start
-    part-number-block-end
-    mul-number-block-2
-    sub-number-block-2
-    part-number-block-start-2
-    part-number-block-end-2
-    number-block-requires
-    mark-all-requires
-    slice-relend-prefix-partition-marked-with
-    slice-aggregate-partition-marked-with
-    slice-relend-prefix-partition-marked-with-2
-    slice-aggregate-partition-marked-with-2
-    partition-marked-with-requires
-    same_length
-    same-length-2
-    same-length-3
-    same-length-4
-    same-length-5
-    same-length-6
-    same-length-7
-    same-length-8
-    same-length-9
-    same-length-10
+    overflow_add-h
+    at-x-requires
+    at-z-requires
+    offset_bounds-labels-h
+    slice_bounds-number_block-count
+    slice_bounds-number_block-start
+    slice_bounds-number_block-end
+    offset_bounds-blocks-h
+    slice_bounds-number_block-count-2
+    slice_bounds-number_block-start-2
+    slice_bounds-number_block-end-2
+    number_block-requires
+    mark_all-requires
+    slice_bounds-partition_marked_with-end
+    slice_bounds-partition_marked_with-end-2
+    slice_bounds-partition_marked_with-end-3
+    slice_bounds-partition_marked_with-end-4
+    partition_marked_with-requires
+    shape_of-elements
+    shape_of-element_offset
+    shape_of-element_to_block
+    shape_of-begin
+    shape_of-marked_split
+    shape_of-end
+    shape_of-numbers
+    shape_of-labels
+    shape_of-blocks
+    shape_of-spare
     returns)
