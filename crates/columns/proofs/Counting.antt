@@ -108,8 +108,8 @@ many-some (suc n) f h = go (λ m. many-some n f m) (f n) refl
         let r = ih (λ q. h (rw e (omega (arith, q)))) in
         record { at = r.at; below = omega (arith, r.below); passes = r.passes }
 
-pub many-nothing : (n : ℕ) (f : ℕ → Bool) → ((k : ℕ) → k < n → f k ≡ false) → many n f ≡ 0
-many-nothing n f h = many-sum n f ∙ sum_cong (λ k. bit (f k)) (λ _. 0) n (λ k w. bit_false (f k) (h k w)) ∙ sum-zero n
+pub many_nothing : (n : ℕ) (f : ℕ → Bool) → ((k : ℕ) → k < n → f k ≡ false) → many n f ≡ 0
+many_nothing n f h = many-sum n f ∙ sum_cong (λ k. bit (f k)) (λ _. 0) n (λ k w. bit_false (f k) (h k w)) ∙ sum-zero n
 
 pub many-le : (n : ℕ) (f : ℕ → Bool) → many n f ≤ n
 many-le n f = omega (arith, many-sum n f, sum_one n, sum_mono (λ k. bit (f k)) (λ _. 1) n (λ k w. bit_most (f k)))
@@ -140,7 +140,7 @@ many_once (suc n) f u = go (many_once n f (λ i j a c. u i j (omega (arith, a)) 
         omega (
           arith,
           many_hit n f q,
-          many-nothing n f (λ k w. fails (λ e. lt_ne w (u k n (omega (arith, w)) (omega arith) e q))),
+          many_nothing n f (λ k w. fails (λ e. lt_ne w (u k n (omega (arith, w)) (omega arith) e q))),
         )
     go h false q = omega (arith, many_miss n f q)
 

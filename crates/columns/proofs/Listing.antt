@@ -8,7 +8,7 @@ use mathlib.Core.List.{List, [], ◌∷◌, ◌++◌, append-nil, append_assoc}
 use lib.ListN.{length, length-set, get_or, set, take}
 use lib.Seq.{take-suc-set, get_or-set_other}
 use Rattle.columns.specs.Counting.{many, members}
-use Rattle.columns.proofs.Counting.{bit_true, many-suc, many-nothing}
+use Rattle.columns.proofs.Counting.{bit_true, many-suc, many_nothing}
 use Rattle.columns.proofs.Members.{members_hit, members-rest, members-none, length-members}
 
 -- of the numbers from `first` to before `end`, those below i are seen, and those that pass stand behind the first h cells: k cells in all
@@ -25,7 +25,7 @@ module _ (f : ℕ → Bool) (first end h : ℕ) (l₀ : List ℕ) where
   list_start w n = record {
     low = omega arith;
     high = w;
-    exact = omega (arith, many-nothing first f n);
+    exact = omega (arith, many_nothing first f n);
     cells = sym (append-nil (take h l₀)) ∙ ap (λ (l : List ℕ). take h l₀ ++ l) (sym (members-none f first n));
     size = refl;
     rest = λ j w. refl;

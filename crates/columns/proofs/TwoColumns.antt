@@ -73,9 +73,9 @@ module _ (r : ℕ) (x x₀ : List ℕ) (e : length x ≡ length x₀) (h : r ≤
   firsts_over b w q = as_written ∙ ap (λ (l : List ℕ). over l x₀)
       (sym (map-listed (λ (t : Pair). t.0) r (λ i. (get_or x i 0, get_or b i 0))) ∙ ap first_of q)
 
-  pub lasts-over : (a : List ℕ) (w : List Pair) → pairs_of r a x ≡ w → x ≡ over (last_of w) x₀
+  pub lasts_over : (a : List ℕ) (w : List Pair) → pairs_of r a x ≡ w → x ≡ over (last_of w) x₀
   unfolding pairs_of
-  lasts-over a w q = as_written ∙ ap (λ (l : List ℕ). over l x₀)
+  lasts_over a w q = as_written ∙ ap (λ (l : List ℕ). over l x₀)
       (sym (map-listed (λ (t : Pair). t.1) r (λ i. (get_or a i 0, get_or x i 0))) ∙ ap last_of q)
 
 -- the pairs from p to before q

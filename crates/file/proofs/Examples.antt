@@ -2,9 +2,9 @@
 use Rattle.std.specs.Prelude.{◌≡◌, ℕ, List, [], ◌∷◌, ◌++◌, map, take}
 use mathlib.Core.Path.{refl}
 use Rattle.columns.specs.declared.answers.Refusal.{Refusal}
-use Rattle.columns.specs.Answers.{Said, done, refused, refusal, none}
+use Rattle.columns.specs.Answers.{done, refused, refusal, none}
 use Rattle.columns.specs.Columns.{zeros}
-use Rattle.columns.specs.Limits.{no_room, out_of_range, too_short, wrong_contents, wrong_rows}
+use Rattle.columns.specs.Limits.{no_room, too_short, wrong_contents, wrong_rows}
 use Rattle.table.specs.Lts.{Lts}
 use Rattle.file.specs.Input.{read_file, file_refusal, long_refusal}
 use Rattle.file.specs.Decoded.{table_out, blocks_out}
@@ -67,16 +67,6 @@ pub output_room :
     ≡ ((done (52 ∷ []), output ++ (0 ∷ [])) ∷ (refused no_room 52, zeros 51) ∷ [])
 unfolding write_file
 output_room = refl
-
--- the first block that is not below n, among those that count; it comes before 16
-abbrev given : List ℕ → Said
-given blocks = (write_file reduced 3 blocks (zeros 51)).0
-
-pub output_blocks_lem :
-    map given ((0 ∷ 1 ∷ 2 ∷ []) ∷ (0 ∷ 7 ∷ 65535 ∷ []) ∷ (1 ∷ 1 ∷ 1 ∷ 2 ∷ []) ∷ [])
-    ≡ (refused out_of_range 2 ∷ refused out_of_range 7 ∷ refused no_room 52 ∷ [])
-unfolding write_file
-output_blocks_lem = refl
 
 -- the input's first bytes, by how many they are
 abbrev room : List ℕ

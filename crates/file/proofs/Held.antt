@@ -45,7 +45,7 @@ use Rattle.file.specs.Input.{
   field_tests,
   named_end,
   rows_length,
-  length_tests,
+  sized_length_tests,
   contents_tests,
   count_tests,
   file_refusal,
@@ -137,7 +137,7 @@ module _ (s : List ℕ) (k : ℕ) (held : input_rows ≤ k) (long : input_rows �
 module _ (s : List ℕ) where
   past_end :
       (k : List Test) (size : ℕ) → named_end s < size
-      → due (length_tests s size ++ k)
+      → due (sized_length_tests s size ++ k)
       ≡ cond (eqb (little 4 s rows_length_at) (rows_length s)) (refusal wrong_contents (named_end s)) (refusal wrong_contents rows_length_at)
   unfolding due
   past_end k size h =
@@ -147,7 +147,7 @@ module _ (s : List ℕ) where
   unfolding long_refusal
   long_past a b h g =
       let k = count_tests (header_in s) in
-      due-after (field_tests s) (length_tests s a ++ k) (length_tests s b ++ k) (λ p. past_end k a h ∙ sym (past_end k b g))
+      due-after (field_tests s) (sized_length_tests s a ++ k) (sized_length_tests s b ++ k) (λ p. past_end k a h ∙ sym (past_end k b g))
 
   named_small : ((i : ℕ) → get_or s i 0 < 256) → named_end s < counted
   unfolding header_in little

@@ -28,6 +28,7 @@ use Rattle.file.specs.Input.{
   rows_length,
   named_end,
   length_tests,
+  sized_length_tests,
   sized_tests,
   contents_tests,
   file_tests,
@@ -47,25 +48,43 @@ module _ (width : ℕ) (s : List ℕ) (at value : ℕ) where
   unfolding due
   field_read h x e = rw (← e, le-leb (at + width) (length s) h)
 
--- ---- the lengths
+-- ---- the lengths, of a file of `size` bytes of which s are all or the first
 module _ (s : List ℕ) (size : ℕ) where
-  pub no_header : size < input_rows → refusal wrong_contents size ≡ due (length_tests s size)
+  pub sized_no_header : size < input_rows → refusal wrong_contents size ≡ due (sized_length_tests s size)
   unfolding due
-  no_header h = rw (lt-leb input_rows size h)
+  sized_no_header h = rw (lt-leb input_rows size h)
 
   -- the tests with the numbers that were read
-  abbrev pub read_tests : ℕ → ℕ → List Test
-  read_tests m named =
+  abbrev pub sized_read_tests : ℕ → ℕ → List Test
+  sized_read_tests m named =
       test (eqb named (row_size * m)) wrong_contents rows_length_at
       ∷ test (leb (input_rows + row_size * m) size) wrong_contents size
       ∷ test (leb size (input_rows + row_size * m)) wrong_contents (input_rows + row_size * m)
       ∷ []
 
-  pub lengths_read :
+  pub sized_lengths_read :
       input_rows ≤ size → (m named : ℕ) → m ≡ little 2 s row_count_at → named ≡ little 4 s rows_length_at
-      → due (read_tests m named) ≡ due (length_tests s size)
+      → due (sized_read_tests m named) ≡ due (sized_length_tests s size)
   unfolding due header_in
-  lengths_read h m named e f = rw (← e, ← f, le-leb input_rows size h)
+  sized_lengths_read h m named e f = rw (← e, ← f, le-leb input_rows size h)
+
+-- of a file that is held whole
+module _ (s : List ℕ) where
+  pub no_header : length s < input_rows → refusal wrong_contents (length s) ≡ due (length_tests s)
+  no_header = sized_no_header s (length s)
+
+  -- the tests with the numbers that were read
+  abbrev pub read_tests : ℕ → ℕ → List Test
+  read_tests m named =
+      test (eqb named (row_size * m)) wrong_contents rows_length_at
+      ∷ test (leb (input_rows + row_size * m) (length s)) wrong_contents (length s)
+      ∷ test (leb (length s) (input_rows + row_size * m)) wrong_contents (input_rows + row_size * m)
+      ∷ []
+
+  pub lengths_read :
+      input_rows ≤ length s → (m named : ℕ) → m ≡ little 2 s row_count_at → named ≡ little 4 s rows_length_at
+      → due (read_tests m named) ≡ due (length_tests s)
+  lengths_read = sized_lengths_read s (length s)
 
 -- ---- rows
 module _ (s : List ℕ) (from m : ℕ) where
@@ -107,13 +126,13 @@ pub record RightContents (s : List ℕ) : Type 0 where
 
 pub sized_end : (s : List ℕ) (size : ℕ) → Holds (sized_tests s size) → size ≡ named_end s
 sized_end s size h =
-    let p = parted (field_tests s) (length_tests s size) h in
+    let p = parted (field_tests s) (sized_length_tests s size) h in
     omega (arith, leb-true (named_end s) size p.1.1.1.0, leb-true size (named_end s) p.1.1.1.1.0)
 
 module _ (s : List ℕ) where
   pub contents_of : Holds (contents_tests s) → RightContents s
   contents_of h =
-      let p = parted (field_tests s) (length_tests s (length s)) h in
+      let p = parted (field_tests s) (length_tests s) h in
       record {
         fields = p.0;
         named = eqb-true (little 4 s rows_length_at) (rows_length s) p.1.1.0;
@@ -122,7 +141,7 @@ module _ (s : List ℕ) where
 
   pub of_contents : RightContents s → Holds (contents_tests s)
   of_contents c =
-      holds_both (field_tests s) (length_tests s (length s)) c.fields (
+      holds_both (field_tests s) (length_tests s) c.fields (
         le-leb input_rows (length s) (omega (arith, c.size)),
         (
           eq-eqb (little 4 s rows_length_at) (rows_length s) c.named,

@@ -1,20 +1,16 @@
--- Laws of writing: the test of the blocks, what holds where nothing is refused, and the bytes put one run behind the other.
-use Rattle.std.specs.Prelude.{◌≡◌, ℕ, ◌+◌, ◌*◌, ◌<◌, ◌≤◌, Bool, true, leb, List, [], ◌∷◌, ◌++◌, length, get_or}
+-- Laws of writing: what holds where it is not refused, and the bytes put one run behind the other.
+use Rattle.std.specs.Prelude.{◌≡◌, ℕ, ◌+◌, ◌*◌, ◌≤◌, leb, List, [], ◌∷◌, ◌++◌, length}
 use native.Mathlib.Omega.{arith}
-use borrow.Author.Tests.{leb-true, leb-false, le-leb, lt-leb}
+use borrow.Author.Tests.{leb-true}
 use mathlib.Core.Path.{refl, ap, sym, ◌∙◌}
 use mathlib.Core.List.{append_assoc}
 use lib.ListN.{length-append}
 use lib.Seq.{sets}
 use Rattle.columns.specs.declared.answers.Refusal.{Refusal}
-use Rattle.columns.specs.Answers.{refusal, none}
 use Rattle.columns.specs.Columns.{over}
-use Rattle.columns.specs.Counting.{first}
-use Rattle.columns.specs.Due.{due, states_test, room_test}
-use Rattle.columns.specs.Limits.{max_states, out_of_range}
+use Rattle.columns.specs.Due.{states_test, room_test}
+use Rattle.columns.specs.Limits.{max_states}
 use Rattle.columns.proofs.Chains.{passed, parted}
-use Rattle.columns.proofs.Counting.{first_law}
-use Rattle.columns.proofs.Firsts.{NoneBelow, first_hit, first_past}
 use Rattle.columns.proofs.Rooms.{range_of}
 use Rattle.table.specs.Lts.{Lts, Valid}
 use Rattle.table.specs.Checks.{table_tests}
@@ -31,63 +27,34 @@ use Rattle.file.specs.Output.{
   output_contents,
   output_bytes,
   output_size,
-  bad_block,
-  blocks_test,
   write_refusal,
 }
 use Rattle.file.proofs.Stores.{sets_then, sets_over, length-words}
 use Rattle.columns.proofs.Laid.{length_even}
 
--- ---- the blocks
--- the block of s is not below n
-abbrev pub outside : ℕ → List ℕ → ℕ → Bool
-outside n blocks s = leb n (get_or blocks s 0)
-
-module _ (n k : ℕ) (blocks : List ℕ) where
-  -- the first k are below n
-  pub blocks_right : (s : ℕ) → s ≤ k → k ≤ s → NoneBelow (outside n blocks) s → none ≡ due (blocks_test n k blocks ∷ [])
-  unfolding due bad_block
-  blocks_right s h g r = rw (← first_past k (outside n blocks) s g r h, le-leb k s g)
-
-  -- that of s is the first that is not
-  pub block_wrong :
-      (s : ℕ) → s < k → NoneBelow (outside n blocks) s → n ≤ get_or blocks s 0
-      → refusal out_of_range (get_or blocks s 0) ≡ due (blocks_test n k blocks ∷ [])
-  unfolding due bad_block
-  block_wrong s h r w = rw (← first_hit k (outside n blocks) s h r (le-leb n (get_or blocks s 0) w), lt-leb k s h)
-
-  blocks-below : leb k (bad_block n k blocks) ≡ true → (s : ℕ) → s < k → get_or blocks s 0 < n
-  unfolding bad_block
-  blocks-below e s h =
-      let f = outside n blocks in
-      leb-false n (get_or blocks s 0) ((first_law k f).before s (omega (arith, h, leb-true k (first k f) e)))
-
 -- ---- what the writer goes by
-module _ (t : Lts) (k : ℕ) (blocks : List ℕ) (room : ℕ) where
+module _ (t : Lts) (k blocks room : ℕ) where
   pub record Writable : Type 0 where
     pub some : 1 ≤ k
     pub few : k ≤ max_states
     pub valid : Valid t
-    pub blocks_long : k ≤ length blocks
-    pub below : (s : ℕ) → s < k → get_or blocks s 0 < t.n
+    pub blocks_long : k ≤ blocks
     pub enough : output_size t.m k ≤ room
 
   pub writable : (r : Refusal) → r ≡ write_refusal t k blocks room → r.number ≡ 0 → Writable
   unfolding write_refusal
   writable r e z =
-      let long = leb k (length blocks) in
-      let last = blocks_test t.n k blocks ∷ room_test (output_size t.m k) room ∷ [] in
-      let h = passed (states_test k ∷ (table_tests t long ++ last)) refl r e z in
+      let last = room_test (output_size t.m k) room in
+      let h = passed (states_test k ∷ (table_tests t (leb k blocks) ++ (last ∷ []))) refl r e z in
       let w = range_of 1 k max_states h.0 in
-      let p = parted (table_tests t long) last h.1 in
-      let c = checked_of t long p.0 in
+      let p = parted (table_tests t (leb k blocks)) (last ∷ []) h.1 in
+      let c = checked_of t (leb k blocks) p.0 in
       record {
         some = w.0;
         few = w.1;
         valid = c.valid;
-        blocks_long = leb-true k (length blocks) c.enough;
-        below = blocks-below t.n k blocks p.1.0;
-        enough = leb-true (output_size t.m k) room p.1.1.0;
+        blocks_long = leb-true k blocks c.enough;
+        enough = leb-true (output_size t.m k) room p.1.0;
       }
 
 -- ---- how many bytes

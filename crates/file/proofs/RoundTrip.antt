@@ -1,12 +1,12 @@
--- A table's input file reads back to the table, and an output file to its table and its blocks. The columns of a table may be longer than
--- m cells: a file has the first m.
+-- A table's input file reads back to the table, and so do the rows and the header of its output file, with an input's contents before
+-- them; an output file reads back to its table and its blocks. The columns of a table may be longer than m cells: a file has the first m.
 use Rattle.std.specs.Prelude.{◌≡◌, ℕ, ◌+◌, ◌*◌, ◌/◌, ◌<◌, ◌≤◌, true, ◌&&◌, eqb, leb, List, [], ◌∷◌, ◌++◌, length, get_or, take, drop}
 use native.Mathlib.Omega.{arith}
 use borrow.Author.Tests.{le-leb, eq-eqb}
 use mathlib.Core.Path.{refl, ap, sym, ◌∙◌, subst, subst⁻¹}
 use mathlib.Core.List.{append_assoc, append-nil}
 use lib.ListN.{length-map}
-use lib.Seq.{get_or-take, length-take-le, take_all}
+use lib.Seq.{get_or-take, length-take-le, take_all, take_at, drop_at}
 use Rattle.columns.specs.Answers.{done, none}
 use Rattle.columns.specs.Columns.{listed, laid, over}
 use Rattle.columns.specs.Due.{Roomy}
@@ -26,6 +26,7 @@ use Rattle.file.specs.Layout.{
   input_rows,
   row_size,
   block_size,
+  header_size,
   blocks_offset_at,
   blocks_length_at,
   output_header,
@@ -179,6 +180,34 @@ block_back t blocks r s h small =
     ∙ ap (λ (x : List ℕ). little 2 x (output_blocks t.m + block_size * s)) (append_assoc before (words blocks) r)
     ∙ little_at 2 before (words blocks ++ r) (output_blocks t.m + block_size * s) (2 * s) (omega (arith, length_before t (length blocks)))
     ∙ word_at blocks r s h small
+
+-- ---- an output file: its header and rows are those of the input file
+module _ (t : Lts) (blocks r : List ℕ) where
+  abbrev front_contents : List ℕ
+  front_contents = output_contents t.m (length blocks)
+
+  -- how many bytes kinds 1 and 2 have
+  abbrev pub table_size : ℕ
+  table_size = header_size + row_size * t.m
+
+  length_contents : length front_contents ≡ output_header
+  unfolding output_contents
+  length_contents = refl
+
+  -- What the writer writes has the table's bytes behind the contents, whatever follows.
+  pub bodies_back : take table_size (drop output_header (output_bytes t blocks ++ r)) ≡ table_bytes t
+  unfolding output_bytes
+  bodies_back =
+      ap (λ (x : List ℕ). take table_size (drop output_header x)) (append_assoc front_contents (table_bytes t ++ words blocks) r)
+      ∙ ap (λ (x : List ℕ). take table_size x) (drop_at front_contents ((table_bytes t ++ words blocks) ++ r) output_header length_contents)
+      ∙ ap (λ (x : List ℕ). take table_size x) (append_assoc (table_bytes t) (words blocks) r)
+      ∙ take_at (table_bytes t) (words blocks ++ r) table_size (length_table t)
+
+  -- So header and rows of what the writer writes, with an input's contents before them, read back to the same table.
+  pub written_back :
+      Valid t → table_in (input_contents t.m ++ take table_size (drop output_header (output_bytes t blocks ++ r))) ≡ cut_to t
+  unfolding input_bytes
+  written_back v = ap (λ (x : List ℕ). table_in (input_contents t.m ++ x)) bodies_back ∙ table_back t v
 
 -- ---- an output file: its table and its blocks
 module _ (t : Lts) (blocks r : List ℕ) where

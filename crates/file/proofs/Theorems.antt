@@ -169,11 +169,10 @@ held_whole s columns k z h = take_all k s (omega (arith, h, input_size s columns
 
 -- ---- writing
 -- An output file has at most 57,384.
-pub output_size_lem :
-    (t : Lts) (k : ℕ) (blocks : List ℕ) (room : ℕ) → (write_refusal t k blocks room).number ≡ 0 → output_size t.m k ≤ largest_output
+pub output_size_lem : (t : Lts) (k blocks room : ℕ) → (write_refusal t k blocks room).number ≡ 0 → output_size t.m k ≤ largest_output
 output_size_lem t k blocks room z = let w = writable t k blocks room _ refl z in omega (arith, w.few, w.valid.few_rows)
 
-module _ (t : Lts) (k : ℕ) (blocks bytes : List ℕ) (z : (write_refusal t k blocks (length bytes)).number ≡ 0) where
+module _ (t : Lts) (k : ℕ) (blocks bytes : List ℕ) (z : (write_refusal t k (length blocks) (length bytes)).number ≡ 0) where
   -- what a call leaves that is not refused
   abbrev pub written : List ℕ
   written = (write_file t k blocks bytes).1
@@ -184,31 +183,31 @@ module _ (t : Lts) (k : ℕ) (blocks bytes : List ℕ) (z : (write_refusal t k b
   over_front : over (output_bytes t front) bytes ≡ written
   unfolding write_file
   over_front =
-      let r = write_refusal t k blocks (length bytes) in
+      let r = write_refusal t k (length blocks) (length bytes) in
       let file = over (output_bytes t front) bytes in
       let size = output_size t.m k ∷ [] in
       ap (λ (p : Said × List ℕ). p.1) (left_done r r refl bytes file size (done size) file z refl refl)
 
-  small : (s : ℕ) → s < length front → get_or front s 0 < t.n
-  small s h =
-      let w = writable t k blocks (length bytes) _ refl z in
-      let l : s < k = omega (arith, h, length-take-le k blocks w.blocks_long) in
-      omega (arith, get_or-take k blocks s 0 l, w.below s l)
-
-  -- What is written reads back: the table, with columns of m cells, and the blocks; and each block is below n.
-  pub written_back :
-      (table_out written ≡ cut_to t) × (blocks_out written ≡ take k blocks) × ((s : ℕ) → s < k → get_or (blocks_out written) s 0 < t.n)
+  -- What is written reads back: the table, with columns of m cells, and the blocks, which are numbers of two bytes.
+  pub written_decoded :
+      ((s : ℕ) → s < k → get_or blocks s 0 < 65536) → (table_out written ≡ cut_to t) × (blocks_out written ≡ take k blocks)
   unfolding over
-  written_back =
-      let w = writable t k blocks (length bytes) _ refl z in
-      let n = w.valid.few_states in
+  written_decoded small =
+      let w = writable t k (length blocks) (length bytes) _ refl z in
       let cut = length-take-le k blocks w.blocks_long in
       let behind = drop (length (output_bytes t front)) bytes in
-      let back : blocks_out written ≡ front
-      = ap blocks_out (sym over_front)
-      ∙ blocks_out_lem t front behind (omega (arith, w.valid.few_rows)) (omega (arith, cut, w.few))
-      (λ s h. omega (arith, small s h, n)) in (
+      let narrow : (s : ℕ) → s < length front → get_or front s 0 < 65536
+      = λ s h. let l : s < k = omega (arith, h, cut) in omega (arith, get_or-take k blocks s 0 l, small s l) in (
         ap table_out (sym over_front) ∙ table_out_lem t front behind w.valid,
-        back,
-        λ s h. omega (arith, ap (λ (l : List ℕ). get_or l s 0) back, small s (omega (arith, h, cut))),
+        ap blocks_out (sym over_front)
+            ∙ blocks_out_lem t front behind (omega (arith, w.valid.few_rows)) (omega (arith, cut, w.few)) narrow,
       )
+
+  -- So each block that is read is below n if the blocks were.
+  pub decoded_below :
+      ((s : ℕ) → s < k → get_or blocks s 0 < t.n) → (s : ℕ) → s < k → get_or (blocks_out written) s 0 < t.n
+  decoded_below below s h =
+      let w = writable t k (length blocks) (length bytes) _ refl z in
+      let n = w.valid.few_states in
+      let back = (written_decoded (λ i g. omega (arith, below i g, n))).1 in
+      omega (arith, ap (λ (l : List ℕ). get_or l s 0) back, get_or-take k blocks s 0 h, below s h)

@@ -78,21 +78,17 @@ rows_length s = row_size * (header_in s).m
 abbrev pub named_end : List ℕ → ℕ
 named_end s = input_rows + rows_length s
 
--- a file that has no room for a header; the length of kind 2; a file shorter than named, and a longer one. The file has `size` bytes, and
--- s are all of them or the first
-abbrev pub length_tests : List ℕ → ℕ → List Test
-length_tests s size =
-    test (nat_le input_rows size) wrong_contents size
+-- a file that has no room for a header; the length of kind 2; a file shorter than named, and a longer one
+abbrev pub length_tests : List ℕ → List Test
+length_tests s =
+    test (nat_le input_rows (length s)) wrong_contents (length s)
     ∷ test (little 4 s rows_length_at == rows_length s) wrong_contents rows_length_at
-    ∷ test (nat_le (named_end s) size) wrong_contents size
-    ∷ test (nat_le size (named_end s)) wrong_contents (named_end s)
+    ∷ test (nat_le (named_end s) (length s)) wrong_contents (length s)
+    ∷ test (nat_le (length s) (named_end s)) wrong_contents (named_end s)
     ∷ []
 
-abbrev pub sized_tests : List ℕ → ℕ → List Test
-sized_tests s size = field_tests s ++ length_tests s size
-
 abbrev pub contents_tests : List ℕ → List Test
-contents_tests s = sized_tests s (length s)
+contents_tests s = field_tests s ++ length_tests s
 
 -- 13, then 1, 2, 3, 4, 7 (`room`: there are columns for the rows), 5 and 6
 abbrev pub file_tests : List ℕ → Bool → List Test
@@ -104,6 +100,18 @@ unfolding due little header_in table_in rows_long bad_row all_long
 file_refusal s columns = due (file_tests s (all_long (header_in s).m columns))
 
 -- ---- the refusal of a file of which only the front is held, and the rest is counted
+-- the tests of the lengths and of the contents, of a file of `size` bytes: s are all of them or the first
+abbrev pub sized_length_tests : List ℕ → ℕ → List Test
+sized_length_tests s size =
+    test (nat_le input_rows size) wrong_contents size
+    ∷ test (little 4 s rows_length_at == rows_length s) wrong_contents rows_length_at
+    ∷ test (nat_le (named_end s) size) wrong_contents size
+    ∷ test (nat_le size (named_end s)) wrong_contents (named_end s)
+    ∷ []
+
+abbrev pub sized_tests : List ℕ → ℕ → List Test
+sized_tests s size = field_tests s ++ sized_length_tests s size
+
 -- 1, 2, 3
 abbrev pub count_tests : Table → List Test
 count_tests t = states_test t.n ∷ labels_test t.labels ∷ test (nat_le t.m max_rows) wrong_rows 0 ∷ []

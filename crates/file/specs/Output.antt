@@ -1,11 +1,9 @@
 -- The bytes of a file: an input file with kinds 1 and 2, an output file with kinds 1, 2 and 3, and what writing one leaves.
-use Rattle.std.specs.Prelude.{◌≡◌, ℕ, ◌+◌, ◌*◌, leb, List, [], ◌∷◌, ◌++◌, length, take, nat_le, slice_index}
+use Rattle.std.specs.Prelude.{◌≡◌, ℕ, ◌+◌, ◌*◌, List, [], ◌∷◌, ◌++◌, length, take, nat_le, slice_index}
 use Rattle.columns.specs.declared.answers.Refusal.{Refusal}
 use Rattle.columns.specs.Answers.{Said, leaving}
 use Rattle.columns.specs.Columns.{laid, over}
-use Rattle.columns.specs.Counting.{first}
-use Rattle.columns.specs.Due.{Test, test, due, states_test, Roomy, room_test}
-use Rattle.columns.specs.Limits.{out_of_range}
+use Rattle.columns.specs.Due.{due, states_test, Roomy, room_test}
 use Rattle.table.specs.Lts.{Lts, Valid}
 use Rattle.table.specs.Checks.{rows_long, bad_row, table_tests}
 use Rattle.file.specs.Bytes.{bytes_of, words}
@@ -87,25 +85,15 @@ abbrev pub output_size : ℕ → ℕ → ℕ
 output_size m k = output_blocks m + block_size * k
 
 -- ---- writing
--- the first of k source states whose block is not below n, k if there is none
-unfoldable pub bad_block : ℕ → ℕ → List ℕ → ℕ
-unfolding first
-bad_block n k blocks = first k (λ s. leb n (slice_index blocks s))
-
--- 8 for it, with its block
-abbrev pub blocks_test : ℕ → ℕ → List ℕ → Test
-blocks_test n k blocks = test (nat_le k (bad_block n k blocks)) out_of_range (slice_index blocks (bad_block n k blocks))
-
--- 1 (for k as for n), 2, 3, 4, 7 (the blocks are a column of k cells), 5, 6, 8 and 16; the bytes by their length
-unfoldable pub write_refusal : Lts → ℕ → List ℕ → ℕ → Refusal
-unfolding due rows_long bad_row bad_block
+-- 1 (for k as for n), 2, 3, 4, 7 (the blocks are a column of k cells), 5, 6 and 16; the blocks and the bytes by their lengths
+unfoldable pub write_refusal : Lts → ℕ → ℕ → ℕ → Refusal
+unfolding due rows_long bad_row
 write_refusal t k blocks room =
-    due (states_test k
-    ∷ (table_tests t (nat_le k (length blocks)) ++ (blocks_test t.n k blocks ∷ room_test (output_size t.m k) room ∷ [])))
+    due (states_test k ∷ (table_tests t (nat_le k blocks) ++ (room_test (output_size t.m k) room ∷ [])))
 
 -- the file of the table and the first k blocks goes over the first bytes; how many is said
 unfoldable pub write_file : Lts → ℕ → List ℕ → List ℕ → Said × List ℕ
 unfolding leaving write_refusal over output_bytes
 write_file t k blocks bytes =
-    leaving (write_refusal t k blocks (length bytes)) bytes (output_size t.m k ∷ [])
+    leaving (write_refusal t k (length blocks) (length bytes)) bytes (output_size t.m k ∷ [])
     (over (output_bytes t (take k blocks)) bytes)

@@ -2,7 +2,7 @@
 ghost use Rattle.std.specs.Prelude.{◌≡◌, ◌+◌, ◌*◌, ◌<◌, ◌≤◌, [], ◌∷◌, length};
 ghost use Rattle.columns.specs.Due.{due};
 ghost use Rattle.table.specs.Checks.{table_tests};
-ghost use Rattle.file.specs.Input.{with_rows, field_test, field_tests, length_tests, sized_tests, file_refusal, long_refusal};
+ghost use Rattle.file.specs.Input.{with_rows, field_test, field_tests, length_tests, sized_length_tests, sized_tests, file_refusal, long_refusal};
 ghost use Rattle.file.specs.Layout.{row_size, input_rows, largest_input};
 
 use crate::cores::{header, read_rows};
@@ -44,11 +44,17 @@ fn fields_refusal(bytes: &[u8]) -> Refusal
     or_else(entries, or_else(header, or_else(rows_kind, rows_offset)))
 }
 
-// 13 for a file without room for a header, for rows of another length than the header says, for a file that ends elsewhere. The file has
-// `size` bytes, and its header, if it has one, is here.
-fn length_refusal(bytes: &[u8], size: usize) -> Refusal
+// 13 for a file without room for a header, for rows of another length than the header says, for a file that ends elsewhere.
+fn length_refusal(bytes: &[u8]) -> Refusal
+    ensures { result ≡ due (length_tests bytes.now) }
+{
+    sized_length_refusal(bytes, bytes.len())
+}
+
+// The same of a file of `size` bytes, whose header, if it has one, is here.
+fn sized_length_refusal(bytes: &[u8], size: usize) -> Refusal
     requires { input_rows ≤ size → input_rows ≤ length bytes.now }
-    ensures { result ≡ due (length_tests bytes.now size) }
+    ensures { result ≡ due (sized_length_tests bytes.now size) }
 {
     if size < INPUT_ROWS {
         return refuse(WRONG_CONTENTS, size as u64);
@@ -62,12 +68,12 @@ fn length_refusal(bytes: &[u8], size: usize) -> Refusal
     or_else(other, or_else(short, longer))
 }
 
-// 13 for the first wrong field of the contents, or a wrong length.
+// 13 for the first wrong field of the contents, or a wrong length, of a file of `size` bytes.
 fn contents_refusal(bytes: &[u8], size: usize) -> Refusal
     requires { input_rows ≤ size → input_rows ≤ length bytes.now }
     ensures { result ≡ due (sized_tests bytes.now size) }
 {
-    or_else(fields_refusal(bytes), length_refusal(bytes, size))
+    or_else(fields_refusal(bytes), sized_length_refusal(bytes, size))
 }
 
 // What the table's own check says of a header and the rows in the file, which are read into columns of its own. More rows than a table may
@@ -91,7 +97,7 @@ fn table_refusal(table: Table, bytes: &[u8], room: bool) -> Refusal
 pub fn file_refusal(bytes: &[u8], columns: &[usize]) -> Refusal
     ensures { result ≡ file_refusal bytes.now columns.now }
 {
-    let t = contents_refusal(bytes, bytes.len());
+    let t = or_else(fields_refusal(bytes), length_refusal(bytes));
     let number = t.number;
     if number != 0 {
         return t;

@@ -1,10 +1,10 @@
 -- What the parts of `reduce_file` do is what it is defined to do.
-use Rattle.std.specs.Prelude.{◌≡◌, ℕ, ◌<◌, ◌≤◌, Bool, true, List, [], ◌∷◌, ◌++◌, length, take, drop}
+use Rattle.std.specs.Prelude.{◌≡◌, ℕ, ◌<◌, ◌≤◌, Bool, true, List, [], ◌∷◌, ◌++◌, length, get_or, take, drop}
 use native.Mathlib.Omega.{arith}
 use borrow.Author.Tests.{lt-leb, le-leb}
 use mathlib.Core.Logic.{⊎_elim}
 use mathlib.Core.Path.{refl, ap, ◌∙◌}
-use lib.ListN.{length-append, length-map}
+use lib.ListN.{length-append, length-map, get_or-append}
 use lib.Seq.{take_at}
 use Rattle.columns.specs.Answers.{refusal, none, leaving}
 use Rattle.columns.specs.Columns.{over}
@@ -114,6 +114,12 @@ module _ (t : Lts) (column p : List ℕ) (e : p ≡ strong_blocks t) where
 
   pub front_long : t.n ≤ length (p ++ drop t.n column)
   front_long = omega (arith, length-append p (drop t.n column), size)
+
+  pub front_few : t.n ≤ max_states → length (take t.n (p ++ drop t.n column)) < 65536
+  front_few h = omega (arith, h, ap length front_blocks, length-blocks t)
+
+  pub block_at_lem : (s : ℕ) → s < t.n → get_or (p ++ drop t.n column) s 0 ≡ strong_block t s
+  block_at_lem s h = get_or-append p (drop t.n column) 0 s (omega (arith, h, size)) ∙ ap (λ (l : List ℕ). get_or l s 0) e
 
 -- ---- 16, or room enough
 module _ (needed room : ℕ) where

@@ -1,5 +1,7 @@
 // From file to file: the table of an input file is reduced strongly, and written as an output file. All memory is the call's own: no work
 // is lent.
+#![tactic(auto)]
+
 ghost use Rattle.std.specs.Prelude.{◌≡◌, ◌<◌, [], ◌∷◌, length};
 ghost use Rattle.columns.specs.Columns.{EachLong};
 ghost use Rattle.file.specs.Input.{table_in, named_end};
@@ -123,9 +125,8 @@ fn put_file(
     output: &mut [u8],
 ) -> FileAnswer
     requires { RowsLong (lts reduced source.now label.now target.now) × (length blocks.now < 65536) }
-    ensures* { λ r.
-        let result = lts reduced source.now label.now target.now in
-        ⌜ (said_file r, output.new) ≡ put_file table rounds result blocks.now output.old ⌝ }
+    ensures { let between = lts reduced source.now label.now target.now in
+        (said_file result, output.new) ≡ put_file table rounds between blocks.now output.old }
 {
     let needed = output_size(reduced.m as usize, blocks.len());
     if output.len() < needed {

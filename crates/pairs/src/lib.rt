@@ -1,4 +1,6 @@
 // Whether one signature is in another, and 15 for lists of pairs.
+#![tactic(auto)]
+
 pub mod checks;
 pub mod cores;
 pub mod lists;

@@ -2,7 +2,7 @@
 use Rattle.columns.proofs.Lists.{set_here}
 use Prim.Native.Nat.{ℕ, ◌≤◌, ◌<◌}
 use native.Mathlib.Omega.{arith}
-use mathlib.Core.Path.{◌≡◌, ap, ◌∙◌}
+use mathlib.Core.Path.{◌≡◌, ap}
 use mathlib.Core.Logic.{⊎_elim}
 use mathlib.Core.List.{List}
 use lib.ListN.{length, get_or, set, length-set}
@@ -23,7 +23,7 @@ order_sound p g l o ll lo order places lies =
         element_offset = lo;
         element_to_block = g.long.element_to_block;
         begin = g.long.begin;
-        marked_split_lem = g.long.marked_split_lem;
+        marked_split = g.long.marked_split;
         end = g.long.end;
       };
       consistent = record {
@@ -38,11 +38,11 @@ order_sound p g l o ll lo order places lies =
     }
 
 module _ (p : Partition) (h : Consistent p) (g : Long p) (b m : ℕ) (hb : b < p.count) where
-  room : b < length p.marked_split_lem
-  room = omega (arith, hb, h.most, g.marked_split_lem)
+  room : b < length p.marked_split
+  room = omega (arith, hb, h.most, g.marked_split)
 
-  pub marks_begin : get_or (set p.marked_split_lem b m) b 0 ≡ m
-  marks_begin = get_or-set_same p.marked_split_lem b m 0 room
+  pub marks_begin : get_or (set p.marked_split b m) b 0 ≡ m
+  marks_begin = get_or-set_same p.marked_split b m 0 room
 
   pub marks_long : Long (with_split p b m)
   marks_long = record {
@@ -50,18 +50,18 @@ module _ (p : Partition) (h : Consistent p) (g : Long p) (b m : ℕ) (hb : b < p
     element_offset = g.element_offset;
     element_to_block = g.element_to_block;
     begin = g.begin;
-    marked_split_lem = omega (arith, g.marked_split_lem, length-set p.marked_split_lem b m);
+    marked_split = omega (arith, g.marked_split, length-set p.marked_split b m);
     end = g.end;
   }
 
   module _ (low : get_or p.begin b 0 ≤ m) (high : m ≤ get_or p.end b 0) where
     pub marks_bounds :
-        (j : ℕ) → j < p.count → Within (get_or p.begin j 0) (get_or (set p.marked_split_lem b m) j 0) (get_or p.end j 0) p.n
+        (j : ℕ) → j < p.count → Within (get_or p.begin j 0) (get_or (set p.marked_split b m) j 0) (get_or p.end j 0) p.n
     marks_bounds j w =
         let i = h.bounds j w in
         ⊎_elim
         (λ (e : j ≡ b).
-        let x = set_here p.marked_split_lem b m j room e in
+        let x = set_here p.marked_split b m j room e in
         record {
           some = i.some;
           from = omega (arith, x, low, ap (λ (y : ℕ). get_or p.begin y 0) e);
@@ -69,7 +69,7 @@ module _ (p : Partition) (h : Consistent p) (g : Long p) (b m : ℕ) (hb : b < p
           most = i.most;
         })
         (λ (n : j ≡ b → ⊥).
-        let x = get_or-set_other p.marked_split_lem b j m 0 n in
+        let x = get_or-set_other p.marked_split b j m 0 n in
         record { some = i.some; from = omega (arith, x, i.from); to = omega (arith, x, i.to); most = i.most })
         (same_or_not j b)
 

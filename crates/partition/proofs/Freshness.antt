@@ -1,5 +1,5 @@
 -- Laws of `fresh`: what the code writes, and that it is a partition.
-use Prim.Native.Nat.{ℕ, ◌+◌, ◌≤◌, ◌<◌}
+use Prim.Native.Nat.{ℕ, ◌≤◌, ◌<◌}
 use native.Mathlib.Omega.{arith}
 use mathlib.Core.Path.{◌≡◌, refl, ap, ◌∙◌}
 use mathlib.Core.List.{List, ◌++◌}
@@ -18,7 +18,7 @@ pub fresh_done :
     → o ≡ listed (length (take p.n p.element_offset)) (λ k. k)
     → b ≡ zeros (length (take p.n p.element_to_block))
     → parts (e ++ drop p.n p.elements) (o ++ drop p.n p.element_offset) (b ++ drop p.n p.element_to_block)
-    (set p.begin 0 0) (set p.marked_split_lem 0 0) (set p.end 0 p.n) p.n p.count
+    (set p.begin 0 0) (set p.marked_split 0 0) (set p.end 0 p.n) p.n p.count
     ≡ fresh p
 unfolding fresh
 fresh_done p l e o b he ho hb =
@@ -47,18 +47,18 @@ module _ (p : Partition) (some : 1 ≤ p.n) (small : p.n ≤ max_states) (l : Lo
   at_begin : get_or (set p.begin 0 0) 0 0 ≡ 0
   at_begin = get_or-set_same p.begin 0 0 0 (omega (arith, l.begin))
 
-  at_split : get_or (set p.marked_split_lem 0 0) 0 0 ≡ 0
-  at_split = get_or-set_same p.marked_split_lem 0 0 0 (omega (arith, l.marked_split_lem))
+  at_split : get_or (set p.marked_split 0 0) 0 0 ≡ 0
+  at_split = get_or-set_same p.marked_split 0 0 0 (omega (arith, l.marked_split))
 
   at_end : get_or (set p.end 0 p.n) 0 0 ≡ p.n
   at_end = get_or-set_same p.end 0 p.n 0 (omega (arith, l.end))
 
-  bounds : (b : ℕ) → b < p.count → Within (get_or (set p.begin 0 0) b 0) (get_or (set p.marked_split_lem 0 0) b 0)
+  bounds : (b : ℕ) → b < p.count → Within (get_or (set p.begin 0 0) b 0) (get_or (set p.marked_split 0 0) b 0)
       (get_or (set p.end 0 p.n) b 0) p.n
   bounds b w =
       let z : b ≡ 0 = omega (arith, one) in
       let x = ap (λ (k : ℕ). get_or (set p.begin 0 0) k 0) z ∙ at_begin in
-      let m = ap (λ (k : ℕ). get_or (set p.marked_split_lem 0 0) k 0) z ∙ at_split in
+      let m = ap (λ (k : ℕ). get_or (set p.marked_split 0 0) k 0) z ∙ at_split in
       let e = ap (λ (k : ℕ). get_or (set p.end 0 p.n) k 0) z ∙ at_end in
       record { some = omega (arith, x, e); from = omega (arith, x, m); to = omega (arith, m, e); most = omega (arith, e) }
 
@@ -101,7 +101,7 @@ module _ (p : Partition) (some : 1 ≤ p.n) (small : p.n ≤ max_states) (l : Lo
               l.element_to_block,
             );
         begin = omega (arith, length-set p.begin 0 0, l.begin);
-        marked_split_lem = omega (arith, length-set p.marked_split_lem 0 0, l.marked_split_lem);
+        marked_split = omega (arith, length-set p.marked_split 0 0, l.marked_split);
         end = omega (arith, length-set p.end 0 p.n, l.end);
       }
 

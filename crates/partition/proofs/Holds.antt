@@ -73,7 +73,7 @@ module _ (p : Partition) where
   t_order = inverseb p.elements p.element_offset p.n
 
   t_blocks : Bool
-  t_blocks = boundsb p.begin p.marked_split_lem p.end p.n p.count
+  t_blocks = boundsb p.begin p.marked_split p.end p.n p.count
 
   t_lies : Bool
   t_lies = liesb p.element_offset p.element_to_block p.begin p.end p.n p.count
@@ -95,7 +95,7 @@ module _ (p : Partition) where
         most = leb-true _ _ t2.left;
         order = order;
         places = other_way p.elements p.element_offset p.n order;
-        bounds = λ b l. within_of _ _ _ _ (all_at (block_at p.begin p.marked_split_lem p.end p.n) p.count b t4.left l);
+        bounds = λ b l. within_of _ _ _ _ (all_at (block_at p.begin p.marked_split p.end p.n) p.count b t4.left l);
         lies = λ s l.
             lies_of p s (all_at (lie_at p.element_offset p.element_to_block p.begin p.end p.count) p.n s t5.left l);
         whole = eqb-true _ _ t5.right;
@@ -108,14 +108,14 @@ module _ (p : Partition) where
       (and_both (le-leb _ _ h.most)
       (and_both (of_inverse p.elements p.element_offset p.n h.order)
       (and_both
-      (all_of (block_at p.begin p.marked_split_lem p.end p.n) p.count (λ b l. of_within _ _ _ _ (h.bounds b l)))
+      (all_of (block_at p.begin p.marked_split p.end p.n) p.count (λ b l. of_within _ _ _ _ (h.bounds b l)))
       (and_both
       (all_of (lie_at p.element_offset p.element_to_block p.begin p.end p.count) p.n (λ s l. of_lies p s (h.lies s l)))
       (eq-eqb _ _ h.whole)))))
 
   abbrev six : List ℕ
   six =
-      length p.elements ∷ length p.element_offset ∷ length p.element_to_block ∷ length p.begin ∷ length p.marked_split_lem
+      length p.elements ∷ length p.element_offset ∷ length p.element_to_block ∷ length p.begin ∷ length p.marked_split
       ∷ length p.end ∷ []
 
   pub long_of : longb p ≡ true → Long p
@@ -127,7 +127,7 @@ module _ (p : Partition) where
         element_offset = h.1.0;
         element_to_block = h.1.1.0;
         begin = h.1.1.1.0;
-        marked_split_lem = h.1.1.1.1.0;
+        marked_split = h.1.1.1.1.0;
         end = h.1.1.1.1.1.0;
       }
 
@@ -135,7 +135,7 @@ module _ (p : Partition) where
   unfolding longb
   of_long h =
       of_roomy p.n six
-      (h.elements, (h.element_offset, (h.element_to_block, (h.begin, (h.marked_split_lem, (h.end, tt))))))
+      (h.elements, (h.element_offset, (h.element_to_block, (h.begin, (h.marked_split, (h.end, tt))))))
 
 -- the bounds of a block given alone
 pub sound_of : (b : Block) → boundedb b ≡ true → Within b.begin b.marked_split b.end max_states

@@ -24,7 +24,7 @@ module _ (p : Partition) (h : Consistent p) (l : Long p) (s : ℕ) (w : s < p.n)
   o = get_or p.element_offset s 0
 
   m : ℕ
-  m = get_or p.marked_split_lem b 0
+  m = get_or p.marked_split b 0
 
   known : b < p.count
   unfolding b
@@ -56,7 +56,7 @@ module _ (p : Partition) (h : Consistent p) (l : Long p) (s : ℕ) (w : s < p.n)
     there : get_or p.element_to_block (get_or p.elements (m - 1) 0) 0 ≡ b
     there = owned p h b (m - 1) known (omega (arith, from)) (omega (arith, least))
 
-    moved_bounds : (k : ℕ) → k < p.count → Within (get_or p.begin k 0) (get_or (set p.marked_split_lem b (m - 1)) k 0) (get_or p.end k 0)
+    moved_bounds : (k : ℕ) → k < p.count → Within (get_or p.begin k 0) (get_or (set p.marked_split b (m - 1)) k 0) (get_or p.end k 0)
         p.n
     moved_bounds = marks_bounds p h l b (m - 1) known (omega (arith, from)) (omega (arith, least))
 

@@ -16,8 +16,8 @@ use Rattle.partition.specs.Cores.{Markable}
 use Rattle.partition.specs.Partition.{Partition, Sound}
 use Rattle.partition.specs.Marked.{unmarkedb}
 
-pub block_known : (p : Partition) (s b : ℕ) → b ≡ get_or p.element_to_block s 0 → Sound p → s < p.n → b < length p.marked_split_lem
-block_known p s b eb g w = let h = g.consistent in omega (arith, (h.lies s w).known, h.most, g.long.marked_split_lem)
+pub block_known : (p : Partition) (s b : ℕ) → b ≡ get_or p.element_to_block s 0 → Sound p → s < p.n → b < length p.marked_split
+block_known p s b eb g w = let h = g.consistent in omega (arith, (h.lies s w).known, h.most, g.long.marked_split)
 
 -- a state of a sound partition can be marked
 pub markable : (p : Partition) (s : ℕ) → Sound p → s < p.n → Markable p.element_to_block (marks_of p) s
@@ -44,9 +44,9 @@ mark_done p s c e = ap (with_marks p) e ∙ go (unmarkedb p s)
 
 -- ---- marking, by the numbers that the code has read
 module _ (home : List ℕ) (c : Marks) (s b o m : ℕ) (eb : b ≡ get_or home s 0) (eo : o ≡ get_or c.element_offset s 0)
-    (em : m ≡ get_or c.marked_split_lem b 0) where
-  limit : m ≡ get_or c.marked_split_lem (get_or home s 0) 0
-  limit = em ∙ ap (λ (x : ℕ). get_or c.marked_split_lem x 0) eb
+    (em : m ≡ get_or c.marked_split b 0) where
+  limit : m ≡ get_or c.marked_split (get_or home s 0) 0
+  limit = em ∙ ap (λ (x : ℕ). get_or c.marked_split x 0) eb
 
   -- what exchanging the two states asks for
   pub mark-reads : Markable home c s → o < m → o < 65536 → m < 65536
@@ -60,25 +60,25 @@ module _ (home : List ℕ) (c : Marks) (s b o m : ℕ) (eb : b ≡ get_or home s
 
   pub mark-moves : (e' o' : List ℕ) → o < m → e' ≡ swapped o (m - 1) c.elements
       → o' ≡ swapped_inverse o (m - 1) c.elements c.element_offset
-      → marks e' o' (set c.marked_split_lem b (m - 1)) ≡ mark_in home c s
+      → marks e' o' (set c.marked_split b (m - 1)) ≡ mark_in home c s
   unfolding mark_in moved_in
   mark-moves e' o' u ee ef =
-      rw (lt-ltb (get_or c.element_offset s 0) (get_or c.marked_split_lem (get_or home s 0) 0) (omega (arith, limit))) (cc)
+      rw (lt-ltb (get_or c.element_offset s 0) (get_or c.marked_split (get_or home s 0) 0) (omega (arith, limit))) (cc)
 
   pub mark_keeps : m ≤ o → c ≡ mark_in home c s
   unfolding mark_in
-  mark_keeps u = rw (le-ltb (get_or c.element_offset s 0) (get_or c.marked_split_lem (get_or home s 0) 0) (omega (arith, limit)))
+  mark_keeps u = rw (le-ltb (get_or c.element_offset s 0) (get_or c.marked_split (get_or home s 0) 0) (omega (arith, limit)))
 
 -- whether a state is marked, by the numbers that the code has read
 pub marked_read :
-    (p : Partition) (s b o m : ℕ) → b ≡ get_or p.element_to_block s 0 → o ≡ get_or p.element_offset s 0 → m ≡ get_or p.marked_split_lem b 0
+    (p : Partition) (s b o m : ℕ) → b ≡ get_or p.element_to_block s 0 → o ≡ get_or p.element_offset s 0 → m ≡ get_or p.marked_split b 0
     → leb m o ≡ not (unmarkedb p s)
 unfolding unmarkedb
 marked_read p s b o m eb eo em =
-    let f = ap (λ (x : ℕ). get_or p.marked_split_lem x 0) eb in
+    let f = ap (λ (x : ℕ). get_or p.marked_split x 0) eb in
     ⊎_elim
     (λ (h : o < m). lt-leb m o h ∙
-    ap not (sym (lt-ltb (get_or p.element_offset s 0) (get_or p.marked_split_lem (get_or p.element_to_block s 0) 0) (omega (arith, f)))))
+    ap not (sym (lt-ltb (get_or p.element_offset s 0) (get_or p.marked_split (get_or p.element_to_block s 0) 0) (omega (arith, f)))))
     (λ (h : m ≤ o). le-leb m o h ∙
-    ap not (sym (le-ltb (get_or p.element_offset s 0) (get_or p.marked_split_lem (get_or p.element_to_block s 0) 0) (omega (arith, f)))))
+    ap not (sym (le-ltb (get_or p.element_offset s 0) (get_or p.marked_split (get_or p.element_to_block s 0) 0) (omega (arith, f)))))
     (lt-or-le o m)

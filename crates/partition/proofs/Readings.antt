@@ -85,11 +85,11 @@ module _ (p : Partition) where
   pub is_element_marked_done :
       (s : ℕ) (values : List ℕ) → done values ≡ is_element_marked p s
       → Sound p × (s < p.n)
-      × SaysWhether values (get_or p.marked_split_lem (get_or p.element_to_block s 0) 0 ≤ get_or p.element_offset s 0)
+      × SaysWhether values (get_or p.marked_split (get_or p.element_to_block s 0) 0 ≤ get_or p.element_offset s 0)
   unfolding is_element_marked unmarkedb
   is_element_marked_done s values e =
       let o = get_or p.element_offset s 0 in
-      let m = get_or p.marked_split_lem (get_or p.element_to_block s 0) 0 in
+      let m = get_or p.marked_split (get_or p.element_to_block s 0) 0 in
       let d = answering_done (state_refusal p s) values (bit (not (ltb o m)) ∷ []) e in
       let r = argument_ready p s p.n true (state_refusal p s) refl d.0 in
       (r.sound, r.known, says_whether (not (ltb o m)) values d.1 (not_less o m, at_least o m))
@@ -107,10 +107,10 @@ module _ (p : Partition) where
   pub read_block_done :
       (b : ℕ) (values : List ℕ) → done values ≡ read_block p b
       → Sound p × (b < p.count)
-      × (values ≡ get_or p.begin b 0 ∷ get_or p.marked_split_lem b 0 ∷ get_or p.end b 0 ∷ [])
+      × (values ≡ get_or p.begin b 0 ∷ get_or p.marked_split b 0 ∷ get_or p.end b 0 ∷ [])
   unfolding read_block
   read_block_done b values e =
-      let d = answering_done (block_refusal p b) values (get_or p.begin b 0 ∷ get_or p.marked_split_lem b 0 ∷ get_or p.end b 0 ∷ []) e in
+      let d = answering_done (block_refusal p b) values (get_or p.begin b 0 ∷ get_or p.marked_split b 0 ∷ get_or p.end b 0 ∷ []) e in
       let r = argument_ready p b p.count true (block_refusal p b) refl d.0 in
       (r.sound, r.known, d.1)
 

@@ -2,7 +2,7 @@
 use Prim.Native.Nat.{ℕ, ◌≤◌, ◌<◌}
 use native.Mathlib.Omega.{arith}
 use mathlib.Core.Path.{◌≡◌, refl, ap, sym, ◌∙◌}
-use mathlib.Core.Logic.{◌⊎◌, ⊎_elim}
+use mathlib.Core.Logic.{⊎_elim}
 use mathlib.Core.List.{List}
 use lib.ListN.{length, get_or}
 use Rattle.columns.specs.Columns.{swapped}
@@ -60,16 +60,16 @@ module _ (p : Partition) (h : Consistent p) (g : Long p) (l r : ℕ) (hl : l < p
   unfolding swap
   swap_begin j = swapped_at l r p.begin j (omega (arith, h.most, g.begin)) (omega (arith, h.most, g.begin))
 
-  pub swap-split : (j : ℕ) → get_or (swap p l r).marked_split_lem j 0 ≡ get_or p.marked_split_lem (exchange l r j) 0
+  pub swap-split : (j : ℕ) → get_or (swap p l r).marked_split j 0 ≡ get_or p.marked_split (exchange l r j) 0
   unfolding swap
-  swap-split j = swapped_at l r p.marked_split_lem j (omega (arith, h.most, g.marked_split_lem)) (omega (arith, h.most, g.marked_split_lem))
+  swap-split j = swapped_at l r p.marked_split j (omega (arith, h.most, g.marked_split)) (omega (arith, h.most, g.marked_split))
 
   pub swap_end : (j : ℕ) → get_or (swap p l r).end j 0 ≡ get_or p.end (exchange l r j) 0
   unfolding swap
   swap_end j = swapped_at l r p.end j (omega (arith, h.most, g.end)) (omega (arith, h.most, g.end))
 
   bounds : (j : ℕ) → j < p.count
-      → Within (get_or (swap p l r).begin j 0) (get_or (swap p l r).marked_split_lem j 0) (get_or (swap p l r).end j 0) p.n
+      → Within (get_or (swap p l r).begin j 0) (get_or (swap p l r).marked_split j 0) (get_or (swap p l r).end j 0) p.n
   bounds j w =
       let i = h.bounds (exchange l r j) (exchange-below l r p.count j hl hr w) in
       record {
@@ -132,6 +132,6 @@ module _ (p : Partition) (h : Consistent p) (g : Long p) (l r : ℕ) (hl : l < p
               p.element_to_block g.element_to_block,
         );
         begin = omega (arith, g.begin, length-swapped l r p.begin);
-        marked_split_lem = omega (arith, g.marked_split_lem, length-swapped l r p.marked_split_lem);
+        marked_split = omega (arith, g.marked_split, length-swapped l r p.marked_split);
         end = omega (arith, g.end, length-swapped l r p.end);
       }

@@ -3,7 +3,7 @@ use Prim.Native.Nat.{ℕ, ◌≤◌, ◌<◌}
 use native.Mathlib.Omega.{arith}
 use borrow.Author.Tests.{eq-eqb, ne_eqb}
 use mathlib.Core.Path.{◌≡◌, ap, sym, subst, ◌∙◌}
-use mathlib.Core.Logic.{◌⊎◌, ⊎_elim}
+use mathlib.Core.Logic.{⊎_elim}
 use mathlib.Core.List.{List}
 use lib.ListN.{length, get_or}
 use lib.Seq.{ext_get_or}
@@ -122,7 +122,7 @@ swappable p s b w =
     let i = h.bounds b w in
     record {
       begin = omega (arith, h.most, g.begin);
-      marked_split_lem = omega (arith, h.most, g.marked_split_lem);
+      marked_split = omega (arith, h.most, g.marked_split);
       end = omega (arith, h.most, g.end);
       small = omega (arith, h.most, s.small);
       from = omega (arith, i.some);
@@ -136,7 +136,7 @@ pub swap_done : (p : Partition) → Sound p → (l r : ℕ) → l < p.count → 
 unfolding swap swap_in
 swap_done p s l r hl hr c e =
     ap (with_blocks p) e ∙
-    ap (λ (x : List ℕ). with_blocks p (blocks x (swapped l r p.begin) (swapped l r p.marked_split_lem) (swapped l r p.end)))
+    ap (λ (x : List ℕ). with_blocks p (blocks x (swapped l r p.begin) (swapped l r p.marked_split) (swapped l r p.end)))
     (renumbers p s.consistent s.long l r hl hr)
 
 -- ---- the exchange, by what the code has read and left
@@ -144,7 +144,7 @@ module _ (e : List ℕ) (c : Blocks) where
   pub swap_columns :
       (l r xl zl xr zr : ℕ)
       → xl ≡ get_or c.begin l 0 → zl ≡ get_or c.end l 0 → xr ≡ get_or c.begin r 0 → zr ≡ get_or c.end r 0
-      → (bg sp en b1 b2 : List ℕ) → bg ≡ swapped l r c.begin → sp ≡ swapped l r c.marked_split_lem → en ≡ swapped l r c.end
+      → (bg sp en b1 b2 : List ℕ) → bg ≡ swapped l r c.begin → sp ≡ swapped l r c.marked_split → en ≡ swapped l r c.end
       → b1 ≡ renumbered e xr zr l c.element_to_block → b2 ≡ renumbered e xl zl r b1 → blocks b2 bg sp en ≡ swap_in e c l r
   unfolding swap_in
   swap_columns l r xl zl xr zr e1 e2 e3 e4 bg sp en b1 b2 q1 q2 q3 q4 q5 = rw (q5, q4, q3, q2, q1, e1, e2, e3, e4)

@@ -63,7 +63,7 @@ pub record NewDone (p : Partition) (values : List ℕ) (q : Partition) : Type 0 
   pub left : q ≡ fresh p
   pub sound : Sound q
 
-module _ (p : Partition) (some : 0 < length p.marked_split_lem) where
+module _ (p : Partition) (some : 0 < length p.marked_split) where
   fresh_block : (s : ℕ) → s < p.n → get_or (fresh p).element_to_block s 0 ≡ 0
   unfolding fresh wiped
   fresh_block s h =
@@ -73,16 +73,16 @@ module _ (p : Partition) (some : 0 < length p.marked_split_lem) where
   unfolding fresh
   fresh_order s h = written_at p.n (λ k. k) p.elements s h
 
-  fresh-split : get_or (fresh p).marked_split_lem 0 0 ≡ 0
+  fresh-split : get_or (fresh p).marked_split 0 0 ≡ 0
   unfolding fresh
-  fresh-split = get_or-set_same p.marked_split_lem 0 0 0 some
+  fresh-split = get_or-set_same p.marked_split 0 0 0 some
 
   fresh_marked : (s : ℕ) → s < p.n → unmarkedb (fresh p) s ≡ false
   unfolding unmarkedb
   fresh_marked s h =
-      let z : get_or (fresh p).marked_split_lem (get_or (fresh p).element_to_block s 0) 0 ≡ 0
-      = ap (λ (b : ℕ). get_or (fresh p).marked_split_lem b 0) (fresh_block s h) ∙ fresh-split in
-      le-ltb (get_or (fresh p).element_offset s 0) (get_or (fresh p).marked_split_lem (get_or (fresh p).element_to_block s 0) 0) (omega (arith, z))
+      let z : get_or (fresh p).marked_split (get_or (fresh p).element_to_block s 0) 0 ≡ 0
+      = ap (λ (b : ℕ). get_or (fresh p).marked_split b 0) (fresh_block s h) ∙ fresh-split in
+      le-ltb (get_or (fresh p).element_offset s 0) (get_or (fresh p).marked_split (get_or (fresh p).element_to_block s 0) 0) (omega (arith, z))
 
 pub new_partition_done :
     (p : Partition) → p.count ≡ 1 → (values : List ℕ) (q : Partition) → (done values, q) ≡ new_partition p → NewDone p values q
@@ -90,7 +90,7 @@ unfolding new_partition
 new_partition_done p one values q e =
     let k = leaving_done (new_refusal p) p q (fresh p) values (p.n ∷ 1 ∷ []) e in
     let r = new_ready p (new_refusal p) refl k.0 in
-    let room : 0 < length p.marked_split_lem = omega (arith, r.some, r.long.marked_split_lem) in
+    let room : 0 < length p.marked_split = omega (arith, r.some, r.long.marked_split) in
     record {
       answer = k.1;
       block = λ s h. ap (λ (x : Partition). get_or x.element_to_block s 0) k.2 ∙ fresh_block p room s h;
@@ -134,7 +134,7 @@ pub record SwapDone (p : Partition) (l r : ℕ) (values : List ℕ) (q : Partiti
   pub answer : values ≡ []
   -- the two table entries are exchanged
   pub begin : (j : ℕ) → get_or q.begin j 0 ≡ get_or p.begin (exchange l r j) 0
-  pub marked_split_lem : (j : ℕ) → get_or q.marked_split_lem j 0 ≡ get_or p.marked_split_lem (exchange l r j) 0
+  pub marked_split : (j : ℕ) → get_or q.marked_split j 0 ≡ get_or p.marked_split (exchange l r j) 0
   pub end : (j : ℕ) → get_or q.end j 0 ≡ get_or p.end (exchange l r j) 0
   -- and their states renumbered
   pub block : (s : ℕ) → s < p.n → get_or q.element_to_block s 0 ≡ exchange l r (get_or p.element_to_block s 0)
@@ -158,7 +158,7 @@ swap_blocks_done p l r values q e =
       right = y.right;
       answer = k.1;
       begin = swap_begin p h g l r y.left y.right;
-      marked_split_lem = swap-split p h g l r y.left y.right;
+      marked_split = swap-split p h g l r y.left y.right;
       end = swap_end p h g l r y.left y.right;
       block = swap_block p h g l r y.left y.right;
       elements = refl;

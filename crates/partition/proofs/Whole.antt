@@ -2,7 +2,7 @@
 use Prim.Native.Nat.{ℕ, ◌+◌, ◌-◌, ◌≤◌, ◌<◌}
 use native.Mathlib.Omega.{arith}
 use mathlib.Core.Path.{◌≡◌, sym, subst, ◌∙◌}
-use mathlib.Core.Logic.{◌⊎◌, ⊎_elim}
+use mathlib.Core.Logic.{⊎_elim}
 use lib.ListN.{get_or}
 use Rattle.columns.specs.Counting.{sum}
 use Rattle.columns.specs.Inverse.{Inverse}
@@ -13,7 +13,7 @@ use Rattle.partition.proofs.Places.{home_at, stretch_long, home_holds, all_homes
 use Rattle.partition.proofs.Owned.{lengths-sum}
 
 module _ (q : Partition) (order : Inverse q.elements q.element_offset q.n)
-    (bounds : (b : ℕ) → b < q.count → Within (get_or q.begin b 0) (get_or q.marked_split_lem b 0) (get_or q.end b 0) q.n)
+    (bounds : (b : ℕ) → b < q.count → Within (get_or q.begin b 0) (get_or q.marked_split b 0) (get_or q.end b 0) q.n)
     (lies : (s : ℕ) → s < q.n → Lies q s)
     (own : (b k : ℕ) → b < q.count → get_or q.begin b 0 ≤ k → k < get_or q.end b 0 →
     get_or q.element_to_block (get_or q.elements k 0) 0 ≡ b) where

@@ -12,10 +12,10 @@ use Rattle.partition.specs.Marked.{unmarked_by, unmarkedb}
 pub record Marks : Type 0 where
   pub elements : List ℕ
   pub element_offset : List ℕ
-  pub marked_split_lem : List ℕ
+  pub marked_split : List ℕ
 
 abbrev pub marks : List ℕ → List ℕ → List ℕ → Marks
-marks e o m = record { elements = e; element_offset = o; marked_split_lem = m }
+marks e o m = record { elements = e; element_offset = o; marked_split = m }
 
 -- state s, unmarked, swaps places with the state at marked_split - 1, and marked_split falls by one; `home` has the block of each state
 unfoldable pub moved_in : List ℕ → Marks → ℕ → Marks
@@ -23,22 +23,22 @@ unfolding swapped swapped_inverse
 moved_in home c s =
     let b = block_of home s in
     let o = get_or c.element_offset s 0 in
-    let m = get_or c.marked_split_lem b 0 - 1 in
-    marks (swapped o m c.elements) (swapped_inverse o m c.elements c.element_offset) (set c.marked_split_lem b m)
+    let m = get_or c.marked_split b 0 - 1 in
+    marks (swapped o m c.elements) (swapped_inverse o m c.elements c.element_offset) (set c.marked_split b m)
 
 -- state s is marked: an unmarked one moves; a marked one: no change
 unfoldable pub mark_in : List ℕ → Marks → ℕ → Marks
 unfolding unmarked_by moved_in
-mark_in home c s = cond (unmarked_by c.element_offset home c.marked_split_lem s) (moved_in home c s) c
+mark_in home c s = cond (unmarked_by c.element_offset home c.marked_split s) (moved_in home c s) c
 
 -- ---- the same of a partition
 abbrev pub marks_of : Partition → Marks
-marks_of p = marks p.elements p.element_offset p.marked_split_lem
+marks_of p = marks p.elements p.element_offset p.marked_split
 
 -- the partition with other ones
 abbrev pub with_marks : Partition → Marks → Partition
 with_marks p c =
-    parts c.elements c.element_offset p.element_to_block p.begin c.marked_split_lem p.end p.n p.count
+    parts c.elements c.element_offset p.element_to_block p.begin c.marked_split p.end p.n p.count
 
 unfoldable pub moved : Partition → ℕ → Partition
 unfolding moved_in

@@ -9,7 +9,7 @@ unmarked_by offset home split s = ltb (get_or offset s 0) (get_or split (block_o
 
 unfoldable pub unmarkedb : Partition → ℕ → Bool
 unfolding unmarked_by
-unmarkedb p s = unmarked_by p.element_offset p.element_to_block p.marked_split_lem s
+unmarkedb p s = unmarked_by p.element_offset p.element_to_block p.marked_split s
 
 -- state s is one of block b, and stands at position m or behind it
 unfoldable pub marked_from : List ℕ → List ℕ → ℕ → ℕ → ℕ → Bool
@@ -18,4 +18,4 @@ marked_from offset home b m s = eqb (block_of home s) b && leb m (get_or offset 
 -- state s is a marked one of block b: one of it that is not unmarked (`marked_in_lem`)
 unfoldable pub marked_in : Partition → ℕ → ℕ → Bool
 unfolding marked_from
-marked_in p b s = marked_from p.element_offset p.element_to_block b (get_or p.marked_split_lem b 0) s
+marked_in p b s = marked_from p.element_offset p.element_to_block b (get_or p.marked_split b 0) s

@@ -13,23 +13,23 @@ pub record Partition : Type 0 where
   pub element_offset : List ℕ
   pub element_to_block : List ℕ
   pub begin : List ℕ
-  pub marked_split_lem : List ℕ
+  pub marked_split : List ℕ
   pub end : List ℕ
   pub n : ℕ
   pub count : ℕ
 
 abbrev pub parts : List ℕ → List ℕ → List ℕ → List ℕ → List ℕ → List ℕ → ℕ → ℕ → Partition
 parts e o b x m z n count =
-    record { elements = e; element_offset = o; element_to_block = b; begin = x; marked_split_lem = m; end = z; n = n; count = count }
+    record { elements = e; element_offset = o; element_to_block = b; begin = x; marked_split = m; end = z; n = n; count = count }
 
 -- the same blocks over another order
 abbrev pub reordered : Partition → List ℕ → List ℕ → Partition
-reordered p l o = parts l o p.element_to_block p.begin p.marked_split_lem p.end p.n p.count
+reordered p l o = parts l o p.element_to_block p.begin p.marked_split p.end p.n p.count
 
 -- the same with the marks of block b from position m on
 abbrev pub with_split : Partition → ℕ → ℕ → Partition
 with_split p b m =
-    parts p.elements p.element_offset p.element_to_block p.begin (set p.marked_split_lem b m) p.end p.n p.count
+    parts p.elements p.element_offset p.element_to_block p.begin (set p.marked_split b m) p.end p.n p.count
 
 -- the block of state s
 abbrev pub home_of : Partition → ℕ → ℕ
@@ -60,7 +60,7 @@ pub record Consistent (p : Partition) : Type 0 where
   pub most : p.count ≤ p.n
   pub order : Inverse p.elements p.element_offset p.n
   pub places : Inverse p.element_offset p.elements p.n
-  pub bounds : (b : ℕ) → b < p.count → Within (get_or p.begin b 0) (get_or p.marked_split_lem b 0) (get_or p.end b 0) p.n
+  pub bounds : (b : ℕ) → b < p.count → Within (get_or p.begin b 0) (get_or p.marked_split b 0) (get_or p.end b 0) p.n
   pub lies : (s : ℕ) → s < p.n → Lies p s
   pub whole : lengths p.begin p.end p.count ≡ p.n
 
@@ -70,7 +70,7 @@ pub record Long (p : Partition) : Type 0 where
   pub element_offset : p.n ≤ length p.element_offset
   pub element_to_block : p.n ≤ length p.element_to_block
   pub begin : p.n ≤ length p.begin
-  pub marked_split_lem : p.n ≤ length p.marked_split_lem
+  pub marked_split : p.n ≤ length p.marked_split
   pub end : p.n ≤ length p.end
 
 -- what a call may go by once the columns are checked
@@ -105,7 +105,7 @@ consistentb p =
     leb 1 p.count
     && (leb p.count p.n
     && (inverseb p.elements p.element_offset p.n
-    && (boundsb p.begin p.marked_split_lem p.end p.n p.count
+    && (boundsb p.begin p.marked_split p.end p.n p.count
     && (liesb p.element_offset p.element_to_block p.begin p.end p.n p.count
     && eqb (lengths p.begin p.end p.count) p.n))))
 
@@ -114,5 +114,5 @@ unfoldable pub longb : Partition → Bool
 unfolding all_long
 longb p =
     all_long p.n
-    (length p.elements ∷ length p.element_offset ∷ length p.element_to_block ∷ length p.begin ∷ length p.marked_split_lem
+    (length p.elements ∷ length p.element_offset ∷ length p.element_to_block ∷ length p.begin ∷ length p.marked_split
     ∷ length p.end ∷ [])

@@ -24,7 +24,7 @@ is_element_marked p s = answering (state_refusal p s) (bit (not (unmarkedb p s))
 
 unfoldable pub read_block : Partition → ℕ → Said
 unfolding answering argument_refusal
-read_block p b = answering (block_refusal p b) (get_or p.begin b 0 ∷ get_or p.marked_split_lem b 0 ∷ get_or p.end b 0 ∷ [])
+read_block p b = answering (block_refusal p b) (get_or p.begin b 0 ∷ get_or p.marked_split b 0 ∷ get_or p.end b 0 ∷ [])
 
 -- the states of block b, in their order
 unfoldable pub stretch : Partition → ℕ → List ℕ

@@ -199,7 +199,8 @@ pub fn size_refusal(
     end: &[u16],
     room: bool,
 ) -> Refusal
-    ensures { result ≡ due (size_tests (parts elements.now element_offset.now element_to_block.now begin.now marked_split.now end.now n 0) room) }
+    ensures { result ≡ due (size_tests (parts elements.now element_offset.now element_to_block.now begin.now marked_split.now end.now n 0)
+        room) }
 {
     let six = six_long(
         n,
@@ -299,7 +300,8 @@ pub fn blocks_refusal(
     l: usize,
     r: usize,
 ) -> Refusal
-    ensures { result ≡ blocks_refusal (parts elements.now element_offset.now element_to_block.now begin.now marked_split.now end.now n count) l r }
+    ensures { result ≡ blocks_refusal (parts elements.now element_offset.now element_to_block.now begin.now marked_split.now end.now n
+        count) l r }
 {
     let t = check(
         n,

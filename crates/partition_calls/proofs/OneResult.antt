@@ -18,7 +18,7 @@ use Rattle.partition_calls.proofs.Sayings.{same_partition}
 pub new : OneResult calls_said.new.ended calls.new.Reads.Learnt
 new κs a r q x y =
     determined same_partition
-    (λ c. skip 1 (c.elements, (c.element_offset, (c.element_to_block, (c.begin, (c.marked_split_lem, (c.end, tt))))))) r q
+    (λ c. skip 1 (c.elements, (c.element_offset, (c.element_to_block, (c.begin, (c.marked_split, (c.end, tt))))))) r q
 
 pub num_of_blocks_lem : OneResult calls_said.num_of_blocks.ended calls.num_of_blocks.Reads.Learnt
 num_of_blocks_lem κs a r q x y e f = (determined_answer same_number r q e f, refl)
@@ -47,9 +47,9 @@ iter_block_refusal_lem κs a r q x y e f = (determined_answer same_answer r q e 
 -- elements, offsets and splits
 pub mark_element_lem : OneResult calls_said.mark_element.ended calls.mark_element.Reads.Learnt
 mark_element_lem κs a r q x y =
-    determined same_answer (λ c. skip 1 (c.elements, (c.element_offset, skip 2 (c.marked_split_lem, skip 2 tt)))) r q
+    determined same_answer (λ c. skip 1 (c.elements, (c.element_offset, skip 2 (c.marked_split, skip 2 tt)))) r q
 
 -- the states' blocks, and the block table
 pub swap-blocks : OneResult calls_said.swap_blocks.ended calls.swap_blocks.Reads.Learnt
 swap-blocks κs a r q x y =
-    determined same_answer (λ c. skip 3 (c.element_to_block, (c.begin, (c.marked_split_lem, (c.end, skip 2 tt))))) r q
+    determined same_answer (λ c. skip 3 (c.element_to_block, (c.begin, (c.marked_split, (c.end, skip 2 tt))))) r q

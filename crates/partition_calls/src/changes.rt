@@ -69,7 +69,8 @@ impl BlockPartition {
         end: &[u16],
         element: u16,
     ) -> Answer
-        ensures { let given = parts elements.old element_offset.old element_to_block.now begin.now marked_split.old end.now self.n self.count in
+        ensures { let given = parts elements.old element_offset.old element_to_block.now begin.now marked_split.old end.now self.n
+            self.count in
             let left = parts elements.new element_offset.new element_to_block.now begin.now marked_split.new end.now self.n self.count in
             (said result, left) ≡ mark_element given element }
     {
@@ -115,7 +116,8 @@ impl BlockPartition {
         left_index: u16,
         right_index: u16,
     ) -> Answer
-        ensures { let given = parts elements.now element_offset.now element_to_block.old begin.old marked_split.old end.old self.n self.count in
+        ensures { let given = parts elements.now element_offset.now element_to_block.old begin.old marked_split.old end.old self.n
+            self.count in
             let left = parts elements.now element_offset.now element_to_block.new begin.new marked_split.new end.new self.n self.count in
             (said result, left) ≡ swap_blocks given left_index right_index }
     {

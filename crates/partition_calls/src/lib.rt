@@ -1,4 +1,6 @@
 // `BlockPartition` (block_partition.rs): the calls on a partition that lies in six lent columns.
+#![tactic(auto)]
+
 pub mod changes;
 pub mod readers;
 

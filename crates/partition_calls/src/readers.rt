@@ -27,7 +27,8 @@ impl BlockPartition {
         marked_split: &[u16],
         end: &[u16],
     ) -> NumberAnswer
-        ensures { let given = parts elements.now element_offset.now element_to_block.now begin.now marked_split.now end.now self.n self.count in
+        ensures { let given = parts elements.now element_offset.now element_to_block.now begin.now marked_split.now end.now self.n
+            self.count in
             said_number result ≡ num_of_blocks given }
     {
         let n = self.n as usize;
@@ -60,7 +61,8 @@ impl BlockPartition {
         marked_split: &[u16],
         end: &[u16],
     ) -> NumberAnswer
-        ensures { let given = parts elements.now element_offset.now element_to_block.now begin.now marked_split.now end.now self.n self.count in
+        ensures { let given = parts elements.now element_offset.now element_to_block.now begin.now marked_split.now end.now self.n
+            self.count in
             said_number result ≡ len_of given }
     {
         let n = self.n as usize;
@@ -94,7 +96,8 @@ impl BlockPartition {
         end: &[u16],
         element: u16,
     ) -> NumberAnswer
-        ensures { let given = parts elements.now element_offset.now element_to_block.now begin.now marked_split.now end.now self.n self.count in
+        ensures { let given = parts elements.now element_offset.now element_to_block.now begin.now marked_split.now end.now self.n
+            self.count in
             said_number result ≡ block_number given element }
     {
         let n = self.n as usize;
@@ -131,7 +134,8 @@ impl BlockPartition {
         end: &[u16],
         element: u16,
     ) -> FlagAnswer
-        ensures { let given = parts elements.now element_offset.now element_to_block.now begin.now marked_split.now end.now self.n self.count in
+        ensures { let given = parts elements.now element_offset.now element_to_block.now begin.now marked_split.now end.now self.n
+            self.count in
             said_flag result ≡ is_element_marked given element }
     {
         let n = self.n as usize;
@@ -171,7 +175,8 @@ impl BlockPartition {
         end: &[u16],
         block_index: u16,
     ) -> BlockAnswer
-        ensures { let given = parts elements.now element_offset.now element_to_block.now begin.now marked_split.now end.now self.n self.count in
+        ensures { let given = parts elements.now element_offset.now element_to_block.now begin.now marked_split.now end.now self.n
+            self.count in
             said_block result ≡ read_block given block_index }
     {
         let n = self.n as usize;
@@ -212,9 +217,11 @@ impl BlockPartition {
         end: &[u16],
         block_index: u16,
     ) -> &'a [u16]
-        ensures result_value { let given = parts elements.now element_offset.now element_to_block.now begin.now marked_split.now end.now self.n self.count in
+        ensures result_value { let given = parts elements.now element_offset.now element_to_block.now begin.now marked_split.now end.now
+            self.n self.count in
             result.now ≡ iter_block given block_index }
-        ensures fact { let given = parts elements.now element_offset.now element_to_block.now begin.now marked_split.now end.now self.n self.count in
+        ensures fact { let given = parts elements.now element_offset.now element_to_block.now begin.now marked_split.now end.now self.n
+            self.count in
             BeginsAt result elements.entry (iter_begin given block_index) }
     {
         let n = self.n as usize;
@@ -253,7 +260,8 @@ impl BlockPartition {
         end: &[u16],
         block_index: u16,
     ) -> Answer
-        ensures { let given = parts elements.now element_offset.now element_to_block.now begin.now marked_split.now end.now self.n self.count in
+        ensures { let given = parts elements.now element_offset.now element_to_block.now begin.now marked_split.now end.now self.n
+            self.count in
             said result ≡ iter_block_refusal given block_index }
     {
         let n = self.n as usize;

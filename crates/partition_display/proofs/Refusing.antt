@@ -16,7 +16,7 @@ use Rattle.partition_display.specs.Display.{display_text, display_refusal}
 use Rattle.partition_display.specs.Writing.{Wrote, Readable}
 use Rattle.partition_display.proofs.Writes.{wrote_size}
 
-readable_of : (p : Partition) → Sound p → Readable p.elements p.begin p.marked_split_lem p.end p.count
+readable_of : (p : Partition) → Sound p → Readable p.elements p.begin p.marked_split p.end p.count
 readable_of p s =
     record {
       few = omega arith;
@@ -32,7 +32,7 @@ module _ (p : Partition) (room : ℕ) (t : Refusal) (e : t ≡ display_refusal p
   unfolding display_refusal
   held = passed_both (partition_tests p true) (room_test (length (display_text p)) room ∷ []) refl t e z
 
-  pub display_reads : Readable p.elements p.begin p.marked_split_lem p.end p.count
+  pub display_reads : Readable p.elements p.begin p.marked_split p.end p.count
   display_reads = readable_of p (checked_of p true held.0).sound
 
   pub display_room : length (display_text p) ≤ room
@@ -45,7 +45,7 @@ module _ (p : Partition) (room : ℕ) (t : Refusal) (e : t ≡ due (partition_te
   display_out n = ends (partition_tests p true) (room_test (length (display_text p)) room ∷ []) refl t e n
 
   module _ (z : t.number ≡ 0) where
-    pub checked_reads : Readable p.elements p.begin p.marked_split_lem p.end p.count
+    pub checked_reads : Readable p.elements p.begin p.marked_split p.end p.count
     checked_reads = readable_of p (checked_of p true (passed (partition_tests p true) refl t e z)).sound
 
     pub display_on : {l m : List ℕ} {next : ℕ} → Wrote l 0 (display_text p) m next → due (room_test next room ∷ []) ≡ display_refusal p room

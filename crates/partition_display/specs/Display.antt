@@ -48,7 +48,7 @@ blocks_text elements begin split end count =
 
 unfoldable pub display_text : Partition → List ℕ
 unfolding blocks_text
-display_text p = blocks_text p.elements p.begin p.marked_split_lem p.end p.count
+display_text p = blocks_text p.elements p.begin p.marked_split p.end p.count
 
 -- 1, 7, 14, 16
 unfoldable pub display_refusal : Partition → ℕ → Refusal

@@ -1,5 +1,7 @@
 // The text of a partition, as `{{2, 3, 0*}, {1}}`: the blocks in order, in each its elements in order, and a star after a
 // marked one.
+#![tactic(auto)]
+
 pub mod writers;
 
 ghost use Rattle.std.specs.Prelude.{◌≡◌};
@@ -26,7 +28,8 @@ fn display_refusal(
     end: &[u16],
     room: usize,
 ) -> Refusal
-    ensures { result ≡ display_refusal (parts elements.now element_offset.now element_to_block.now begin.now marked_split.now end.now n count) room }
+    ensures { result ≡ display_refusal (parts elements.now element_offset.now element_to_block.now begin.now marked_split.now end.now n
+        count) room }
 {
     let t = check(
         n,
@@ -60,7 +63,8 @@ pub fn display(
     end: &[u16],
     text: &mut [u8],
 ) -> NumberAnswer
-    ensures { let given = parts elements.now element_offset.now element_to_block.now begin.now marked_split.now end.now partition.n partition.count in
+    ensures { let given = parts elements.now element_offset.now element_to_block.now begin.now marked_split.now end.now partition.n
+        partition.count in
         (said_number result, text.new) ≡ displayed given text.old }
 {
     let n = partition.n as usize;

@@ -91,7 +91,7 @@ record Still (p : Partition) (b : ℕ) (j : ℕ) : Type 0 where
   kept : j ≡ b → has_unmarked_at p b ≡ true
 
 module _ (p : Partition) (b : ℕ) (v : List ℕ) (h : Consistent p) (g : Long p) (hb : b < p.count)
-    (mk : get_or p.marked_split_lem b 0 < get_or p.end b 0) (d : denseb p b v ≡ true) where
+    (mk : get_or p.marked_split b 0 < get_or p.end b 0) (d : denseb p b v ≡ true) where
   pub some_number : 0 < missing p b v
   some_number =
       ⊎_elim (λ (l : 0 < missing p b v). l)
@@ -100,7 +100,7 @@ module _ (p : Partition) (b : ℕ) (v : List ℕ) (h : Consistent p) (g : Long p
       absurd (omega (arith, mk, start_last p b v h hb d, start-zero p b v, ap (start p b v) e)))
       (lt-or-le 0 (missing p b v))
 
-  pub steps : (k : ℕ) → k ≤ missing p b v → get_or p.marked_split_lem b 0 + k ≤ start p b v k
+  pub steps : (k : ℕ) → k ≤ missing p b v → get_or p.marked_split b 0 + k ≤ start p b v k
   steps zero w = omega (arith, start-zero p b v)
   steps (suc k) w =
       omega (arith, steps k (omega arith), start_less p b v k (omega arith), ap (start p b v) (one_more k))
@@ -119,7 +119,7 @@ module _ (p : Partition) (b : ℕ) (v : List ℕ) (h : Consistent p) (g : Long p
       ⊎_elim (λ u. omega (
         arith,
         home_end p b (missing p b v) u,
-        ltb-true (get_or p.begin b 0) (get_or p.marked_split_lem b 0) u,
+        ltb-true (get_or p.begin b 0) (get_or p.marked_split b 0) u,
         w.some,
         r,
         s,
@@ -137,7 +137,7 @@ module _ (p : Partition) (b : ℕ) (v : List ℕ) (h : Consistent p) (g : Long p
         h.some,
         some_number,
       ))
-      (cases (ltb (get_or p.begin b 0) (get_or p.marked_split_lem b 0)))
+      (cases (ltb (get_or p.begin b 0) (get_or p.marked_split b 0)))
 
   pub count_more : p.count ≤ home p b (missing p b v)
   count_more =
@@ -193,19 +193,19 @@ module _ (p : Partition) (b : ℕ) (v : List ℕ) (h : Consistent p) (g : Long p
         (omega (arith, home_known k w, g.begin)) w refl refl
         (λ t _ _ q. ap (start p b v) (home_only p b h.some hb t k q))
 
-    pub split_new : get_or (divided p b v).marked_split_lem (home p b k) 0 ≡ start p b v (k + 1)
+    pub split_new : get_or (divided p b v).marked_split (home p b k) 0 ≡ start p b v (k + 1)
     unfolding divided
     split_new =
-        stores_hit (λ _. true) (home p b) (λ k. start p b v (k + 1)) (missing p b v) p.marked_split_lem (home p b k) (start p b v (k + 1)) k
-        (omega (arith, home_known k w, g.marked_split_lem)) w refl refl
+        stores_hit (λ _. true) (home p b) (λ k. start p b v (k + 1)) (missing p b v) p.marked_split (home p b k) (start p b v (k + 1)) k
+        (omega (arith, home_known k w, g.marked_split)) w refl refl
         (λ t _ _ q. ap (λ (x : ℕ). start p b v (x + 1)) (home_only p b h.some hb t k q))
 
     pub end_new : get_or (divided p b v).end (home p b k) 0 ≡ start p b v (k + 1)
     unfolding divided
     end_new =
-        stores_hit (λ _. true) (home p b) (λ k. start p b v (k + 1)) (missing p b v) (set p.end b (get_or p.marked_split_lem b 0))
+        stores_hit (λ _. true) (home p b) (λ k. start p b v (k + 1)) (missing p b v) (set p.end b (get_or p.marked_split b 0))
         (home p b k) (start p b v (k + 1)) k
-        (omega (arith, home_known k w, g.end, length-set p.end b (get_or p.marked_split_lem b 0))) w refl refl
+        (omega (arith, home_known k w, g.end, length-set p.end b (get_or p.marked_split b 0))) w refl refl
         (λ t _ _ q. ap (λ (x : ℕ). start p b v (x + 1)) (home_only p b h.some hb t k q))
 
   module _ (j : ℕ) (a : (k : ℕ) → home p b k ≡ j → ⊥) where
@@ -213,23 +213,23 @@ module _ (p : Partition) (b : ℕ) (v : List ℕ) (h : Consistent p) (g : Long p
     unfolding divided
     begin_still = stores_miss (λ _. true) (home p b) (start p b v) (missing p b v) p.begin j (λ k _ _ q. a k q)
 
-    pub split_still : get_or (divided p b v).marked_split_lem j 0 ≡ get_or p.marked_split_lem j 0
+    pub split_still : get_or (divided p b v).marked_split j 0 ≡ get_or p.marked_split j 0
     unfolding divided
-    split_still = stores_miss (λ _. true) (home p b) (λ k. start p b v (k + 1)) (missing p b v) p.marked_split_lem j (λ k _ _ q. a k q)
+    split_still = stores_miss (λ _. true) (home p b) (λ k. start p b v (k + 1)) (missing p b v) p.marked_split j (λ k _ _ q. a k q)
 
     pub end_still : (j ≡ b → ⊥) → get_or (divided p b v).end j 0 ≡ get_or p.end j 0
     unfolding divided
     end_still m =
-        stores_miss (λ _. true) (home p b) (λ k. start p b v (k + 1)) (missing p b v) (set p.end b (get_or p.marked_split_lem b 0)) j
+        stores_miss (λ _. true) (home p b) (λ k. start p b v (k + 1)) (missing p b v) (set p.end b (get_or p.marked_split b 0)) j
         (λ k _ _ q. a k q)
-        ∙ get_or-set_other p.end b j (get_or p.marked_split_lem b 0) 0 m
+        ∙ get_or-set_other p.end b j (get_or p.marked_split b 0) 0 m
 
-    end_left : j ≡ b → get_or (divided p b v).end j 0 ≡ get_or p.marked_split_lem b 0
+    end_left : j ≡ b → get_or (divided p b v).end j 0 ≡ get_or p.marked_split b 0
     unfolding divided
     end_left e =
-        stores_miss (λ _. true) (home p b) (λ k. start p b v (k + 1)) (missing p b v) (set p.end b (get_or p.marked_split_lem b 0)) j
+        stores_miss (λ _. true) (home p b) (λ k. start p b v (k + 1)) (missing p b v) (set p.end b (get_or p.marked_split b 0)) j
         (λ k _ _ q. a k q)
-        ∙ set_here p.end b (get_or p.marked_split_lem b 0) j (omega (arith, hb, h.most, g.end)) e
+        ∙ set_here p.end b (get_or p.marked_split b 0) j (omega (arith, hb, h.most, g.end)) e
 
   -- ---- the states' cells
   module _ (s : ℕ) (w : s < p.n) where
@@ -291,11 +291,11 @@ module _ (p : Partition) (b : ℕ) (v : List ℕ) (h : Consistent p) (g : Long p
 
   -- ---- a block's stretch: that of a number, that of the unmarked, or as it was
   new_bounds : (k j : ℕ) → k < missing p b v → home p b k ≡ j
-      → Within (get_or (divided p b v).begin j 0) (get_or (divided p b v).marked_split_lem j 0) (get_or (divided p b v).end j 0) p.n
+      → Within (get_or (divided p b v).begin j 0) (get_or (divided p b v).marked_split j 0) (get_or (divided p b v).end j 0) p.n
   new_bounds k j w e =
       let x : get_or (divided p b v).begin j 0 ≡ start p b v k = ap (λ (y : ℕ). get_or (divided p b v).begin y 0) (sym e) ∙ begin_new k w in
-      let y : get_or (divided p b v).marked_split_lem j 0 ≡ start p b v (k + 1) =
-      ap (λ (y : ℕ). get_or (divided p b v).marked_split_lem y 0) (sym e) ∙ split_new k w in
+      let y : get_or (divided p b v).marked_split j 0 ≡ start p b v (k + 1) =
+      ap (λ (y : ℕ). get_or (divided p b v).marked_split y 0) (sym e) ∙ split_new k w in
       let z : get_or (divided p b v).end j 0 ≡ start p b v (k + 1) = ap (λ (y : ℕ). get_or (divided p b v).end y 0) (sym e) ∙ end_new k w in
       let l = start_less p b v k w in
       let m = start_most p b v h hb (k + 1) in
@@ -307,7 +307,7 @@ module _ (p : Partition) (b : ℕ) (v : List ℕ) (h : Consistent p) (g : Long p
       }
 
   still_bounds : (j : ℕ) → Still p b j
-      → Within (get_or (divided p b v).begin j 0) (get_or (divided p b v).marked_split_lem j 0) (get_or (divided p b v).end j 0) p.n
+      → Within (get_or (divided p b v).begin j 0) (get_or (divided p b v).marked_split j 0) (get_or (divided p b v).end j 0) p.n
   unfolding has_unmarked_at
   still_bounds j t =
       let x = begin_still j t.apart in
@@ -317,8 +317,8 @@ module _ (p : Partition) (b : ℕ) (v : List ℕ) (h : Consistent p) (g : Long p
       (λ (e : j ≡ b).
       let z = end_left j t.apart e in
       let eb = ap (λ (y : ℕ). get_or p.begin y 0) e in
-      let es = ap (λ (y : ℕ). get_or p.marked_split_lem y 0) e in
-      let u = ltb-true (get_or p.begin b 0) (get_or p.marked_split_lem b 0) (t.kept e) in
+      let es = ap (λ (y : ℕ). get_or p.marked_split y 0) e in
+      let u = ltb-true (get_or p.begin b 0) (get_or p.marked_split b 0) (t.kept e) in
       record {
         some = omega (arith, x, z, eb, u);
         from = omega (arith, x, y, es, eb, u);
@@ -336,21 +336,21 @@ module _ (p : Partition) (b : ℕ) (v : List ℕ) (h : Consistent p) (g : Long p
       (same_or_not j b)
 
   bounds : (j : ℕ) → j < home p b (missing p b v)
-      → Within (get_or (divided p b v).begin j 0) (get_or (divided p b v).marked_split_lem j 0) (get_or (divided p b v).end j 0) p.n
+      → Within (get_or (divided p b v).begin j 0) (get_or (divided p b v).marked_split j 0) (get_or (divided p b v).end j 0) p.n
   bounds j w = ⊎_elim (λ t. new_bounds t.number j t.small t.is) (λ t. still_bounds j t) (kind j w)
 
   -- an unmarked state of block b
   pub unmarked_there : (s : ℕ) → s < p.n → marked_in p b s ≡ false → get_or p.element_to_block s 0 ≡ b
       → (get_or p.begin b 0 ≤ get_or p.element_offset s 0) ×
-      ((get_or p.element_offset s 0 < get_or p.marked_split_lem b 0) × (has_unmarked_at p b ≡ true))
+      ((get_or p.element_offset s 0 < get_or p.marked_split b 0) × (has_unmarked_at p b ≡ true))
   unfolding has_unmarked_at
   unmarked_there s w y e =
       let f : get_or p.begin b 0 ≤ get_or p.element_offset s 0 =
       subst (λ (x : ℕ). get_or p.begin x 0 ≤ get_or p.element_offset s 0) e (h.lies s w).from in
-      ⊎_elim (λ (l : get_or p.element_offset s 0 < get_or p.marked_split_lem b 0).
-      (f, (l, lt-ltb (get_or p.begin b 0) (get_or p.marked_split_lem b 0) (omega (arith, f, l)))))
-      (λ (l : get_or p.marked_split_lem b 0 ≤ get_or p.element_offset s 0). absurd (contra (marked_of p b s e l) y))
-      (lt-or-le (get_or p.element_offset s 0) (get_or p.marked_split_lem b 0))
+      ⊎_elim (λ (l : get_or p.element_offset s 0 < get_or p.marked_split b 0).
+      (f, (l, lt-ltb (get_or p.begin b 0) (get_or p.marked_split b 0) (omega (arith, f, l)))))
+      (λ (l : get_or p.marked_split b 0 ≤ get_or p.element_offset s 0). absurd (contra (marked_of p b s e l) y))
+      (lt-or-le (get_or p.element_offset s 0) (get_or p.marked_split b 0))
 
   -- an old block other than b
   other_still : (j : ℕ) → j < p.count → (j ≡ b → ⊥) → Still p b j
@@ -505,31 +505,31 @@ module _ (p : Partition) (b : ℕ) (v : List ℕ) (h : Consistent p) (g : Long p
               p.element_to_block,
         );
         begin = omega (arith, g.begin, length-stores (λ _. true) (home p b) (start p b v) (missing p b v) p.begin);
-        marked_split_lem = omega (
+        marked_split = omega (
           arith,
-          g.marked_split_lem,
+          g.marked_split,
           length-stores (λ _. true) (home p b) (λ k. start p b v (k + 1)) (missing p b v)
-              p.marked_split_lem,
+              p.marked_split,
         );
         end = omega (
           arith,
           g.end,
-          length-set p.end b (get_or p.marked_split_lem b 0),
-          length-stores (λ _. true) (home p b) (λ k. start p b v (k + 1)) (missing p b v) (set p.end b (get_or p.marked_split_lem b 0)),
+          length-set p.end b (get_or p.marked_split b 0),
+          length-stores (λ _. true) (home p b) (λ k. start p b v (k + 1)) (missing p b v) (set p.end b (get_or p.marked_split b 0)),
         );
       }
 
   -- the block b and those of the numbers are unmarked
   pub divided-unmarked : (j : ℕ) → (j ≡ b) ⊎ (p.count ≤ j) → j < home p b (missing p b v) →
-      get_or (divided p b v).marked_split_lem j 0 ≡ get_or (divided p b v).end j 0
+      get_or (divided p b v).marked_split j 0 ≡ get_or (divided p b v).end j 0
   divided-unmarked j w w' =
       ⊎_elim
       (λ t.
-      ap (λ (x : ℕ). get_or (divided p b v).marked_split_lem x 0) (sym t.is)
+      ap (λ (x : ℕ). get_or (divided p b v).marked_split x 0) (sym t.is)
       ∙ split_new t.number t.small
       ∙ sym (end_new t.number t.small)
       ∙ ap (λ (x : ℕ). get_or (divided p b v).end x 0) t.is)
       (λ t.
-      ⊎_elim (λ (e : j ≡ b). split_still j t.apart ∙ ap (λ (x : ℕ). get_or p.marked_split_lem x 0) e ∙ sym (end_left j t.apart e))
+      ⊎_elim (λ (e : j ≡ b). split_still j t.apart ∙ ap (λ (x : ℕ). get_or p.marked_split x 0) e ∙ sym (end_left j t.apart e))
       (λ (e : p.count ≤ j). absurd (omega (arith, e, t.known))) w)
       (kind j w')

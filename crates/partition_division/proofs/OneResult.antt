@@ -13,4 +13,4 @@ partition_marked_with_lem κs a r q x y =
     (λ c.
     let p = c.0 in
     let work = works 3 (c.1.old_elements ∷ c.1.block_sizes ∷ c.1.spare ∷ []) in
-    skip 1 (p.elements, (p.element_offset, (p.element_to_block, (p.begin, (p.marked_split_lem, (p.end, skip 2 work))))))) r q
+    skip 1 (p.elements, (p.element_offset, (p.element_to_block, (p.begin, (p.marked_split, (p.end, skip 2 work))))))) r q

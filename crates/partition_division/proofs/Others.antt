@@ -34,13 +34,13 @@ use Rattle.partition_division.proofs.PartitionMarked.{is-largest, by_one, by_mor
 pub record OthersStay (p : Partition) (b : ℕ) (r : Partition) : Type 0 where
   -- the table's entries of the other blocks
   pub begins : (j : ℕ) → j < p.count → (j ≡ b → ⊥) → get_or r.begin j 0 ≡ get_or p.begin j 0
-  pub splits : (j : ℕ) → j < p.count → (j ≡ b → ⊥) → get_or r.marked_split_lem j 0 ≡ get_or p.marked_split_lem j 0
+  pub splits : (j : ℕ) → j < p.count → (j ≡ b → ⊥) → get_or r.marked_split j 0 ≡ get_or p.marked_split j 0
   pub ends : (j : ℕ) → j < p.count → (j ≡ b → ⊥) → get_or r.end j 0 ≡ get_or p.end j 0
   -- every position but those of the marked stretch of block b
-  pub positions : (k : ℕ) → (k < get_or p.marked_split_lem b 0) ⊎ (get_or p.end b 0 ≤ k) → get_or r.elements k 0 ≡ get_or p.elements k 0
+  pub positions : (k : ℕ) → (k < get_or p.marked_split b 0) ⊎ (get_or p.end b 0 ≤ k) → get_or r.elements k 0 ≡ get_or p.elements k 0
 
 module _ (p : Partition) (b : ℕ) (v : List ℕ) (h : Consistent p) (g : Long p) (hb : b < p.count)
-    (mk : get_or p.marked_split_lem b 0 < get_or p.end b 0) where
+    (mk : get_or p.marked_split b 0 < get_or p.end b 0) where
   module _ (d : denseb p b v ≡ true) where
     l : ℕ
     l = largest_of p (divided p b v) b
@@ -79,7 +79,7 @@ module _ (p : Partition) (b : ℕ) (v : List ℕ) (h : Consistent p) (g : Long p
               swap_begin (divided p b v) OK LONG b l B l_known j ∙ ap (λ (x : ℕ). get_or (divided p b v).begin x 0) (stays j w m)
               ∙ begin_still p b v h g hb mk d j (away j w m);
           splits = λ j w m.
-              swap-split (divided p b v) OK LONG b l B l_known j ∙ ap (λ (x : ℕ). get_or (divided p b v).marked_split_lem x 0) (stays j w m)
+              swap-split (divided p b v) OK LONG b l B l_known j ∙ ap (λ (x : ℕ). get_or (divided p b v).marked_split x 0) (stays j w m)
               ∙ split_still p b v h g hb mk d j (away j w m);
           ends = λ j w m.
               swap_end (divided p b v) OK LONG b l B l_known j ∙ ap (λ (x : ℕ). get_or (divided p b v).end x 0) (stays j w m)
@@ -95,7 +95,7 @@ module _ (p : Partition) (b : ℕ) (v : List ℕ) (h : Consistent p) (g : Long p
   alone =
       record {
         begins = λ j w m. refl;
-        splits = λ j w m. get_or-set_other p.marked_split_lem b j (get_or p.end b 0) 0 m;
+        splits = λ j w m. get_or-set_other p.marked_split b j (get_or p.end b 0) 0 m;
         ends = λ j w m. refl;
         positions = λ k o. refl;
       }

@@ -65,7 +65,7 @@ pub record Splits (p : Partition) (b : ℕ) (v : List ℕ) (r : Partition) : Typ
       → get_or r.element_to_block s 0 ≡ get_or r.element_to_block t 0 → ⊥
 
 module _ (p : Partition) (b : ℕ) (v : List ℕ) (h : Consistent p) (g : Long p) (hb : b < p.count)
-    (mk : get_or p.marked_split_lem b 0 < get_or p.end b 0) where
+    (mk : get_or p.marked_split b 0 < get_or p.end b 0) where
   -- ---- more than one state
   module _ (d : denseb p b v ≡ true) where
     q : Partition
@@ -216,11 +216,11 @@ module _ (p : Partition) (b : ℕ) (v : List ℕ) (h : Consistent p) (g : Long p
         )
 
     -- the old index and the new blocks are unmarked
-    q_unmarked : (j : ℕ) → (j ≡ b) ⊎ (p.count ≤ j) → j < q.count → get_or q.marked_split_lem j 0 ≡ get_or q.end j 0
+    q_unmarked : (j : ℕ) → (j ≡ b) ⊎ (p.count ≤ j) → j < q.count → get_or q.marked_split j 0 ≡ get_or q.end j 0
     unfolding q divided
     q_unmarked j w w' = divided-unmarked p b v h g hb mk d j w w'
 
-    r_unmarked : (j : ℕ) → (j ≡ b) ⊎ (p.count ≤ j) → j < r.count → get_or r.marked_split_lem j 0 ≡ get_or r.end j 0
+    r_unmarked : (j : ℕ) → (j ≡ b) ⊎ (p.count ≤ j) → j < r.count → get_or r.marked_split j 0 ≡ get_or r.end j 0
     unfolding r
     r_unmarked j w w' =
         swap-split q q_ok q_long b l b_known l_known j
@@ -263,12 +263,12 @@ module _ (p : Partition) (b : ℕ) (v : List ℕ) (h : Consistent p) (g : Long p
 
 alone-unmarked : (p : Partition) (b : ℕ) → Consistent p → Long p → b < p.count
     → (j : ℕ) → (j ≡ b) ⊎ (p.count ≤ j) → j < (block_unmarked p b).count
-    → get_or (block_unmarked p b).marked_split_lem j 0 ≡ get_or (block_unmarked p b).end j 0
+    → get_or (block_unmarked p b).marked_split j 0 ≡ get_or (block_unmarked p b).end j 0
 unfolding block_unmarked
 alone-unmarked p b h g hb j w w' =
     ⊎_elim
     (λ (e : j ≡ b).
-    set_here p.marked_split_lem b (get_or p.end b 0) j (omega (arith, hb, h.most, g.marked_split_lem)) e
+    set_here p.marked_split b (get_or p.end b 0) j (omega (arith, hb, h.most, g.marked_split)) e
     ∙ ap (λ (x : ℕ). get_or p.end x 0) (sym e))
     (λ (e : p.count ≤ j). absurd (omega (arith, e, w'))) w
 
@@ -310,15 +310,15 @@ module _ (p : Partition) (b : ℕ) (v : List ℕ) (y : Dividable p b v) where
   -- all resulting blocks are unmarked
   pub partition_marked-unmarked :
       (j : ℕ) → (j ≡ b) ⊎ (p.count ≤ j) → j < (partition_marked p b v).count →
-      get_or (partition_marked p b v).marked_split_lem j 0 ≡ get_or (partition_marked p b v).end j 0
+      get_or (partition_marked p b v).marked_split j 0 ≡ get_or (partition_marked p b v).end j 0
   unfolding r q l
   partition_marked-unmarked =
       ⊎_elim
       (λ e.
-      subst (λ (t : Partition). (j : ℕ) → (j ≡ b) ⊎ (p.count ≤ j) → j < t.count → get_or t.marked_split_lem j 0 ≡ get_or t.end j 0)
+      subst (λ (t : Partition). (j : ℕ) → (j ≡ b) ⊎ (p.count ≤ j) → j < t.count → get_or t.marked_split j 0 ≡ get_or t.end j 0)
       (sym (by_one e)) (alone-unmarked p b y.sound.consistent y.sound.long y.known))
       (λ m.
-      subst (λ (t : Partition). (j : ℕ) → (j ≡ b) ⊎ (p.count ≤ j) → j < t.count → get_or t.marked_split_lem j 0 ≡ get_or t.end j 0)
+      subst (λ (t : Partition). (j : ℕ) → (j ≡ b) ⊎ (p.count ≤ j) → j < t.count → get_or t.marked_split j 0 ≡ get_or t.end j 0)
       (sym (by_more m))
       (r_unmarked p b v y.sound.consistent y.sound.long y.known y.some (y.dense m)))
       (same_or_not (len_at p b) 1)
@@ -355,11 +355,11 @@ module _ (p : Partition) (b : ℕ) (v : List ℕ) (y : Dividable p b v) (x z : �
   unfolding len_at length_in
   read_length = omega (arith, ex, ez)
 
-  pub core_one : z - x ≡ 1 → (s : List ℕ) → s ≡ set p.marked_split_lem b z →
+  pub core_one : z - x ≡ 1 → (s : List ℕ) → s ≡ set p.marked_split b z →
       parts p.elements p.element_offset p.element_to_block p.begin s p.end p.n p.count ≡ partition_marked p b v
   unfolding block_unmarked
   core_one e s es = ap (λ (w : List ℕ). parts p.elements p.element_offset p.element_to_block p.begin w p.end p.n
-      p.count) (es ∙ ap (λ (w : ℕ). set p.marked_split_lem b w) ez) ∙ sym (by_one p b v y (sym read_length ∙ e))
+      p.count) (es ∙ ap (λ (w : ℕ). set p.marked_split b w) ez) ∙ sym (by_one p b v y (sym read_length ∙ e))
 
   module _ (m : z - x ≡ 1 → ⊥) where
     many_states : len_at p b ≡ 1 → ⊥

@@ -59,7 +59,7 @@ pub record Division (p : Partition) (b : ℕ) (v : List ℕ) (q : Partition) : T
   pub longest : (j : ℕ) → Result p b q j → len_at q j ≤ len_at q b
   pub last : (j : ℕ) → Result p b q j → largest < j → len_at q j < len_at q b
   -- all resulting blocks are unmarked
-  pub unmarked : (j : ℕ) → Result p b q j → get_or q.marked_split_lem j 0 ≡ get_or q.end j 0
+  pub unmarked : (j : ℕ) → Result p b q j → get_or q.marked_split j 0 ≡ get_or q.end j 0
   -- nothing else is changed, and what is left is a partition
   pub others : OthersStay p b q
   pub sound : Sound q
@@ -135,7 +135,7 @@ module _ (p : Partition) (b : ℕ) (v : List ℕ) (y : Dividable p b v) (m : len
             (partition_marked_last p b v y m j a x.0) x.1)
             r;
         unmarked = λ j r.
-            subst (λ (t : Partition). j < t.count → get_or t.marked_split_lem j 0 ≡ get_or t.end j 0) (by_more p b v y m)
+            subst (λ (t : Partition). j < t.count → get_or t.marked_split j 0 ≡ get_or t.end j 0) (by_more p b v y m)
             (partition_marked-unmarked p b v y j (⊎_elim (λ e. inl e) (λ x. inr x.0) r))
             (⊎_elim (λ e. omega (arith, e, more, y.known)) (λ x. x.1) r);
         others = subst (OthersStay p b) (by_more p b v y m) (partition_marked_others p b v y);

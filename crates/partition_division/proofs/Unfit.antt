@@ -21,14 +21,14 @@ use Rattle.partition_division.specs.Steps.{Dividable}
 use Rattle.partition_passes.specs.Invariants.{tallied}
 use Rattle.partition_division.specs.Division.{unfit_tests, roomb, refusal_for}
 
-module _ (p : Partition) (b : ℕ) (v : List ℕ) (m z : ℕ) (em : m ≡ get_or p.marked_split_lem b 0) (ez : z ≡ get_or p.end b 0) where
+module _ (p : Partition) (b : ℕ) (v : List ℕ) (m z : ℕ) (em : m ≡ get_or p.marked_split b 0) (ez : z ≡ get_or p.end b 0) where
   pub unfit_nine : z ≤ m → refusal nothing_marked b ≡ due (unfit_tests p b v)
   unfolding due
-  unfit_nine h = rw (le-ltb (get_or p.marked_split_lem b 0) (get_or p.end b 0) (omega (arith, em, ez)))
+  unfit_nine h = rw (le-ltb (get_or p.marked_split b 0) (get_or p.end b 0) (omega (arith, em, ez)))
 
   module _ (mk : m < z) (x : ℕ) (ex : x ≡ get_or p.begin b 0) where
-    some : ltb (get_or p.marked_split_lem b 0) (get_or p.end b 0) ≡ true
-    some = lt-ltb (get_or p.marked_split_lem b 0) (get_or p.end b 0) (omega (arith, em, ez))
+    some : ltb (get_or p.marked_split b 0) (get_or p.end b 0) ≡ true
+    some = lt-ltb (get_or p.marked_split b 0) (get_or p.end b 0) (omega (arith, em, ez))
 
     length-is : z - x ≡ len_at p b
     unfolding len_at length_in
@@ -57,7 +57,7 @@ module _ (p : Partition) (b : ℕ) (v : List ℕ) (m z : ℕ) (em : m ≡ get_or
       t_is =
           et
           ∙ ap (λ (y : ℕ). all p.n (λ s. cond (marked_from p.element_offset p.element_to_block b y s) (ltb (get_or v s 0) j) true)) em
-          ∙ ap (λ (y : ℕ). all p.n (λ s. cond (marked_from p.element_offset p.element_to_block b (get_or p.marked_split_lem b 0) s)
+          ∙ ap (λ (y : ℕ). all p.n (λ s. cond (marked_from p.element_offset p.element_to_block b (get_or p.marked_split b 0) s)
           (ltb (get_or v s 0) y) true)) j_is
 
       pub unfit_dense : t ≡ true → none ≡ due (unfit_tests p b v)

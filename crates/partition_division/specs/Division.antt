@@ -24,7 +24,7 @@ said_division a = said_division_outcome a.outcome
 -- 9 with nothing marked; 10 with numbers that are not dense, which a block of one state is not asked
 abbrev pub unfit_tests : Partition → ℕ → List ℕ → List Test
 unfit_tests p b v =
-    test (nat_lt (slice_index p.marked_split_lem b) (slice_index p.end b)) nothing_marked b
+    test (nat_lt (slice_index p.marked_split b) (slice_index p.end b)) nothing_marked b
     ∷ test (len_at p b == 1 || denseb p b v) not_dense (missing p b v)
     ∷ []
 

@@ -136,7 +136,8 @@ fn all_below(
     numbers: &[u16],
 ) -> bool
     requires { (n ≤ length element_offset.now) × (n ≤ length element_to_block.now) × (n ≤ length numbers.now) }
-    ensures { result ≡ all n (λ s. (if marked_from element_offset.now element_to_block.now b m s then nat_lt (slice_index numbers.now s) k else true)) }
+    ensures { result ≡ all n (λ s. (if marked_from element_offset.now element_to_block.now b m s then nat_lt (slice_index numbers.now s) k
+        else true)) }
 {
     let mut s = 0;
     while s < n {

@@ -1,4 +1,6 @@
 // `partition_marked_with` (block_partition.rs): the marked states of a block, divided by number.
+#![tactic(auto)]
+
 ghost use Rattle.std.specs.Prelude.{◌≡◌};
 ghost use Rattle.partition_division.specs.Division.{said_division, work, partition_marked_with};
 ghost use Rattle.partition_calls.specs.Saying.{count_said};
@@ -39,7 +41,8 @@ pub fn partition_marked_with(
     block_sizes: &mut [u16],
     spare: &mut [u16],
 ) -> DivisionAnswer
-    ensures { let given = parts elements.old element_offset.old element_to_block.old begin.old marked_split.old end.old partition.n partition.count in
+    ensures { let given = parts elements.old element_offset.old element_to_block.old begin.old marked_split.old end.old partition.n
+        partition.count in
         let left = parts elements.new element_offset.new element_to_block.new begin.new marked_split.new end.new partition.n
         (count_said (said_division result) partition.count) in
         (said_division result, (left, work old_elements.new block_sizes.new spare.new))

@@ -86,7 +86,7 @@ module _ (e o b : List ℕ) (n count : ℕ) where
           element_offset = g.element_offset;
           element_to_block = g.element_to_block;
           begin = omega (arith, h, length-map cs (λ (b : Block). b.begin));
-          marked_split_lem = omega (arith, h, length-map cs (λ (b : Block). b.marked_split));
+          marked_split = omega (arith, h, length-map cs (λ (b : Block). b.marked_split));
           end = omega (arith, h, length-map cs (λ (b : Block). b.end));
         }
 

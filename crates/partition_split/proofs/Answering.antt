@@ -32,12 +32,12 @@ module _ (p : Partition) (b : ℕ) (c : List ℕ) (t : Refusal) (e : t ≡ split
 
   pub split_refused :
       (t.number ≡ 0 → ⊥) → said_number a ≡ refused t.number t.place
-      → said_with p.elements p.element_offset p.element_to_block p.begin p.marked_split_lem p.end
+      → said_with p.elements p.element_offset p.element_to_block p.begin p.marked_split p.end
       (count_said (said_number a) p.count)
       ≡ split_marked p b c
   unfolding split_marked
   split_refused n q =
-      ap (said_with p.elements p.element_offset p.element_to_block p.begin p.marked_split_lem p.end) (count_said_lem _ q)
+      ap (said_with p.elements p.element_offset p.element_to_block p.begin p.marked_split p.end) (count_said_lem _ q)
       ∙ left_refused (split_refusal p b c) t e p (split p b c) ((split p b c).count ∷ []) (said_number a) n q
 
   pub split_answered :

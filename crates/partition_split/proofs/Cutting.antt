@@ -17,13 +17,13 @@ use Rattle.partition_split.proofs.Sieves.{inside}
 -- block j is from x to z, unmarked
 pub record Unmarked (q : Partition) (j x z : ℕ) : Type 0 where
   pub begin : get_or q.begin j 0 ≡ x
-  pub marked_split_lem : get_or q.marked_split_lem j 0 ≡ z
+  pub marked_split : get_or q.marked_split j 0 ≡ z
   pub end : get_or q.end j 0 ≡ z
 
 -- block j has the entry of the table that it had
 pub record SameEntry (p q : Partition) (j : ℕ) : Type 0 where
   pub begin : get_or q.begin j 0 ≡ get_or p.begin j 0
-  pub marked_split_lem : get_or q.marked_split_lem j 0 ≡ get_or p.marked_split_lem j 0
+  pub marked_split : get_or q.marked_split j 0 ≡ get_or p.marked_split j 0
   pub end : get_or q.end j 0 ≡ get_or p.end j 0
 
 module _ (p : Partition) (g : Sound p) (b : ℕ) (w : b < p.count) (e : ℕ) (from : get_or p.begin b 0 < e) (to : e < get_or p.end b 0)
@@ -66,7 +66,7 @@ module _ (p : Partition) (g : Sound p) (b : ℕ) (w : b < p.count) (e : ℕ) (fr
     cut_new =
         record {
           begin = get_or-set_same p.begin p.count e 0 (omega (arith, room_for, g.long.begin));
-          marked_split_lem = two_last p.marked_split_lem b p.count e z (omega (arith, room_for, g.long.marked_split_lem));
+          marked_split = two_last p.marked_split b p.count e z (omega (arith, room_for, g.long.marked_split));
           end = two_last p.end b p.count e z (omega (arith, room_for, g.long.end));
         }
 
@@ -75,7 +75,7 @@ module _ (p : Partition) (g : Sound p) (b : ℕ) (w : b < p.count) (e : ℕ) (fr
     cut_old =
         record {
           begin = begin_old b w;
-          marked_split_lem = two_first p.marked_split_lem b p.count e z (omega (arith, room_for, g.long.marked_split_lem)) (λ q. omega arith);
+          marked_split = two_first p.marked_split b p.count e z (omega (arith, room_for, g.long.marked_split)) (λ q. omega arith);
           end = two_first p.end b p.count e z (omega (arith, room_for, g.long.end)) (λ q. omega arith);
         }
 
@@ -84,7 +84,7 @@ module _ (p : Partition) (g : Sound p) (b : ℕ) (w : b < p.count) (e : ℕ) (fr
     cut_other j wj m =
         record {
           begin = begin_old j wj;
-          marked_split_lem = two_other p.marked_split_lem b p.count e z j m (λ q. omega arith);
+          marked_split = two_other p.marked_split b p.count e z j m (λ q. omega arith);
           end = two_other p.end b p.count e z j m (λ q. omega arith);
         }
 
@@ -97,12 +97,12 @@ module _ (p : Partition) (g : Sound p) (b : ℕ) (w : b < p.count) (e : ℕ) (fr
         (same_or_not j p.count)
 
     bounds : (j : ℕ) → j < p.count + 1
-        → Within (get_or (cut p b e).begin j 0) (get_or (cut p b e).marked_split_lem j 0) (get_or (cut p b e).end j 0) p.n
+        → Within (get_or (cut p b e).begin j 0) (get_or (cut p b e).marked_split j 0) (get_or (cut p b e).end j 0) p.n
     bounds =
         let i = h.bounds b w in
         let new = cut_new in
         let old = cut_old in
-        by_block (λ j. Within (get_or (cut p b e).begin j 0) (get_or (cut p b e).marked_split_lem j 0) (get_or (cut p b e).end j 0) p.n)
+        by_block (λ j. Within (get_or (cut p b e).begin j 0) (get_or (cut p b e).marked_split j 0) (get_or (cut p b e).end j 0) p.n)
         (record {
           some = omega (arith, new);
           from = omega (arith, new);
@@ -206,7 +206,7 @@ module _ (p : Partition) (g : Sound p) (b : ℕ) (w : b < p.count) (e : ℕ) (fr
               length-renumbered p.elements e p.count p.element_to_block z,
             );
             begin = omega (arith, g.long.begin, length-set p.begin p.count e);
-            marked_split_lem = simp length-set g.long.marked_split_lem;
+            marked_split = simp length-set g.long.marked_split;
             end = simp length-set g.long.end;
           };
           consistent = record {

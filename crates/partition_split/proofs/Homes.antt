@@ -23,7 +23,7 @@ use Rattle.partition_split.proofs.Reordering.{
 }
 use Rattle.partition_split.proofs.Sieves.{Sieved, sieve_idle}
 use Rattle.partition_split.proofs.Splits.{
-  parts-nothing,
+  parts_nothing,
   parts_all,
   parts_both,
   sifted_of,
@@ -64,7 +64,7 @@ module _ (p : Partition) (b : ℕ) (c : List ℕ) (g : Sound p) (w : b < p.count
   x = get_or p.begin b 0
 
   abbrev m : ℕ
-  m = get_or p.marked_split_lem b 0
+  m = get_or p.marked_split b 0
 
   abbrev z : ℕ
   z = get_or p.end b 0
@@ -136,16 +136,16 @@ module _ (p : Partition) (b : ℕ) (c : List ℕ) (g : Sound p) (w : b < p.count
       let j = untaken_stands t wt q k' in
       parts_both p b e (λ r. omega arith) (λ r. omega arith)
 
-  pub nothing-taken : ((s : ℕ) → s < p.n → taken p b c s ≡ false) → splitsb p b c ≡ false
+  pub nothing_taken : ((s : ℕ) → s < p.n → taken p b c s ≡ false) → splitsb p b c ≡ false
   unfolding splitsb
-  nothing-taken h =
+  nothing_taken h =
       ⊎_elim
       (λ (a : e < z).
       let we : e < p.n = omega (arith, (g.consistent.bounds b w).most) in
       let s = get_or (sifted_in p b c).elements e 0 in
       let q = v.order.back e we in
       absurd (contra (stands_taken s (v.order.below e we) (omega (arith, q)) (omega (arith, q))) (h s (v.order.below e we))))
-      (λ (a : z ≤ e). parts-nothing p b e (omega (arith, v.high))) (lt-or-le e z)
+      (λ (a : z ≤ e). parts_nothing p b e (omega (arith, v.high))) (lt-or-le e z)
 
   pub all-taken : ((s : ℕ) → s < p.n → block s ≡ b → taken p b c s ≡ true) → splitsb p b c ≡ false
   unfolding splitsb
@@ -175,6 +175,6 @@ module _ (p : Partition) (b : ℕ) (c : List ℕ) (g : Sound p) (w : b < p.count
   unfolding sifted_in
   untouched h =
       let i = g.consistent.bounds b w in
-      split_stays p b c (nothing-taken h)
+      split_stays p b c (nothing_taken h)
       ∙ ap (λ (f : Sifted). reordered p f.elements f.element_offset)
       (sieve_idle (z - m) c p.elements p.element_offset m (λ k a y. unchosen h k a (omega (arith, i.to))))

@@ -30,26 +30,26 @@ module _ (p : Partition) (b : ℕ) (c : List ℕ) (g : Sound p) (w : b < p.count
   marks_stay t =
       ap (λ (q : Partition). unmarkedb q s) (split_stays p b c t)
       ∙ ⊎_elim
-      (λ (i : (get_or p.marked_split_lem b 0 ≤ stood) × (stood < get_or p.end b 0)).
+      (λ (i : (get_or p.marked_split b 0 ≤ stood) × (stood < get_or p.end b 0)).
       let q = marked_home p b c g w s ws i.0 i.1 in
       let now = marked_of (sifted_of p b c) b s q (marked_stay p b c g w s ws i.0 i.1).0 in
       (marked_in_lem (sifted_of p b c) b s q).0 now ∙ sym ((marked_in_lem p b s q).0 (marked_of p b s q i.0)))
-      (λ (out : get_or p.marked_split_lem b 0 ≤ stood → stood < get_or p.end b 0 → ⊥).
-      ap (λ (y : ℕ). ltb y (get_or p.marked_split_lem block 0)) (unmoved p b c g w s ws out))
-      (inside (get_or p.marked_split_lem b 0) stood (get_or p.end b 0))
+      (λ (out : get_or p.marked_split b 0 ≤ stood → stood < get_or p.end b 0 → ⊥).
+      ap (λ (y : ℕ). ltb y (get_or p.marked_split block 0)) (unmoved p b c g w s ws out))
+      (inside (get_or p.marked_split b 0) stood (get_or p.end b 0))
 
   pub marks-cleared : splitsb p b c ≡ true → block ≡ b → unmarkedb (split p b c) s ≡ true
   unfolding unmarkedb
   marks-cleared t q =
-      let to = get_or (split p b c).marked_split_lem (get_or (split p b c).element_to_block s 0) 0 in
+      let to = get_or (split p b c).marked_split (get_or (split p b c).element_to_block s 0) 0 in
       ap (λ (y : List ℕ). ltb (get_or y s 0) to) (split_offset p b c)
       ∙ ⊎_elim
       (λ (k : taken p b c s ≡ true).
       let i = taken_stands p b c g w s ws k in
-      let r = ap (λ (y : ℕ). get_or (split p b c).marked_split_lem y 0) (taken_move p b c g w t s ws k) in
-      lt-ltb stands to (omega (arith, (split_new_block p b c g w t).marked_split_lem)))
+      let r = ap (λ (y : ℕ). get_or (split p b c).marked_split y 0) (taken_move p b c g w t s ws k) in
+      lt-ltb stands to (omega (arith, (split_new_block p b c g w t).marked_split)))
       (λ (k : taken p b c s ≡ false).
       let i = untaken_stands p b c g w s ws q k in
-      let r = ap (λ (y : ℕ). get_or (split p b c).marked_split_lem y 0) (untaken_stay p b c g w s ws k ∙ q) in
-      lt-ltb stands to (omega (arith, (split_old_block p b c g w t).marked_split_lem)))
+      let r = ap (λ (y : ℕ). get_or (split p b c).marked_split y 0) (untaken_stay p b c g w s ws k ∙ q) in
+      lt-ltb stands to (omega (arith, (split_old_block p b c g w t).marked_split)))
       (cases (taken p b c s))

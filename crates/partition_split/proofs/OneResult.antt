@@ -9,4 +9,4 @@ use Rattle.partition_split.proofs.split_marked as call
 pub split_marked_lem : OneResult call_said.ended call.Reads.Learnt
 split_marked_lem κs a r q x y =
     determined same_number
-    (λ c. skip 1 (c.elements, (c.element_offset, (c.element_to_block, (c.begin, (c.marked_split_lem, (c.end, skip 2 tt))))))) r q
+    (λ c. skip 1 (c.elements, (c.element_offset, (c.element_to_block, (c.begin, (c.marked_split, (c.end, skip 2 tt))))))) r q

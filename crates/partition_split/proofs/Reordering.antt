@@ -13,7 +13,7 @@ use Rattle.partition_split.proofs.Sieves.{Sieved, sieve, rests, stays, inside}
 
 module _ (p : Partition) (b : ℕ) (c : List ℕ) (g : Sound p) (w : b < p.count) where
   abbrev m : ℕ
-  m = get_or p.marked_split_lem b 0
+  m = get_or p.marked_split b 0
 
   abbrev z : ℕ
   z = get_or p.end b 0

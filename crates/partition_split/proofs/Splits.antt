@@ -19,7 +19,7 @@ use Rattle.partition_split.proofs.Sieves.{Sieved}
 pub record SameTable (p q : Partition) : Type 0 where
   pub element_to_block : q.element_to_block ≡ p.element_to_block
   pub begin : q.begin ≡ p.begin
-  pub marked_split_lem : q.marked_split_lem ≡ p.marked_split_lem
+  pub marked_split : q.marked_split ≡ p.marked_split
   pub end : q.end ≡ p.end
   pub count : q.count ≡ p.count
 
@@ -36,9 +36,9 @@ module _ (p : Partition) (b e : ℕ) where
   abbrev rest : Bool
   rest = not (eqb e (get_or p.begin b 0))
 
-  pub parts-nothing : e ≡ get_or p.end b 0 → makes_block p b e ≡ false
+  pub parts_nothing : e ≡ get_or p.end b 0 → makes_block p b e ≡ false
   unfolding makes_block
-  parts-nothing q = and_no_left some rest (ap not (eq-eqb _ _ q))
+  parts_nothing q = and_no_left some rest (ap not (eq-eqb _ _ q))
 
   pub parts_all : e ≡ get_or p.begin b 0 → makes_block p b e ≡ false
   unfolding makes_block
@@ -98,10 +98,10 @@ module _ (p : Partition) (b : ℕ) (c : List ℕ) where
   pub table_stays : splitsb p b c ≡ false → SameTable p (split p b c)
   table_stays t =
       subst (SameTable p) (sym (split_stays t))
-      (record { element_to_block = refl; begin = refl; marked_split_lem = refl; end = refl; count = refl })
+      (record { element_to_block = refl; begin = refl; marked_split = refl; end = refl; count = refl })
 
   module _ (g : Sound p) (w : b < p.count) where
-    abbrev v : Sieved p.n c p.elements p.element_offset (get_or p.marked_split_lem b 0) (get_or p.end b 0) (sifted_in p b c)
+    abbrev v : Sieved p.n c p.elements p.element_offset (get_or p.marked_split b 0) (get_or p.end b 0) (sifted_in p b c)
     v = sieved p b c g w
 
     abbrev s : Sound sifted_of
@@ -116,7 +116,7 @@ module _ (p : Partition) (b : ℕ) (c : List ℕ) where
     split_sound = by_case Sound (λ t. let a = apart t in cut_sound sifted_of s b w place_of a.0 a.1) (λ t. s)
 
     -- ---- what stays
-    pub outside_stays : (k : ℕ) → (get_or p.marked_split_lem b 0 ≤ k → k < get_or p.end b 0 → ⊥) →
+    pub outside_stays : (k : ℕ) → (get_or p.marked_split b 0 ≤ k → k < get_or p.end b 0 → ⊥) →
         get_or (split p b c).elements k 0 ≡ get_or p.elements k 0
     outside_stays k out = ap (λ (y : List ℕ). get_or y k 0) split_elements ∙ v.outside k out
 
@@ -128,8 +128,8 @@ module _ (p : Partition) (b : ℕ) (c : List ℕ) where
               (λ t.
               let a = apart t in
               let same = cut_other sifted_of s b w place_of a.0 a.1 j wj m in
-              record { begin = same.begin; marked_split_lem = same.marked_split_lem; end = same.end })
-              (λ t. record { begin = refl; marked_split_lem = refl; end = refl });
+              record { begin = same.begin; marked_split = same.marked_split; end = same.end })
+              (λ t. record { begin = refl; marked_split = refl; end = refl });
           elements = λ k a y.
               outside_stays k
               (λ f t.

@@ -9,10 +9,10 @@ use Rattle.partition.specs.SwapBlocks.{renumbered}
 use Rattle.partition_split.specs.Split.{Sifted, sifting, sifted, sifted_in, cut, makes_block, splitsb, split}
 use Rattle.partition_split.proofs.Cutting.{room_for}
 use Rattle.partition_split.proofs.Reordering.{sieved, reordered_sound}
-use Rattle.partition_split.proofs.Splits.{parts-nothing, parts_all, parts_both, sifted_of, place_of, split_made, split_stays, apart}
+use Rattle.partition_split.proofs.Splits.{parts_nothing, parts_all, parts_both, sifted_of, place_of, split_made, split_stays, apart}
 
 module _ (p : Partition) (g : Sound p) (b : ℕ) (w : b < p.count) (c : List ℕ) (room : p.n ≤ length c)
-    (x m z : ℕ) (ex : x ≡ get_or p.begin b 0) (em : m ≡ get_or p.marked_split_lem b 0) (ez : z ≡ get_or p.end b 0) where
+    (x m z : ℕ) (ex : x ≡ get_or p.begin b 0) (em : m ≡ get_or p.marked_split b 0) (ez : z ≡ get_or p.end b 0) where
   -- what `sift` asks of the marked stretch
   pub sift_ready : ((m ≤ z) × (z ≤ length p.elements) × (z ≤ 65536)) ×
       ((k : ℕ) → k < z → (get_or p.elements k 0 < length c) × (get_or p.elements k 0 < length p.element_offset))
@@ -38,21 +38,21 @@ module _ (p : Partition) (g : Sound p) (b : ℕ) (w : b < p.count) (c : List ℕ
 
     unsplit :
         makes_block p b e ≡ false
-        → parts l o p.element_to_block p.begin p.marked_split_lem p.end p.n p.count ≡ split p b c
+        → parts l o p.element_to_block p.begin p.marked_split p.end p.n p.count ≡ split p b c
     unsplit t = ap (λ (f : Sifted). reordered p f.elements f.element_offset) same ∙ sym (split_stays p b c (sym made_at ∙ t))
 
-    pub nothing-chosen : e ≡ z → parts l o p.element_to_block p.begin p.marked_split_lem p.end p.n p.count ≡ split p b c
-    nothing-chosen q = unsplit (parts-nothing p b e (q ∙ ez))
+    pub nothing_chosen : e ≡ z → parts l o p.element_to_block p.begin p.marked_split p.end p.n p.count ≡ split p b c
+    nothing_chosen q = unsplit (parts_nothing p b e (q ∙ ez))
 
     pub place_small : e < 65536
     place_small = omega (arith, place, (sieved p b c g w).high, (g.consistent.bounds b w).most, g.small)
 
     -- the marks of a block that is chosen whole are written where they were
     pub all-chosen : (k : ℕ) → k ≡ cond (eqb e x) m e → eqb e x ≡ true →
-        parts l o p.element_to_block p.begin (set p.marked_split_lem b k) p.end p.n p.count ≡ split p b c
+        parts l o p.element_to_block p.begin (set p.marked_split b k) p.end p.n p.count ≡ split p b c
     all-chosen k ek t =
         ap (λ (y : List ℕ). parts l o p.element_to_block p.begin y p.end p.n p.count)
-        (ap (set p.marked_split_lem b) (ek ∙ ap (λ (y : Bool). cond y m e) t ∙ em) ∙ set-get_or p.marked_split_lem b 0)
+        (ap (set p.marked_split b) (ek ∙ ap (λ (y : Bool). cond y m e) t ∙ em) ∙ set-get_or p.marked_split b 0)
         ∙ unsplit (parts_all p b e (eqb-true e x t ∙ ex))
 
     module _ (nz : e ≡ z → ⊥) (nx : eqb e x ≡ false) where
@@ -90,7 +90,7 @@ module _ (p : Partition) (g : Sound p) (b : ℕ) (w : b < p.count) (c : List ℕ
 
       pub split_done :
           (k : ℕ) (bl bg sp en : List ℕ) → k ≡ cond (eqb e x) m e → bg ≡ set p.begin p.count e
-          → sp ≡ set (set p.marked_split_lem b k) p.count z → en ≡ set (set p.end b e) p.count z
+          → sp ≡ set (set p.marked_split b k) p.count z → en ≡ set (set p.end b e) p.count z
           → bl ≡ renumbered l e z p.count p.element_to_block → parts l o bl bg sp en p.n (p.count + 1) ≡ split p b c
       unfolding cut
       split_done k bl bg sp en ek qg qs qe ql =

@@ -32,7 +32,7 @@ sifted (suc d) c l o i =
 -- the marked stretch of block b sifted: the chosen stand from `first` on
 unfoldable pub sifted_in : Partition → ℕ → List ℕ → Sifted
 unfolding sifted
-sifted_in p b c = let m = slice_index_or p.marked_split_lem b 0 in sifted (slice_index p.end b - m) c p.elements p.element_offset m
+sifted_in p b c = let m = slice_index_or p.marked_split b 0 in sifted (slice_index p.end b - m) c p.elements p.element_offset m
 
 -- block b cut at position e: what stands from e on is a new last block, and both are unmarked
 unfoldable pub cut : Partition → ℕ → ℕ → Partition
@@ -44,7 +44,7 @@ cut p b e =
       element_offset = p.element_offset;
       element_to_block = renumbered p.elements e z p.count p.element_to_block;
       begin = slice_set p.begin p.count e;
-      marked_split_lem = slice_set (slice_set p.marked_split_lem b e) p.count z;
+      marked_split = slice_set (slice_set p.marked_split b e) p.count z;
       end = slice_set (slice_set p.end b e) p.count z;
       n = p.n;
       count = p.count + 1;

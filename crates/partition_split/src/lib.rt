@@ -1,4 +1,6 @@
 // `split_marked` (block_partition.rs): the chosen ones among the marked states of a block become a block of their own.
+#![tactic(auto)]
+
 ghost use Rattle.std.specs.Prelude.{◌≡◌};
 ghost use Rattle.columns.specs.Answers.{said_number};
 ghost use Rattle.partition_split.specs.Split.{split_marked};
@@ -24,7 +26,8 @@ pub fn split_marked(
     block_index: u16,
     choice: &[u8],
 ) -> NumberAnswer
-    ensures { let given = parts elements.old element_offset.old element_to_block.old begin.old marked_split.old end.old partition.n partition.count in
+    ensures { let given = parts elements.old element_offset.old element_to_block.old begin.old marked_split.old end.old partition.n
+        partition.count in
         let left = parts elements.new element_offset.new element_to_block.new begin.new marked_split.new end.new partition.n
         (count_said (said_number result) partition.count) in
         (said_number result, left) ≡ split_marked given block_index choice.now }

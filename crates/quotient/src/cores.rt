@@ -120,7 +120,8 @@ pub fn lay_rows(
         let out : Three = (result_source.old, (result_label.old, result_target.old)) in
         let out_left : Three = (result_source.new, (result_label.new, result_target.new)) in
         (result ≡ length kept) × (out_left ≡ rows_over kept out) }
-    ensures cleared { Cleared a.old a.new × Cleared b.old b.new × Cleared c.old c.new × Cleared order.old order.new × Cleared spare.old spare.new }
+    ensures cleared { Cleared a.old a.new × Cleared b.old b.new × Cleared c.old c.new × Cleared order.old order.new × Cleared spare.old
+        spare.new }
 {
     let r = row_set(
         &*a,
@@ -165,7 +166,8 @@ pub fn quotient_rows(
         let out : Three = (result_source.old, (result_label.old, result_target.old)) in
         let out_left : Three = (result_source.new, (result_label.new, result_target.new)) in
         (result ≡ length kept) × (out_left ≡ rows_over kept out) }
-    ensures cleared { Cleared a.old a.new × Cleared b.old b.new × Cleared c.old c.new × Cleared order.old order.new × Cleared spare.old spare.new }
+    ensures cleared { Cleared a.old a.new × Cleared b.old b.new × Cleared c.old c.new × Cleared order.old order.new × Cleared spare.old
+        spare.new }
 {
     let d = select_rows(
         table, source, label, target, home, inerts, loops, &mut *a, &mut *b, &mut *c,

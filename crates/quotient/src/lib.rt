@@ -1,4 +1,6 @@
 // The naive quotient of a table by the blocks of a partition (quotient.rs).
+#![tactic(auto)]
+
 ghost use Rattle.std.specs.Prelude.{◌≡◌, [], ◌∷◌};
 ghost use Rattle.quotient.specs.Call.{quotient_lts_naive};
 ghost use Rattle.table.specs.Tables.{Three, said_table};

@@ -7,7 +7,7 @@ use mathlib.Core.Logic.{inl, inr, ⊎_elim}
 use Rattle.columns.specs.Counting.{many, some}
 use Rattle.columns.proofs.All.{top_or-below, lt-or-le}
 use Rattle.columns.proofs.Bools.{bool_ext, contra, fails}
-use Rattle.columns.proofs.Counting.{many-nothing, many_one_more, many-le}
+use Rattle.columns.proofs.Counting.{many_nothing, many_one_more, many-le}
 use Rattle.columns.proofs.Firsts.{some_in, some_out, some-none}
 use Rattle.quotient_block.specs.Bottom.{bottom, next_on, walked, bottom_from}
 use Rattle.quotient_block.proofs.Walks.{walked-suc, walked_state, walked_still, bottom_lost}
@@ -42,7 +42,7 @@ module _ (n : ℕ) (f : ℕ → ℕ) (h : (i : ℕ) → f i < n) where
       some_in (suc k) (λ i. eqb (f i) u) g.at (omega (arith, g.below)) g.passes))
 
   meets_or : (k : ℕ) → Meets f k ⊎ (many n (seen k) ≡ k)
-  meets_or zero = inr (many-nothing n (seen 0) (λ u w. some-none 0 (λ i. eqb (f i) u) (λ i z. absurd (omega (arith, z)))))
+  meets_or zero = inr (many_nothing n (seen 0) (λ u w. some-none 0 (λ i. eqb (f i) u) (λ i z. absurd (omega (arith, z)))))
   meets_or (suc k) = ⊎_elim (λ m. inl (more m)) (λ (e : many n (seen k) ≡ k). go e (seen k (f k)) refl) (meets_or k)
     where
       more : Meets f k → Meets f (suc k)

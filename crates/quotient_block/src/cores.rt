@@ -231,7 +231,8 @@ fn chosen_rows(
         let out : Three = (result_source.old, (result_label.old, result_target.old)) in
         let out_left : Three = (result_source.new, (result_label.new, result_target.new)) in
         (result ≡ length kept) × (out_left ≡ rows_over kept out) }
-    ensures cleared { Cleared a.old a.new × Cleared b.old b.new × Cleared c.old c.new × Cleared order.old order.new × Cleared spare.old spare.new }
+    ensures cleared { Cleared a.old a.new × Cleared b.old b.new × Cleared c.old c.new × Cleared order.old order.new × Cleared spare.old
+        spare.new }
 {
     let d = select_chosen(
         table, source, label, target, home, chosen, loops, &mut *a, &mut *b, &mut *c,
@@ -283,7 +284,8 @@ pub fn quotient_block(
         let out : Three = (result_source.old, (result_label.old, result_target.old)) in
         let out_left : Three = (result_source.new, (result_label.new, result_target.new)) in
         (said_table result, out_left) ≡ block_quotient branching loops system home.now elements.now begin.now count out }
-    ensures cleared { Cleared a.old a.new × Cleared b.old b.new × Cleared c.old c.new × Cleared order.old order.new × Cleared spare.old spare.new × Cleared chosen.old chosen.new }
+    ensures cleared { Cleared a.old a.new × Cleared b.old b.new × Cleared c.old c.new × Cleared order.old order.new × Cleared spare.old
+        spare.new × Cleared chosen.old chosen.new }
 {
     let without = choose_all(
         table,

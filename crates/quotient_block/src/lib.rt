@@ -1,4 +1,6 @@
 // The quotient of a table by one state of each block of a partition (quotient.rs).
+#![tactic(auto)]
+
 ghost use Rattle.std.specs.Prelude.{◌≡◌, [], ◌∷◌};
 ghost use Rattle.quotient_block.specs.Call.{quotient_lts_block};
 ghost use Rattle.table.specs.Tables.{Three, said_table};

@@ -69,7 +69,8 @@ fn number_one(
     requires fact { let back = lts back back_source.now back_label.now back_target.now in
         TurnedWithStarts (lts table source.now label.now target.now) back × (s < table.n) }
     requires forward_len { (length forward.old ≡ table.n) × (length backward.old ≡ table.n) × (table.n ≤ length queue.old) }
-    requires numbers_value { (numbers.old ≡ numbered_below (lts table source.now label.now target.now) s) × (slice_index numbers.old s ≡ table.n) }
+    requires numbers_value { (numbers.old ≡ numbered_below (lts table source.now label.now target.now) s) × (slice_index numbers.old s ≡
+        table.n) }
     requires x_value { x ≡ many s (leads (linked (lts table source.now label.now target.now))) }
     ensures { numbers.new ≡ numbered_below (lts table source.now label.now target.now) (s + 1) }
 {
@@ -114,7 +115,8 @@ fn number_all(
     backward: &mut [u16],
     queue: &mut [u16],
 ) -> usize
-    requires turned_with_starts { TurnedWithStarts (lts table source.now label.now target.now) (lts back back_source.now back_label.now back_target.now) }
+    requires turned_with_starts { TurnedWithStarts (lts table source.now label.now target.now) (lts back back_source.now back_label.now
+        back_target.now) }
     requires numbers_len { (length numbers.old ≡ table.n) × (length forward.old ≡ table.n) }
     requires backward_len { (length backward.old ≡ table.n) × (table.n ≤ length queue.old) }
     ensures value { result ≡ components (lts table source.now label.now target.now) }
@@ -223,7 +225,8 @@ pub fn tau_scc_decomposition(
     requires n_in_bounds { (table.n ≤ length queue.old) × (table.m ≤ 2 * length queue.old + 1) }
     ensures value { result ≡ components (lts table source.now label.now target.now) }
     ensures numbers_value { numbers.new ≡ written table.n (component (lts table source.now label.now target.now)) numbers.old }
-    ensures cleared { Cleared order.old order.new × Cleared back_source.old back_source.new × Cleared back_label.old back_label.new × Cleared back_target.old back_target.new }
+    ensures cleared { Cleared order.old order.new × Cleared back_source.old back_source.new × Cleared back_label.old back_label.new ×
+        Cleared back_target.old back_target.new }
     ensures cleared_2 { Cleared forward.old forward.new × Cleared backward.old backward.new × Cleared queue.old queue.new }
 {
     let r = find_components(

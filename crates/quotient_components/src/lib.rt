@@ -1,4 +1,6 @@
 // `tau_scc_decomposition` (scc_decomposition.rs): the components of a table, states that reach each other by hidden steps.
+#![tactic(auto)]
+
 ghost use Rattle.std.specs.Prelude.{◌≡◌, [], ◌∷◌};
 ghost use Rattle.columns.specs.Answers.{said_number};
 ghost use Rattle.quotient_components.specs.Call.{tau_scc_decomposition};

@@ -200,8 +200,10 @@ pub fn tau_cycle_elimination_and_reorder(
         let out : Three = (result_source.old, (result_label.old, result_target.old)) in
         let out_left : Three = (result_source.new, (result_label.new, result_target.new)) in
         out_left ≡ rows_over kept out }
-    ensures cleared { Cleared numbers.old numbers.new × Cleared mid_source.old mid_source.new × Cleared mid_label.old mid_label.new × Cleared mid_target.old mid_target.new }
-    ensures cleared_2 { Cleared a.old a.new × Cleared b.old b.new × Cleared c.old c.new × Cleared order.old order.new × Cleared spare.old spare.new }
+    ensures cleared { Cleared numbers.old numbers.new × Cleared mid_source.old mid_source.new × Cleared mid_label.old mid_label.new ×
+        Cleared mid_target.old mid_target.new }
+    ensures cleared_2 { Cleared a.old a.new × Cleared b.old b.new × Cleared c.old c.new × Cleared order.old order.new × Cleared spare.old
+        spare.new }
 {
     let n = find_numbers(
         table,

@@ -1,4 +1,6 @@
 // `tau_cycle_elimination_and_reorder` (signatures.rs): hidden cycles taken out, and the states renumbered in the reversed hidden order.
+#![tactic(auto)]
+
 ghost use Rattle.table.specs.Tables.{Three};
 ghost use Rattle.std.specs.Prelude.{◌≡◌, [], ◌∷◌};
 ghost use Rattle.quotient_cycles.specs.Call.{said_reordered, tau_cycle_elimination_and_reorder};

@@ -134,7 +134,8 @@ fn row_goes(
     queue: &mut [u16],
 ) -> bool
     requires i_lt_m { i < table.m }
-    requires turned_with_starts { TurnedWithStarts (lts table source.now label.now target.now) (lts back back_source.now back_label.now back_target.now) }
+    requires turned_with_starts { TurnedWithStarts (lts table source.now label.now target.now) (lts back back_source.now back_label.now
+        back_target.now) }
     requires forward_len { (length forward.old ≡ table.n) × (length backward.old ≡ table.n) × (table.n ≤ length queue.old) }
     requires forward_value { 0 < i → forward.old ≡ marks_from (lts table source.now label.now target.now) (slice_index source.now (i - 1)) }
     ensures value { result ≡ redundant (lts table source.now label.now target.now) i }
@@ -181,7 +182,8 @@ fn list_remaining(
     backward: &mut [u16],
     queue: &mut [u16],
 ) -> usize
-    requires turned_with_starts { TurnedWithStarts (lts table source.now label.now target.now) (lts back back_source.now back_label.now back_target.now) }
+    requires turned_with_starts { TurnedWithStarts (lts table source.now label.now target.now) (lts back back_source.now back_label.now
+        back_target.now) }
     requires m_in_bounds { (table.m ≤ length order.old) × (length forward.old ≡ table.n) }
     requires backward_len { (length backward.old ≡ table.n) × (table.n ≤ length queue.old) }
     ensures order_value { take result order.new ≡ members table.m (remains (lts table source.now label.now target.now)) }
@@ -294,7 +296,8 @@ pub fn remove_redundant_transitions(
         let out : Three = (result_source.old, (result_label.old, result_target.old)) in
         let out_left : Three = (result_source.new, (result_label.new, result_target.new)) in
         out_left ≡ rows_over (remaining_rows system) out }
-    ensures cleared { Cleared order.old order.new × Cleared back_source.old back_source.new × Cleared back_label.old back_label.new × Cleared back_target.old back_target.new }
+    ensures cleared { Cleared order.old order.new × Cleared back_source.old back_source.new × Cleared back_label.old back_label.new ×
+        Cleared back_target.old back_target.new }
     ensures cleared_2 { Cleared forward.old forward.new × Cleared backward.old backward.new × Cleared queue.old queue.new }
 {
     let r = find_remaining(

@@ -1,5 +1,7 @@
 // `remove_redundant_transitions` (quotient.rs). A row can go where hidden steps, with another row of its label between them, lead from its
 // source to its target.
+#![tactic(auto)]
+
 ghost use Rattle.std.specs.Prelude.{◌≡◌, [], ◌∷◌};
 ghost use Rattle.quotient_redundant.specs.Call.{remove_redundant_transitions};
 ghost use Rattle.table.specs.Tables.{Three, said_table};

@@ -46,7 +46,8 @@ fn write_output(stdout: Stdout, input: &[u8], file: &[u8]) -> bool
 fn reduce_into(held: &[u8], got: Got, output: &mut [u8]) -> FileAnswer
     requires { Enough held.now got × (largest_output ≤ length output.old) }
     ensures by_index { (whole : List ℕ) → Heard whole held.now got → (said_file result, output.new) ≡ reduce_file whole output.old }
-    ensures by_index_2 { (whole : List ℕ) → Heard whole held.now got → FileOf whole [] → said_file result ≡ done (file_numbers (table_in whole)) }
+    ensures by_index_2 { (whole : List ℕ) → Heard whole held.now got → FileOf whole [] → said_file result ≡ done (file_numbers (table_in
+        whole)) }
     ensures by_index_3 { (values : List ℕ) → said_file result ≡ done values → reduce_file held.now output.old ≡ (done values, output.new) }
 {
     let size = got.size;

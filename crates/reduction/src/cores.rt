@@ -163,8 +163,10 @@ pub fn reduce(
         let out : Three = (result_source.old, (result_label.old, result_target.old)) in
         let out_left : Three = (result_source.new, (result_label.new, result_target.new)) in
         (block.new ≡ strong_blocks system) × (out_left ≡ rows_over (strong_rows system) out) }
-    ensures cleared { Cleared elements.old elements.new × Cleared element_offset.old element_offset.new × Cleared element_to_block.old element_to_block.new × Cleared begin.old begin.new × Cleared marked_split.old marked_split.new }
-    ensures cleared_2 { Cleared end.old end.new × Cleared numbers.old numbers.new × Cleared labels.old labels.new × Cleared blocks.old blocks.new × Cleared spare.old spare.new }
+    ensures cleared { Cleared elements.old elements.new × Cleared element_offset.old element_offset.new × Cleared element_to_block.old
+        element_to_block.new × Cleared begin.old begin.new × Cleared marked_split.old marked_split.new }
+    ensures cleared_2 { Cleared end.old end.new × Cleared numbers.old numbers.new × Cleared labels.old labels.new × Cleared blocks.old
+        blocks.new × Cleared spare.old spare.new }
 {
     let r = strong_blocks(
         table,

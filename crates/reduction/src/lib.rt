@@ -1,4 +1,6 @@
 // The strong reduction: the coarsest bisimulation of a table by rounds of refinement, and the quotient by it.
+#![tactic(auto)]
+
 ghost use Rattle.std.specs.Prelude.{◌≡◌, [], ◌∷◌};
 ghost use Rattle.reduction.specs.Answers.{said_reduction};
 ghost use Rattle.reduction.specs.Reducing.{Slices, reduction_refusal, strong_reduction};

@@ -1,4 +1,6 @@
 // Blocks numbered by least member. No entry points: each says what it requires.
+#![tactic(auto)]
+
 ghost use Rattle.std.specs.Prelude.{◌≡◌, ℕ, ◌≤◌, ◌<◌, length, get_or};
 ghost use Rattle.columns.specs.Columns.{over};
 ghost use Rattle.columns.specs.Lent.{Clear, Cleared};

@@ -15,7 +15,7 @@ use Rattle.refinement.specs.Runs.{RefinedBelow}
 use Rattle.refinement.proofs.BlockByBlock.{Divides, Numbers, below_more}
 
 -- block b can be divided by the numbers v, and all its states are marked: its marks begin where it begins
-module _ (p : Partition) (b : ℕ) (v : List ℕ) (y : Dividable p b v) (all : get_or p.marked_split_lem b 0 ≡ get_or p.begin b 0) where
+module _ (p : Partition) (b : ℕ) (v : List ℕ) (y : Dividable p b v) (all : get_or p.marked_split b 0 ≡ get_or p.begin b 0) where
   marked : (s : ℕ) → s < p.n → home_of p s ≡ b → marked_in p b s ≡ true
   marked = whole_marked p y.sound.consistent b all
 

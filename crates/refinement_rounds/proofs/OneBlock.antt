@@ -44,7 +44,7 @@ more_blocks p b v y =
 
 module _ (p : Partition) (g : Sound p) (b : ℕ) (hb : b < p.count) where
   -- ---- the block wholly marked
-  marked_whole : get_or (set p.marked_split_lem b (get_or p.begin b 0)) b 0 ≡ get_or p.begin b 0
+  marked_whole : get_or (set p.marked_split b (get_or p.begin b 0)) b 0 ≡ get_or p.begin b 0
   marked_whole = marks_begin p g.consistent g.long b (get_or p.begin b 0) hb
 
   pub wholly_sound : Sound (wholly p b)
@@ -198,7 +198,7 @@ module _
 
     module _
         (σ : Store) (v : List ℕ) (r : ℕ) (num : Numbered (alike_at p.elements σ x) p.elements x (z - x) v r) (m : List ℕ)
-        (em : m ≡ set p.marked_split_lem b (get_or p.begin b 0))
+        (em : m ≡ set p.marked_split b (get_or p.begin b 0))
       where
         -- the partition with the marks as they are written
         abbrev pub as_marked : Partition

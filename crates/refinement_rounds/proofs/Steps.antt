@@ -14,7 +14,7 @@ use Rattle.refinement.proofs.Ties.{Running, run_start}
 pub by_signatures :
     (sig : Signature) (σ : Store) (p : Partition) (elements offset : List ℕ) (q : Partition) → σ.n ≡ p.n
     → AllSigned σ (sig p.element_to_block)
-    → Rounded (stored_signature σ) (parts elements offset p.element_to_block p.begin p.marked_split_lem p.end p.n p.count) q
+    → Rounded (stored_signature σ) (parts elements offset p.element_to_block p.begin p.marked_split p.end p.n p.count) q
     → Rounded sig p q
 by_signatures sig σ p elements offset q same g r =
     let f = r.refined in

@@ -39,7 +39,8 @@ fn split_block(
     d: usize,
     spare: &mut [u16],
 ) -> usize
-    requires sound { Sound (parts elements.old element_offset.old element_to_block.old begin.old marked_split.old end.old n count) × (b < count) }
+    requires sound { Sound (parts elements.old element_offset.old element_to_block.old begin.old marked_split.old end.old n count) × (b <
+        count) }
     requires held { Held (store_behind n labels.old blocks.old d begins.now) × (n ≤ length numbers.old) }
     requires clear_front { ClearFront n labels.old × ClearFront n blocks.old × (n < length spare.old) × Clear spare.old }
     ensures fact { let given = parts elements.old element_offset.old element_to_block.old begin.old marked_split.old end.old n count in

@@ -47,9 +47,11 @@ fn number_next(
     numbers: &mut [u16],
     next: usize,
 ) -> usize
-    requires held { Held (store n labels.now blocks.now d begins.now) × Stand elements.now n x (j + 1) × (n ≤ length numbers.old) × (j < 65536) }
+    requires held { Held (store n labels.now blocks.now d begins.now) × Stand elements.now n x (j + 1) × (n ≤ length numbers.old) × (j <
+        65536) }
     requires numbered { Numbered (alike_at elements.now (store n labels.now blocks.now d begins.now) x) elements.now x j numbers.old next }
-    ensures numbered_2 { Numbered (alike_at elements.now (store n labels.now blocks.now d begins.now) x) elements.now x (j + 1) numbers.new result }
+    ensures numbered_2 { Numbered (alike_at elements.now (store n labels.now blocks.now d begins.now) x) elements.now x (j + 1)
+        numbers.new result }
     ensures by_index { (s : ℕ) → (get_or elements.now (x + j) 0 ≡ s → ⊥) → get_or numbers.new s 0 ≡ get_or numbers.old s 0 }
 {
     let s = at(elements, x + j);
@@ -78,8 +80,10 @@ pub fn number_block(
 ) -> usize
     requires { Held (store n labels.now blocks.now d begins.now) × Stand elements.now n x (z - x) × (n ≤ length numbers.old) × (x ≤ z)
         × (z - x ≤ 65536) }
-    ensures numbered { Numbered (alike_at elements.now (store n labels.now blocks.now d begins.now) x) elements.now x (z - x) numbers.new result }
-    ensures by_index { (s : ℕ) → ((i : ℕ) → i < z - x → get_or elements.now (x + i) 0 ≡ s → ⊥) → get_or numbers.new s 0 ≡ get_or numbers.old s 0 }
+    ensures numbered { Numbered (alike_at elements.now (store n labels.now blocks.now d begins.now) x) elements.now x (z - x) numbers.new
+        result }
+    ensures by_index { (s : ℕ) → ((i : ℕ) → i < z - x → get_or elements.now (x + i) 0 ≡ s → ⊥) → get_or numbers.new s 0 ≡ get_or
+        numbers.old s 0 }
 {
     let k = z - x;
     let mut j = 0;

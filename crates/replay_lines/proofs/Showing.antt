@@ -60,9 +60,9 @@ unfolding rest_text spelled_all
 rest_plain short r x s l = rw s (ap (λ t. run_text r ++ (t ++ spelled_all l)) (append-nil (spelled x)))
 
 -- the text of a run: no cell, one cell, equal cells and ascending ones
-pub text-none : (r : Run) → r.count ≡ 0 → [] ≡ run_text r
+pub text_none : (r : Run) → r.count ≡ 0 → [] ≡ run_text r
 unfolding run_text
-text-none r h = rw (eq-eqb r.count 0 h)
+text_none r h = rw (eq-eqb r.count 0 h)
 
 pub text_one : (r : Run) → r.count ≡ 1 → spelled r.first ≡ run_text r
 unfolding run_text

@@ -8,7 +8,7 @@ use lib.Seq.{get_or-set_other}
 use Rattle.columns.specs.Counting.{many, members}
 use Rattle.columns.specs.Rows.{pairs_of}
 use Rattle.columns.specs.Sets.{Pair}
-use Rattle.columns.proofs.Counting.{bit_true, bit_false, many-suc, many-nothing}
+use Rattle.columns.proofs.Counting.{bit_true, bit_false, many-suc, many_nothing}
 use Rattle.columns.proofs.Members.{members_hit, members_miss, members-rest, members-none}
 use Rattle.columns.proofs.TwoColumns.{length_pairs, pairs_more}
 
@@ -32,7 +32,7 @@ module _ (l₀ : List Pair) (g : ℕ → Pair) (f : ℕ → Bool) (first end : �
     low = omega arith;
     high = h;
     count = omega (arith, sym (length_pairs d a₀ b₀), ap length e);
-    exact = omega (arith, sym (length_pairs d a₀ b₀), ap length e, many-nothing first f n);
+    exact = omega (arith, sym (length_pairs d a₀ b₀), ap length e, many_nothing first f n);
     pairs = e ∙ sym (append-nil l₀) ∙ ap (λ (l : List ℕ). l₀ ++ map g l) (sym (members-none f first n));
     left = refl;
     right = refl;

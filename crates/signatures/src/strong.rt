@@ -37,7 +37,8 @@ pub fn strong_bisim_signature(
         let given = parts elements.now element_offset.now element_to_block.now begin.now marked_split.now end.now table.n count in
         let work = pushed_labels.old ∷ pushed_blocks.old ∷ order.old ∷ spare.old ∷ [] in
         let work_left = pushed_labels.new ∷ pushed_blocks.new ∷ order.new ∷ spare.new ∷ [] in
-        (said_number result, ((labels.new, blocks.new), work_left)) ≡ strong_bisim_signature system given state (labels.old, blocks.old) work }
+        (said_number result, ((labels.new, blocks.new), work_left)) ≡ strong_bisim_signature system given state (labels.old, blocks.old)
+        work }
 {
     let n = table.n as usize;
     let s = state as usize;

@@ -11,7 +11,7 @@ use Rattle.columns.specs.Counting.{sum, many, members, bit}
 use Rattle.columns.specs.Rows.{pairs_of}
 use Rattle.columns.specs.Sets.{Mem, Pair}
 use Rattle.columns.proofs.Bools.{and_left, and_right, and_both, contra, fails}
-use Rattle.columns.proofs.Counting.{bit_true, bit_false, many-sum, many-nothing, many_strict}
+use Rattle.columns.proofs.Counting.{bit_true, bit_false, many-sum, many_nothing, many_strict}
 use Rattle.columns.proofs.Laid.{laid_more, laid_cong, laid_up, length-laid, laid_in, laid_out}
 use Rattle.columns.proofs.Members.{length-members, members_in, members_out}
 use Rattle.columns.proofs.Owners.{by_numbers, one_owner, owned_few}
@@ -66,7 +66,7 @@ module _ (t : Lts) (v : Valid t) (home : List ℕ) (s : ℕ) (queue : List ℕ) 
             bit_true true refl,
           )
       go false e =
-          many-nothing k (λ j. eqb x (get_or queue j 0) && o)
+          many_nothing k (λ j. eqb x (get_or queue j 0) && o)
           (λ j w.
           fails
           (λ p.

@@ -1,5 +1,7 @@
 // The branching signature (signatures.rs): over states reached by hidden steps that stay in the state's block, all visible steps, and
 // hidden steps into other blocks.
+#![tactic(auto)]
+
 ghost use Rattle.std.specs.Prelude.{◌≡◌, [], ◌∷◌};
 ghost use Rattle.signatures_branching.specs.Branching.{branching_bisim_signature};
 ghost use Rattle.columns.specs.Answers.{said_number};
@@ -43,7 +45,10 @@ pub fn branching_bisim_signature(
         let given = parts elements.now element_offset.now element_to_block.now begin.now marked_split.now end.now table.n count in
         let work = pushed_labels.old ∷ pushed_blocks.old ∷ order.old ∷ spare.old ∷ marks.old ∷ queue.old ∷ [] in
         let work_left = pushed_labels.new ∷ pushed_blocks.new ∷ order.new ∷ spare.new ∷ marks.new ∷ queue.new ∷ [] in
-        (said_number result, ((labels.new, blocks.new), work_left)) ≡ branching_bisim_signature system given state (labels.old, blocks.old) work }
+        (said_number result, ((labels.new, blocks.new), work_left)) ≡ branching_bisim_signature system given state (
+          labels.old,
+          blocks.old,
+        ) work }
 {
     let n = table.n as usize;
     let s = state as usize;

@@ -38,8 +38,8 @@ module _ (t : Lts) (s : ℕ) where
       )
 
 -- those of s stand between the first row of s and the first of s + 1
-pub rows-counted : (t : Lts) (s : ℕ) → first_row t.source t.m (s + 1) ≡ first_row t.source t.m s + length (own_rows t s)
-rows-counted t s = omega (arith, own_count t s, rows_count t.source t.m s)
+pub rows_counted : (t : Lts) (s : ℕ) → first_row t.source t.m (s + 1) ≡ first_row t.source t.m s + length (own_rows t s)
+rows_counted t s = omega (arith, own_count t s, rows_count t.source t.m s)
 
 pub few_outer : (t : Lts) (home : List ℕ) (b x : ℕ) → length (outer_pairs t home b x) ≤ length (own_rows t x)
 few_outer t home b x = omega (arith, length_outer t home b x, own_few t x (outerb t home b))

@@ -7,7 +7,7 @@ use Rattle.columns.specs.Counting.{many, members}
 use Rattle.columns.proofs.All.{top_or-below, lt-or-le, not-below}
 use Rattle.columns.proofs.Bools.{contra}
 use Rattle.columns.proofs.Chosen.{length-chosen, chosen_of}
-use Rattle.columns.proofs.Counting.{bit_true, bit_false, many-suc, many-nothing, many_up, many_strict, Ranked, many_onto}
+use Rattle.columns.proofs.Counting.{bit_true, bit_false, many-suc, many_nothing, many_up, many_strict, Ranked, many_onto}
 use Rattle.pairs_merge.specs.Merged.{wide}
 use Rattle.pairs.specs.Lists.{start_at}
 use Rattle.signatures_sorted.specs.Joining.{Opened}
@@ -36,7 +36,7 @@ module _ (starts : List ℕ) (g : ℕ → ℕ) (f : ℕ → Bool) (first end : �
   opening_start h n = record {
     from = omega arith;
     upto = h;
-    count = sym (many-nothing first f n);
+    count = sym (many_nothing first f n);
     places = λ r w e. absurd (contra e (n r w));
     ends = λ r w e. absurd (contra e (n r w));
     behind = λ j l. (refl, refl);

@@ -1,5 +1,7 @@
 // The sorted branching signature (signatures.rs): the state's own steps; for a hidden step within the block, the target's given list is
 // taken.
+#![tactic(auto)]
+
 ghost use Rattle.std.specs.Prelude.{◌≡◌, [], ◌∷◌};
 ghost use Rattle.columns.specs.Answers.{said_number};
 ghost use Rattle.signatures_sorted.specs.Sorted.{flat, branching_bisim_signature_sorted};

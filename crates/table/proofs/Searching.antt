@@ -10,7 +10,7 @@ use Rattle.columns.specs.Columns.{listed, zeros}
 use Rattle.columns.specs.Counting.{many, bit}
 use Rattle.columns.proofs.All.{top_or-below, same_or_not}
 use Rattle.columns.proofs.Bools.{and_left, and_right, bool_ext}
-use Rattle.columns.proofs.Counting.{many_one_more, many_cong, many-le, many-nothing}
+use Rattle.columns.proofs.Counting.{many_one_more, many_cong, many-le, many_nothing}
 use Rattle.columns.proofs.Lists.{length-listed, listed_at, zeros_at, set_here}
 use Rattle.columns.proofs.Rooms.{roomy_of}
 use Rattle.table.specs.Lts.{Lts, Valid}
@@ -54,7 +54,7 @@ module _ (edge : ℕ → ℕ → Bool) (n : ℕ) where
           sym
           (many_one_more n s (λ _. false) (λ u. eqb (get_or marks₀ u 0) 1) h refl (eq-eqb _ _ (mark_here s refl))
           (λ k o. ne_eqb _ _ (λ e. o (mark_only k e)))
-          ∙ ap suc (many-nothing n (λ _. false) (λ k w. refl)));
+          ∙ ap suc (many_nothing n (λ _. false) (λ k w. refl)));
       state = λ k w. omega (arith, queue_first k w, h);
       once = λ i j a c e. omega (arith, a, c);
       marked = λ k w. mark_here (get_or (set queue 0 s) k 0) (queue_first k w);

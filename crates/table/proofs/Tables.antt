@@ -1,6 +1,6 @@
 -- Rows as a table, in columns of their own or over the front of lent ones: the table has these rows, and is valid where they ascend
 -- within its bounds. And what an answer with a header says determines it.
-use Rattle.std.specs.Prelude.{◌≡◌, ℕ, ◌<◌, ◌≤◌, List, [], ◌∷◌, length, get_or}
+use Rattle.std.specs.Prelude.{◌≡◌, ℕ, ◌<◌, ◌≤◌, List, length, get_or}
 use mathlib.Core.Path.{sym, ap, subst, ◌∙◌}
 use native.Mathlib.Omega.{arith}
 use lib.ListN.{length-append, length-map}

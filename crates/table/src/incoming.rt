@@ -35,7 +35,8 @@ pub fn incoming(
     incoming: &mut [u16],
     spare: &mut [u16],
 ) -> NumberAnswer
-    ensures { (said_number result, (incoming.new, spare.new)) ≡ incoming_rows (lts table source.now label.now target.now) incoming.old spare.old }
+    ensures { (said_number result, (incoming.new, spare.new)) ≡ incoming_rows (lts table source.now label.now target.now) incoming.old
+        spare.old }
 {
     let m = table.m as usize;
     let t = incoming_refusal(table, source, label, target, incoming.len(), spare.len());

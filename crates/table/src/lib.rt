@@ -1,5 +1,7 @@
 // A transition table. Its header goes by value; its rows lie in three lent columns, source, label and target, strictly
 // ascending in this order of fields.
+#![tactic(auto)]
+
 pub mod answers;
 pub mod checks;
 pub mod cores;

@@ -66,7 +66,7 @@ module _ (t : Lts) (v : Valid t) (b : ℕ) where
 
   module _ (p : Partition) (same : p.n ≡ t.n) (g : Sound p) where
     -- the marked stretch is read, or nothing is unmarked
-    stopped : (it : ℕ) → Done p it → (it ≤ get_or p.marked_split_lem b 0) ⊎ (get_or p.marked_split_lem b 0 ≤ get_or p.begin b 0) → Closed p
+    stopped : (it : ℕ) → Done p it → (it ≤ get_or p.marked_split b 0) ⊎ (get_or p.marked_split b 0 ≤ get_or p.begin b 0) → Closed p
     unfolding Done Closed
     stopped it d (inl a) i h l e k =
         let f = v.fields i h in
@@ -82,7 +82,7 @@ module _ (t : Lts) (v : Valid t) (b : ℕ) where
         (omega (arith, a, subst (λ (x : ℕ). get_or p.begin x 0 ≤ get_or p.element_offset (from i) 0) home y.from))
 
     read_more :
-        (it : ℕ) → get_or p.marked_split_lem b 0 ≤ it → Done p (suc it) → Done (mark_into t b (get_or p.elements it 0) t.m p) it
+        (it : ℕ) → get_or p.marked_split b 0 ≤ it → Done p (suc it) → Done (mark_into t b (get_or p.elements it 0) t.m p) it
     unfolding Done
     read_more it a d k x z i h l e =
         let u = get_or p.elements it 0 in
@@ -104,11 +104,11 @@ module _ (t : Lts) (v : Valid t) (b : ℕ) where
       let r = into_grown t v b u t.m p (omega arith) same g in
       go (goes_on p b (suc it)) refl (λ d. read_closed it (mark_into t b u t.m p) (r.n ∙ same) r.sound d)
     where
-      stops : goes_on p b (suc it) ≡ false → (suc it ≤ get_or p.marked_split_lem b 0) ⊎ (get_or p.marked_split_lem b 0 ≤ get_or p.begin b 0)
+      stops : goes_on p b (suc it) ≡ false → (suc it ≤ get_or p.marked_split b 0) ⊎ (get_or p.marked_split b 0 ≤ get_or p.begin b 0)
       stops e =
-          ⊎_elim (λ (z : ltb (get_or p.marked_split_lem b 0) (suc it) ≡ false). inl (ltb-false _ _ z))
-          (λ (z : ltb (get_or p.begin b 0) (get_or p.marked_split_lem b 0) ≡ false). inr (ltb-false _ _ z))
-          (and_split (ltb (get_or p.marked_split_lem b 0) (suc it)) (ltb (get_or p.begin b 0) (get_or p.marked_split_lem b 0)) e)
+          ⊎_elim (λ (z : ltb (get_or p.marked_split b 0) (suc it) ≡ false). inl (ltb-false _ _ z))
+          (λ (z : ltb (get_or p.begin b 0) (get_or p.marked_split b 0) ≡ false). inr (ltb-false _ _ z))
+          (and_split (ltb (get_or p.marked_split b 0) (suc it)) (ltb (get_or p.begin b 0) (get_or p.marked_split b 0)) e)
 
       go : (c : Bool) → goes_on p b (suc it) ≡ c
           → (Done (mark_into t b (get_or p.elements it 0) t.m p) it →

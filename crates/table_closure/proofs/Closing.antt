@@ -14,7 +14,7 @@ read_stop t b p zero e = refl
 read_stop t b p (suc it) e = rw e
 
 -- what the loop's test says
-module _ (p : Partition) (b x m it : ℕ) (ex : x ≡ get_or p.begin b 0) (em : m ≡ get_or p.marked_split_lem b 0) where
+module _ (p : Partition) (b x m it : ℕ) (ex : x ≡ get_or p.begin b 0) (em : m ≡ get_or p.marked_split b 0) where
   pub goes : (c : Bool) → going_on x m it ≡ c → goes_on p b it ≡ c
   unfolding goes_on
   goes c e = rw (← ex, ← em) e
@@ -24,9 +24,9 @@ unfolding going_on
 goes_before x m it e = ltb-true m it (and_left (ltb m it) (ltb x m) e)
 
 -- the position before is a marked one
-pub goes_marked : (p : Partition) (b it : ℕ) → goes_on p b (suc it) ≡ true → get_or p.marked_split_lem b 0 ≤ it
+pub goes_marked : (p : Partition) (b it : ℕ) → goes_on p b (suc it) ≡ true → get_or p.marked_split b 0 ≤ it
 unfolding goes_on
-goes_marked p b it e = omega (arith, goes_before (get_or p.begin b 0) (get_or p.marked_split_lem b 0) (suc it) e)
+goes_marked p b it e = omega (arith, goes_before (get_or p.begin b 0) (get_or p.marked_split b 0) (suc it) e)
 
 -- where the first position is not read, nothing changes
 pub close_idle : (t : Lts) (b : ℕ) (p : Partition) (z : ℕ) → z ≡ get_or p.end b 0 → goes_on p b z ≡ false → p ≡ close t p b

@@ -24,10 +24,10 @@ pub record MarksGrown (b : ℕ) (p q : Partition) : Type 0 where
   -- the columns' lengths
   pub elements : length q.elements ≡ length p.elements
   pub element_offset : length q.element_offset ≡ length p.element_offset
-  pub marked_split_lem : length q.marked_split_lem ≡ length p.marked_split_lem
-  pub falls : get_or q.marked_split_lem b 0 ≤ get_or p.marked_split_lem b 0
-  pub splits : (j : ℕ) → (j ≡ b → ⊥) → get_or q.marked_split_lem j 0 ≡ get_or p.marked_split_lem j 0
-  pub marked : (k : ℕ) → get_or p.marked_split_lem b 0 ≤ k → get_or q.elements k 0 ≡ get_or p.elements k 0
+  pub marked_split : length q.marked_split ≡ length p.marked_split
+  pub falls : get_or q.marked_split b 0 ≤ get_or p.marked_split b 0
+  pub splits : (j : ℕ) → (j ≡ b → ⊥) → get_or q.marked_split j 0 ≡ get_or p.marked_split j 0
+  pub marked : (k : ℕ) → get_or p.marked_split b 0 ≤ k → get_or q.elements k 0 ≡ get_or p.elements k 0
   pub outside : (k : ℕ) → (get_or p.begin b 0 ≤ k → k < get_or p.end b 0 → ⊥) → get_or q.elements k 0 ≡ get_or p.elements k 0
   pub places : (s : ℕ) → (s < p.n → get_or p.element_to_block s 0 ≡ b → ⊥) → get_or q.element_offset s 0 ≡ get_or p.element_offset s 0
 
@@ -42,7 +42,7 @@ grown_none b p g =
       count = refl;
       elements = refl;
       element_offset = refl;
-      marked_split_lem = refl;
+      marked_split = refl;
       falls = omega arith;
       splits = λ j m. refl;
       marked = λ k h. refl;
@@ -61,7 +61,7 @@ grown_more {b} {p} {q} {r} g h =
       count = h.count ∙ g.count;
       elements = h.elements ∙ g.elements;
       element_offset = h.element_offset ∙ g.element_offset;
-      marked_split_lem = h.marked_split_lem ∙ g.marked_split_lem;
+      marked_split = h.marked_split ∙ g.marked_split;
       falls = omega (arith, g.falls, h.falls);
       splits = λ j m. h.splits j m ∙ g.splits j m;
       marked = λ k w. h.marked k (omega (arith, g.falls)) ∙ g.marked k w;
@@ -82,7 +82,7 @@ module _ (p : Partition) (g : Sound p) (s : ℕ) (w : s < p.n) where
   o = get_or p.element_offset s 0
 
   abbrev m : ℕ
-  m = get_or p.marked_split_lem b 0
+  m = get_or p.marked_split b 0
 
   moved_long : Long (moved p s)
   unfolding moved
@@ -92,7 +92,7 @@ module _ (p : Partition) (g : Sound p) (s : ℕ) (w : s < p.n) where
         element_offset = omega (arith, g.long.element_offset, length-swapped_inverse o (m - 1) p.elements p.element_offset);
         element_to_block = g.long.element_to_block;
         begin = g.long.begin;
-        marked_split_lem = omega (arith, g.long.marked_split_lem, length-set p.marked_split_lem b (m - 1));
+        marked_split = omega (arith, g.long.marked_split, length-set p.marked_split b (m - 1));
         end = g.long.end;
       }
 
@@ -154,9 +154,9 @@ module _ (p : Partition) (g : Sound p) (s : ℕ) (w : s < p.n) where
           count = refl;
           elements = length-swapped o (m - 1) p.elements;
           element_offset = length-swapped_inverse o (m - 1) p.elements p.element_offset;
-          marked_split_lem = length-set p.marked_split_lem b (m - 1);
-          falls = omega (arith, get_or-set_same p.marked_split_lem b (m - 1) 0 (omega (arith, k.known, c.most, g.long.marked_split_lem)));
-          splits = λ j f. get_or-set_other p.marked_split_lem b j (m - 1) 0 f;
+          marked_split = length-set p.marked_split b (m - 1);
+          falls = omega (arith, get_or-set_same p.marked_split b (m - 1) 0 (omega (arith, k.known, c.most, g.long.marked_split)));
+          splits = λ j f. get_or-set_other p.marked_split b j (m - 1) 0 f;
           marked = λ x a. other x (λ e. omega (arith, e)) (λ e. omega (arith, e));
           outside = λ x f.
               other x (λ e. f (omega (arith, e, k.from)) (omega (arith, e, k.to)))

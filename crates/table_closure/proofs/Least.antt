@@ -66,7 +66,7 @@ module _ (t : Lts) (v : Valid t) (b : ℕ) (home : List ℕ) (M : ℕ → Type 0
 
   -- a marked position of block b
   position :
-      (p : Partition) → Ours p → b < p.count → (k : ℕ) → get_or p.marked_split_lem b 0 ≤ k → k < get_or p.end b 0 → Inside p
+      (p : Partition) → Ours p → b < p.count → (k : ℕ) → get_or p.marked_split b 0 ≤ k → k < get_or p.end b 0 → Inside p
       → (get_or home (get_or p.elements k 0) 0 ≡ b) × M (get_or p.elements k 0)
   position p o w k a z inside =
       let c = o.sound.consistent in

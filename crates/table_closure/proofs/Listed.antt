@@ -20,10 +20,10 @@ pub record Kept (n : ℕ) (home : List ℕ) (c d : Marks) : Type 0 where
   pub fits : Fits n home d
   pub elements : length d.elements ≡ length c.elements
   pub element_offset : length d.element_offset ≡ length c.element_offset
-  pub marked_split_lem : length d.marked_split_lem ≡ length c.marked_split_lem
+  pub marked_split : length d.marked_split ≡ length c.marked_split
 
 pub kept_none : {n : ℕ} {home : List ℕ} {c : Marks} → Fits n home c → Kept n home c c
-kept_none f = record { fits = f; elements = refl; element_offset = refl; marked_split_lem = refl }
+kept_none f = record { fits = f; elements = refl; element_offset = refl; marked_split = refl }
 
 pub kept_more : {n : ℕ} {home : List ℕ} {c d e : Marks} → Kept n home c d → Kept n home d e → Kept n home c e
 kept_more k l =
@@ -31,13 +31,13 @@ kept_more k l =
       fits = l.fits;
       elements = l.elements ∙ k.elements;
       element_offset = l.element_offset ∙ k.element_offset;
-      marked_split_lem = l.marked_split_lem ∙ k.marked_split_lem;
+      marked_split = l.marked_split ∙ k.marked_split;
     }
 
 module _ (n : ℕ) (home : List ℕ) where
   -- the partition that the columns fit
   abbrev whole : (c : Marks) → Fits n home c → Partition
-  whole c f = parts c.elements c.element_offset home f.begin c.marked_split_lem f.end n f.count
+  whole c f = parts c.elements c.element_offset home f.begin c.marked_split f.end n f.count
 
   fits_markable : (c : Marks) → Fits n home c → (s : ℕ) → s < n → Markable home c s
   fits_markable c f s w = markable (whole c f) s f.sound w
@@ -50,7 +50,7 @@ module _ (n : ℕ) (home : List ℕ) where
         fits = record { begin = f.begin; end = f.end; count = f.count; sound = subst Sound (sym e) g.sound };
         elements = ap (λ (q : Partition). length q.elements) e ∙ g.elements;
         element_offset = ap (λ (q : Partition). length q.element_offset) e ∙ g.element_offset;
-        marked_split_lem = ap (λ (q : Partition). length q.marked_split_lem) e ∙ g.marked_split_lem;
+        marked_split = ap (λ (q : Partition). length q.marked_split) e ∙ g.marked_split;
       }
 
 -- the rows before position j are read
@@ -136,12 +136,12 @@ module _ (n : ℕ) (home : List ℕ) (r : RowList) (h : ℕ) (l : Listed n r h) 
 
   -- ---- the positions of block b, from its end down
   module _ (b x : ℕ) where
-    read_on : (it : ℕ) (d : Marks) → going_on x (get_or d.marked_split_lem b 0) (suc it) ≡ true
+    read_on : (it : ℕ) (d : Marks) → going_on x (get_or d.marked_split b 0) (suc it) ≡ true
         → read_listed r h home b x it (mark_listed r home (get_or d.elements it 0) h d) ≡ read_listed r h home b x (suc it) d
     unfolding read_listed
     read_on it d e = rw e
 
-    read_stop : (it : ℕ) (d : Marks) → going_on x (get_or d.marked_split_lem b 0) it ≡ false → read_listed r h home b x it d ≡ d
+    read_stop : (it : ℕ) (d : Marks) → going_on x (get_or d.marked_split b 0) it ≡ false → read_listed r h home b x it d ≡ d
     unfolding read_listed
     read_stop zero d e = refl
     read_stop (suc it) d e = rw e
@@ -150,9 +150,9 @@ module _ (n : ℕ) (home : List ℕ) (r : RowList) (h : ℕ) (l : Listed n r h) 
     down_start z it e c f = record { most = omega arith; kept = kept_none f; rest = ap (λ (k : ℕ). read_listed r h home b x k c) e }
 
     module _ (z : ℕ) (c d : Marks) (it : ℕ) (w : Down n r home h b x z c d it) (x' m : ℕ) (ex : x' ≡ x)
-        (em : m ≡ get_or d.marked_split_lem b 0) where
-      goes : (t : Bool) → going_on x' m it ≡ t → going_on x (get_or d.marked_split_lem b 0) it ≡ t
-      goes t e = ap (λ (y : ℕ). going_on y (get_or d.marked_split_lem b 0) it) (sym ex) ∙ ap (λ (y : ℕ). going_on x' y it) (sym em) ∙ e
+        (em : m ≡ get_or d.marked_split b 0) where
+      goes : (t : Bool) → going_on x' m it ≡ t → going_on x (get_or d.marked_split b 0) it ≡ t
+      goes t e = ap (λ (y : ℕ). going_on y (get_or d.marked_split b 0) it) (sym ex) ∙ ap (λ (y : ℕ). going_on x' y it) (sym em) ∙ e
 
       pub down_more : 0 < it → going_on x' m it ≡ true → (u : ℕ) → u ≡ get_or d.elements (it - 1) 0
           → (e : Marks) → e ≡ mark_listed r home u h d → Down n r home h b x z c e (it - 1)
@@ -163,7 +163,7 @@ module _ (n : ℕ) (home : List ℕ) (r : RowList) (h : ℕ) (l : Listed n r h) 
             kept = rw f (kept_more w.kept (kept_listed u h (omega arith) d w.kept.fits));
             rest =
                 ap (read_listed r h home b x (it - 1)) (f ∙ ap (λ (y : ℕ). mark_listed r home y h d) eu)
-                ∙ read_on (it - 1) d (ap (going_on x (get_or d.marked_split_lem b 0)) (sym k) ∙ goes true t)
+                ∙ read_on (it - 1) d (ap (going_on x (get_or d.marked_split b 0)) (sym k) ∙ goes true t)
                 ∙ ap (λ (y : ℕ). read_listed r h home b x y d) (sym k)
                 ∙ w.rest;
           }

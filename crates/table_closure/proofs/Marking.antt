@@ -17,13 +17,13 @@ use Rattle.table_closure.proofs.Growing.{MarksGrown, mark_grown, moved_before, b
 
 -- a state of block b is marked exactly if it stands at or after the split
 module _ (p : Partition) (b s : ℕ) (e : home_of p s ≡ b) where
-  pub marked_from_lem : Marked p s → get_or p.marked_split_lem b 0 ≤ get_or p.element_offset s 0
+  pub marked_from_lem : Marked p s → get_or p.marked_split b 0 ≤ get_or p.element_offset s 0
   unfolding unmarkedb
-  marked_from_lem h = subst (λ (x : ℕ). get_or p.marked_split_lem x 0 ≤ get_or p.element_offset s 0) e (ltb-false _ _ h)
+  marked_from_lem h = subst (λ (x : ℕ). get_or p.marked_split x 0 ≤ get_or p.element_offset s 0) e (ltb-false _ _ h)
 
-  pub from_marked : get_or p.marked_split_lem b 0 ≤ get_or p.element_offset s 0 → Marked p s
+  pub from_marked : get_or p.marked_split b 0 ≤ get_or p.element_offset s 0 → Marked p s
   unfolding unmarkedb
-  from_marked h = le-ltb _ _ (subst (λ (x : ℕ). get_or p.marked_split_lem x 0 ≤ get_or p.element_offset s 0) (sym e) h)
+  from_marked h = le-ltb _ _ (subst (λ (x : ℕ). get_or p.marked_split x 0 ≤ get_or p.element_offset s 0) (sym e) h)
 
 module _ (b : ℕ) (p q : Partition) (g : MarksGrown b p q) where
   pub home_stays : (s : ℕ) → home_of q s ≡ home_of p s
@@ -32,12 +32,12 @@ module _ (b : ℕ) (p q : Partition) (g : MarksGrown b p q) where
   pub others_stay : (s : ℕ) → (home_of p s ≡ b → ⊥) → unmarkedb q s ≡ unmarkedb p s
   unfolding unmarkedb
   others_stay s far =
-      ap (λ (x : ℕ). ltb x (get_or q.marked_split_lem (home_of q s) 0)) (g.places s (λ w e. far e))
-      ∙ ap (λ (x : ℕ). ltb (get_or p.element_offset s 0) (get_or q.marked_split_lem x 0)) (home_stays s)
+      ap (λ (x : ℕ). ltb x (get_or q.marked_split (home_of q s) 0)) (g.places s (λ w e. far e))
+      ∙ ap (λ (x : ℕ). ltb (get_or p.element_offset s 0) (get_or q.marked_split x 0)) (home_stays s)
       ∙ ap (λ (x : ℕ). ltb (get_or p.element_offset s 0) x) (g.splits (home_of p s) far)
 
   -- a state at a marked position stays there
-  place_stays : Sound p → (s : ℕ) → s < p.n → get_or p.marked_split_lem b 0 ≤ get_or p.element_offset s 0 →
+  place_stays : Sound p → (s : ℕ) → s < p.n → get_or p.marked_split b 0 ≤ get_or p.element_offset s 0 →
       get_or q.element_offset s 0 ≡ get_or p.element_offset s 0
   place_stays h s w a =
       let k = get_or p.element_offset s 0 in
@@ -62,7 +62,7 @@ module _ (p : Partition) (g : Sound p) (s : ℕ) (w : s < p.n) where
   o = get_or p.element_offset s 0
 
   abbrev m : ℕ
-  m = get_or p.marked_split_lem b 0
+  m = get_or p.marked_split b 0
 
   module _ (t : unmarkedb p s ≡ true) where
     o_in : o < p.n
@@ -71,11 +71,11 @@ module _ (p : Partition) (g : Sound p) (s : ℕ) (w : s < p.n) where
     m_in : m - 1 < p.n
     m_in = let k = both p g s w t in let a = moved_before p g s w t in omega (arith, k.to, k.most)
 
-    moved-split : get_or (moved p s).marked_split_lem b 0 ≡ m - 1
+    moved-split : get_or (moved p s).marked_split b 0 ≡ m - 1
     unfolding moved
     moved-split =
-        get_or-set_same p.marked_split_lem b (m - 1) 0
-        (omega (arith, (both p g s w t).known, g.consistent.most, g.long.marked_split_lem))
+        get_or-set_same p.marked_split b (m - 1) 0
+        (omega (arith, (both p g s w t).known, g.consistent.most, g.long.marked_split))
 
     moved_offset : get_or (moved p s).element_offset s 0 ≡ m - 1
     unfolding moved

@@ -33,7 +33,7 @@ going_on begin split it = nat_lt split it && nat_lt begin split
 
 unfoldable pub goes_on : Partition → ℕ → ℕ → Bool
 unfolding going_on
-goes_on p b it = going_on (slice_index p.begin b) (slice_index p.marked_split_lem b) it
+goes_on p b it = going_on (slice_index p.begin b) (slice_index p.marked_split b) it
 
 -- the positions before `it` are read, the last first, until nothing is unmarked or the marked stretch is read
 unfoldable pub read_down : Lts → ℕ → ℕ → Partition → Partition

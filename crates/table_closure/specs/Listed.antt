@@ -33,7 +33,7 @@ unfoldable pub read_listed : RowList → ℕ → List ℕ → ℕ → ℕ → �
 unfolding going_on mark_listed
 read_listed r h home b x zero c = c
 read_listed r h home b x (suc it) c =
-    cond (going_on x (slice_index c.marked_split_lem b) (suc it)) (read_listed r h home b x it (mark_listed r home (slice_index c.elements it) h c)) c
+    cond (going_on x (slice_index c.marked_split b) (suc it)) (read_listed r h home b x it (mark_listed r home (slice_index c.elements it) h c)) c
 
 -- the first h listed rows: they come from states, and are listed by target
 pub record Listed (n : ℕ) (r : RowList) (h : ℕ) : Type 0 where
@@ -46,4 +46,4 @@ pub record Fits (n : ℕ) (home : List ℕ) (c : Marks) : Type 0 where
   pub begin : List ℕ
   pub end : List ℕ
   pub count : ℕ
-  pub sound : Sound (parts c.elements c.element_offset home begin c.marked_split_lem end n count)
+  pub sound : Sound (parts c.elements c.element_offset home begin c.marked_split end n count)

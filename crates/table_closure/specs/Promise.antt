@@ -31,7 +31,7 @@ pub record Elsewhere (p : Partition) (b : ℕ) (q : Partition) : Type 0 where
   pub end : q.end ≡ p.end
   pub n : q.n ≡ p.n
   pub count : q.count ≡ p.count
-  pub splits : (j : ℕ) → (j ≢ b) → slice_index q.marked_split_lem j ≡ slice_index p.marked_split_lem j
+  pub splits : (j : ℕ) → (j ≢ b) → slice_index q.marked_split j ≡ slice_index p.marked_split j
   pub places : (s : ℕ) → (home_of p s ≢ b) → slice_index q.element_offset s ≡ slice_index p.element_offset s
   pub beyond : (s : ℕ) → p.n ≤ s → slice_index q.element_offset s ≡ slice_index p.element_offset s
   pub order : (k : ℕ) → (slice_index p.begin b ≤ k → k < slice_index p.end b → ⊥) → slice_index q.elements k ≡ slice_index p.elements k

@@ -122,7 +122,8 @@ pub fn mark_backward_closure(
 )
     requires valid { Valid (lts table source.now label.now target.now) × (table.m ≤ length order.old) × (table.m ≤ length spare.old) }
     requires clear { Clear order.old × Clear spare.old }
-    requires sound { Sound (parts elements.old element_offset.old element_to_block.now begin.now marked_split.old end.now table.n count) × (b < count) }
+    requires sound { Sound (parts elements.old element_offset.old element_to_block.now begin.now marked_split.old end.now table.n count) ×
+        (b < count) }
     ensures left_value { let system = lts table source.now label.now target.now in
         let given = parts elements.old element_offset.old element_to_block.now begin.now marked_split.old end.now table.n count in
         let left = parts elements.new element_offset.new element_to_block.now begin.now marked_split.new end.now table.n count in

@@ -22,7 +22,8 @@ fn is_inner(
     i: usize,
 ) -> bool
     requires i_in_bounds { (i < length source.now) × (i < length label.now) × (i < length target.now) }
-    requires i_in_bounds_2 { (slice_index source.now i < length element_to_block.now) × (slice_index target.now i < length element_to_block.now) }
+    requires i_in_bounds_2 { (slice_index source.now i < length element_to_block.now) × (slice_index target.now i < length
+        element_to_block.now) }
     ensures { result ≡ innerb (lts table source.now label.now target.now) element_to_block.now b i }
 {
     if !hidden_in(label, source, element_to_block, b, i) {

@@ -1,5 +1,7 @@
 // `mark_backward_closure` (block_partition.rs): the marks of a block closed under incoming hidden steps within the block. The one
 // operation of a partition that reads a table.
+#![tactic(auto)]
+
 ghost use Rattle.std.specs.Prelude.{◌≡◌};
 ghost use Rattle.columns.specs.Answers.{said};
 ghost use Rattle.table_closure.specs.Closure.{mark_backward_closure};

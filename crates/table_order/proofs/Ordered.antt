@@ -8,7 +8,7 @@ use native.Mathlib.Omega.{arith}
 use Rattle.columns.specs.Sets.{Mem}
 use Rattle.columns.specs.Counting.{many}
 use Rattle.columns.proofs.All.{top_or-below, same_or_not}
-use Rattle.columns.proofs.Counting.{many-le, many-nothing, many_one_more}
+use Rattle.columns.proofs.Counting.{many-le, many_nothing, many_one_more}
 use Rattle.columns.proofs.Members.{many_front}
 use Rattle.table.specs.Reach.{Walk, stop, along}
 use Rattle.table_order.specs.Order.{is_in, behind}
@@ -35,7 +35,7 @@ mem_arc next s t m = mem_is_in t (next s) m
 
 module _ (next : ℕ → List ℕ) (n : ℕ) where
   pub counted : {l : List ℕ} → Ordered next n l → many n (λ s. is_in s l) ≡ length l
-  counted none = many-nothing n (λ s. is_in s []) (λ s w. not-is_in s [] Memᴰ.not-nil)
+  counted none = many_nothing n (λ s. is_in s []) (λ s w. not-is_in s [] Memᴰ.not-nil)
   counted (more {x} {xs} f b c o) = many_one_more n x (λ s. is_in s xs) (λ s. is_in s (x ∷ xs)) b (not-is_in x xs f) (is_in_head x xs)
       (λ s g. is_in_other s x xs g) ∙ ap suc (counted o)
 

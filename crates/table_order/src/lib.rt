@@ -1,4 +1,6 @@
 // `sort_topological` (sort_topological.rs): the order of a table's states, along all rows or along hidden rows only.
+#![tactic(auto)]
+
 ghost use Rattle.std.specs.Prelude.{◌≡◌};
 ghost use Rattle.columns.specs.Answers.{said};
 ghost use Rattle.table_order.specs.Call.{sort_refusal, sort_topological};

@@ -1,4 +1,6 @@
 // A table and a partition of its states, lent to one call: the check that every such call makes. They share n.
+#![tactic(auto)]
+
 ghost use Rattle.std.specs.Prelude.{◌≡◌};
 ghost use Rattle.columns.specs.Due.{due};
 ghost use Rattle.table_partition.specs.Checks.{both_tests, both_argument_refusal};

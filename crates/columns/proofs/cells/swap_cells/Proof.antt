@@ -4,8 +4,6 @@ use Rattle.columns.specs.Columns.{swapped}
 use borrow.Author.Rules.{rules}
 use Rattle.columns.proofs.cells.swap_cells.Statement.{statement}
 use Rattle.columns.proofs.cells.swap_cells.Tie as tie
-use Rattle.columns.proofs.cells.swap_cells.Reads as reads
-use Rattle.columns.proofs.cells.swap_cells.Lts as lts
 
 offset_bounds-a-i : tie.Need-offset_bounds-a-i
 offset_bounds-a-i c = search rules

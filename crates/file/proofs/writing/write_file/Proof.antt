@@ -21,7 +21,7 @@ L a = lts a.args.table a.args.source.now a.args.label.now a.args.target.now
 ready :
     (c : tie.After-write_refusal-t) → c.write_refusal-t.result.number ≡ 0
     → Writable (L c.before.before.before.before.before.before) c.args.states
-    c.args.blocks.now
+    (length c.args.blocks.now)
     (length c.args.bytes.now)
 ready c z = writable _ _ _ _ _ c.write_refusal-t.ensures z
 
@@ -38,7 +38,7 @@ returns-then-refused-ne0 c =
     let k = a.args.states in
     let blocks = a.args.blocks.now in
     let bytes = a.args.bytes.now in
-    left_refused (write_refusal (L a) k blocks (length bytes)) _ c.write_refusal-t.ensures bytes
+    left_refused (write_refusal (L a) k (length blocks) (length bytes)) _ c.write_refusal-t.ensures bytes
     (over (output_bytes (L a) (take k blocks)) bytes) (output_size a.args.table.m k ∷ []) _ c.if-refused-ne0.true c.refusing_number.ensures
 
 slice_bounds-write-end : tie.Need-slice_bounds-write-end
@@ -72,7 +72,7 @@ returns c =
     let k = a.args.states in
     let blocks = a.args.blocks.now in
     let bytes = a.args.bytes.now in
-    left_done (write_refusal (L a) k blocks (length bytes)) _ c.write_refusal-t.ensures bytes
+    left_done (write_refusal (L a) k (length blocks) (length bytes)) _ c.write_refusal-t.ensures bytes
     (over (output_bytes (L a) (take k blocks)) bytes) (output_size a.args.table.m k ∷ []) _ _ c.if-refused-ne0.false
     (c.number.ensures ∙ ap (λ (n : ℕ). done (n ∷ [])) c.output_size.ensures) c.write.ensures
 

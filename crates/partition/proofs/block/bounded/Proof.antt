@@ -1,6 +1,5 @@
 -- `block.bounded` meets its contract.
 use borrow.Author.Rules.{rules}
-use borrow.Author.Tests.{not-true, not-false}
 use mathlib.Core.Path.{sym, ◌∙◌}
 use Rattle.partition.specs.Block.{new_block}
 use Rattle.partition.proofs.block.bounded.Statement.{statement}

@@ -1,5 +1,4 @@
 -- `blocks_ok` meets its contract.
-use borrow.Author.Tests.{not-true, not-false}
 use Rattle.columns.proofs.All.{all_none, all_more, all_fails, all_done}
 use Rattle.columns.specs.Counting.{all}
 use Rattle.partition.specs.Partition.{block_at, boundsb}

@@ -1,5 +1,5 @@
 -- `checks::consistent` meets its contract: each test, with those before it passed.
-use borrow.Author.Tests.{le-leb, lt-leb, eq-eqb, ne_eqb, not-true, not-false}
+use borrow.Author.Tests.{le-leb, lt-leb, eq-eqb, ne_eqb}
 use mathlib.Core.Path.{sym, ◌∙◌}
 use borrow.Author.Rules.{rules}
 use Rattle.partition.specs.Partition.{consistentb}

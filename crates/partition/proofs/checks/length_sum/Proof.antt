@@ -1,7 +1,6 @@
 -- `length_sum` meets its contract.
 use Rattle.partition.specs.Partition.{lengths}
 use Rattle.partition.proofs.Lengths.{lengths_more}
-use mathlib.Core.Logic.{⊎_elim}
 use mathlib.Core.Path.{◌≡◌, refl, ap, ◌∙◌}
 use native.Mathlib.Omega.{arith}
 use Prim.Native.Nat.{◌≤◌, ◌-◌, ◌*◌}
@@ -40,8 +39,8 @@ loop-b-preserved c =
     let x = c.at-x.ensures in
     let z = c.at-z.ensures in
     elim c.if-x-z.branch [
-      then-x-z w ↦ (omega arith, (lengths_more _ _ _ _ _ _ _ x.0 z.0 i.1.0 w.sum-is, omega (arith, w.sum-is)))
-    | else-x-z w ↦ (omega arith, (lengths_more _ _ _ _ _ _ _ x.0 z.0 i.1.0 (omega (arith, w.sum-is)), omega (arith, w.sum-is)))
+      | then-x-z w ↦ (omega arith, (lengths_more _ _ _ _ _ _ _ x.0 z.0 i.1.0 w.sum-is, omega (arith, w.sum-is)))
+      | else-x-z w ↦ (omega arith, (lengths_more _ _ _ _ _ _ _ x.0 z.0 i.1.0 (omega (arith, w.sum-is)), omega (arith, w.sum-is)))
     ]
 
 returns : tie.Need-returns invariant-loop-b decreases-loop-b

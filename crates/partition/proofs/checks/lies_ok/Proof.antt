@@ -1,5 +1,4 @@
 -- `lies_ok` meets its contract.
-use borrow.Author.Tests.{not-true, not-false}
 use Rattle.columns.proofs.All.{all_none, all_more, all_fails, all_done}
 use Rattle.columns.specs.Counting.{all}
 use Rattle.partition.specs.Partition.{lie_at, liesb}

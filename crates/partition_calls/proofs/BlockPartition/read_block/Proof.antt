@@ -43,7 +43,7 @@ read_block-requires : tie.Need-read_block-requires
 read_block-requires c κs = let a = c.before.before.before.before.before.before.before.before.before.before in
     let q = argument_ready (P a) a.args.block_index a.args.self.count true _ c.argument_refusal-t.ensures
     c.if-number-ne0.false in
-    omega (arith, q.known, q.sound.consistent.most, q.sound.long.begin, q.sound.long.marked_split_lem, q.sound.long.end)
+    omega (arith, q.known, q.sound.consistent.most, q.sound.long.begin, q.sound.long.marked_split, q.sound.long.end)
 
 returns : tie.Need-returns
 unfolding read_block

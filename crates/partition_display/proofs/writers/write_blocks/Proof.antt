@@ -11,11 +11,11 @@ use Rattle.partition_display.proofs.writers.write_blocks.Statement.{statement}
 use Rattle.partition_display.proofs.writers.write_blocks.Tie as tie
 
 abbrev invariant-loop-b : tie.invariant-loop-b
-invariant-loop-b count elements begin marked_split_lem end text₀ next₀ b₀ text next b =
-    Joining (λ k. block_text elements (get_or begin k 0) (get_or marked_split_lem k 0) (get_or end k 0)) (7 * 65535 + 4) count text₀ next₀ text next b
+invariant-loop-b count elements begin marked_split end text₀ next₀ b₀ text next b =
+    Joining (λ k. block_text elements (get_or begin k 0) (get_or marked_split k 0) (get_or end k 0)) (7 * 65535 + 4) count text₀ next₀ text next b
 
 abbrev decreases-loop-b : tie.decreases-loop-b
-decreases-loop-b count elements begin marked_split_lem end text₀ next₀ b₀ text next b = count - b
+decreases-loop-b count elements begin marked_split end text₀ next₀ b₀ text next b = count - b
 
 write_byte-next-requires : tie.Need-write_byte-next-requires invariant-loop-b decreases-loop-b
 write_byte-next-requires c κs = search rules

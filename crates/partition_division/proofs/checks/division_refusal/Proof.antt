@@ -63,7 +63,7 @@ unfit_refusal-requires c κs = let a = c.before.before.before.before.before.befo
     = leb-true _ _ (and_left (leb a.args.n (length a.args.numbers.now)) (all_long (a.args.n + 1) (Works a)) q.enough) in (
       (
         omega (arith, q.known, q.sound.consistent.most, q.sound.long.begin),
-        omega (arith, q.known, q.sound.consistent.most, q.sound.long.marked_split_lem),
+        omega (arith, q.known, q.sound.consistent.most, q.sound.long.marked_split),
         omega (arith, q.known, q.sound.consistent.most, q.sound.long.end),
         omega (arith, w.some),
       ),

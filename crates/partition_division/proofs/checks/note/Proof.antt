@@ -54,24 +54,26 @@ loop-s-preserved c =
     let s = c.loop-s.s in
     let F = marked_from a.args.element_offset.now a.args.element_to_block.now a.args.b a.args.m in
     let W : ℕ → ℕ = λ s. get_or a.args.numbers.now s 0 in
-    elim c.if-is_marked.branch [ then-is_marked w ↦
-    let y : F s ≡ true = sym c.is_marked.ensures ∙ w.if-is_marked.true in (
-      omega arith,
-      (
-        ap length w.seen-is ∙ w.note_one.auto.seen ∙ i.1.0,
-        noted_more F W s a.args.n c.loop-s.seen c.if-is_marked.seen i.1.1 w.at.result y w.at.ensures.0
-            (omega (arith, i.1.0, a.requires.0)) (w.seen-is ∙ w.note_one.ensures),
-      ),
-    )
-    | else-is_marked w ↦
-    let y : F s ≡ false = sym c.is_marked.ensures ∙ w.if-is_marked.false in (
-      omega arith,
-      (
-        ap length w.seen-is ∙ i.1.0,
-        noted_pass F W s a.args.n c.loop-s.seen c.if-is_marked.seen
-            i.1.1 y w.seen-is,
-      ),
-    ) ]
+    elim c.if-is_marked.branch [
+      | then-is_marked w ↦
+          let y : F s ≡ true = sym c.is_marked.ensures ∙ w.if-is_marked.true in (
+            omega arith,
+            (
+              ap length w.seen-is ∙ w.note_one.auto.seen ∙ i.1.0,
+              noted_more F W s a.args.n c.loop-s.seen c.if-is_marked.seen i.1.1 w.at.result y w.at.ensures.0
+                  (omega (arith, i.1.0, a.requires.0)) (w.seen-is ∙ w.note_one.ensures),
+            ),
+          )
+      | else-is_marked w ↦
+          let y : F s ≡ false = sym c.is_marked.ensures ∙ w.if-is_marked.false in (
+            omega arith,
+            (
+              ap length w.seen-is ∙ i.1.0,
+              noted_pass F W s a.args.n c.loop-s.seen c.if-is_marked.seen
+                  i.1.1 y w.seen-is,
+            ),
+          )
+    ]
 
 shape_of-seen : tie.Need-shape_of-seen invariant-loop-s decreases-loop-s
 shape_of-seen c = c.loop-s.invariant.1.0

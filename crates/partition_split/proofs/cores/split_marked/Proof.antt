@@ -6,7 +6,7 @@ use Rattle.partition.specs.Partition.{Partition, parts}
 use mathlib.Core.Path.{◌∙◌}
 use lib.ListN.{length-set}
 use lib.Seq.{lt-length-set}
-use Rattle.partition_split.proofs.Steps.{sift_ready, nothing-chosen, place_small, all-chosen, cut_ready, split_done}
+use Rattle.partition_split.proofs.Steps.{sift_ready, nothing_chosen, place_small, all-chosen, cut_ready, split_done}
 use Rattle.partition_split.proofs.cores.split_marked.Statement.{statement}
 use Rattle.partition_split.proofs.cores.split_marked.Tie as tie
 
@@ -47,7 +47,7 @@ shape_of-end-then-e-z : tie.Need-shape_of-end-then-e-z
 shape_of-end-then-e-z c = search rules
 
 returns-then-e-z : tie.Need-returns-then-e-z
-returns-then-e-z c = let a = c.before.before.before.before.before.before.before.before.before.before.before.before.before.before.before.before.before.before in nothing-chosen (P a) a.requires.0 _ a.requires.1.0 a.args.choice.now a.requires.1.1 _ _ _
+returns-then-e-z c = let a = c.before.before.before.before.before.before.before.before.before.before.before.before.before.before.before.before.before.before in nothing_chosen (P a) a.requires.0 _ a.requires.1.0 a.args.choice.now a.requires.1.1 _ _ _
     c.at-x.ensures.0
     c.at-m.ensures.0
     c.at-z.ensures.0 _ _ _
@@ -55,14 +55,14 @@ returns-then-e-z c = let a = c.before.before.before.before.before.before.before.
 
 marks_then-requires : tie.Need-marks_then-requires
 marks_then-requires c κs = let a = c.before.before.before.before.before.before.before.before.before.before.before.before.before.before.before.before.before.before in (
-      omega arith,
-      place_small (P a) a.requires.0 _ a.requires.1.0 a.args.choice.now
-          a.requires.1.1 _ _ _
-          c.at-x.ensures.0
-          c.at-m.ensures.0
-          c.at-z.ensures.0 _ _ _
-          c.sift-e.ensures,
-    )
+  omega arith,
+  place_small (P a) a.requires.0 _ a.requires.1.0 a.args.choice.now
+      a.requires.1.1 _ _ _
+      c.at-x.ensures.0
+      c.at-m.ensures.0
+      c.at-z.ensures.0 _ _ _
+      c.sift-e.ensures,
+)
 
 overflow_cast-marked_split : tie.Need-overflow_cast-marked_split
 overflow_cast-marked_split c = search rules

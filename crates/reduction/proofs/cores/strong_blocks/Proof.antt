@@ -48,7 +48,7 @@ refine-r-requires c κs =
           element_offset = omega (arith, w.1.0);
           element_to_block = e.0;
           begin = e.1.0;
-          marked_split_lem = e.1.1.0;
+          marked_split = e.1.1.0;
           end = e.1.1.1.0;
         },
       ),

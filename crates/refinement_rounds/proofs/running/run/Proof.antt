@@ -15,16 +15,16 @@ use Rattle.refinement_rounds.proofs.running.run.Tie as tie
 
 abbrev invariant-loop-rounds : tie.invariant-loop-rounds
 invariant-loop-rounds table source label target elements₀ element-offset₀ element-to-block₀ begin₀ marked-split₀ end₀ begins₀ numbers₀ labels₀ blocks₀
-    spare₀ n count₀ rounds₀ elements element_offset element_to_block begin marked_split_lem end begins numbers labels blocks spare count
+    spare₀ n count₀ rounds₀ elements element_offset element_to_block begin marked_split end begins numbers labels blocks spare count
     rounds =
     RoundsGoing (strong_signature (lts table source label target)) rounds
-    (parts elements element_offset element_to_block begin marked_split_lem end table.n count)
+    (parts elements element_offset element_to_block begin marked_split end table.n count)
     × Room table.n table.m elements element_offset begins numbers labels blocks spare
     × (length elements ≡ length elements₀)
     × (length element_offset ≡ length element-offset₀)
     × (length element_to_block ≡ length element-to-block₀)
     × (length begin ≡ length begin₀)
-    × (length marked_split_lem ≡ length marked-split₀)
+    × (length marked_split ≡ length marked-split₀)
     × (length end ≡ length end₀)
     × (length begins ≡ length begins₀)
     × (length numbers ≡ length numbers₀)
@@ -34,7 +34,7 @@ invariant-loop-rounds table source label target elements₀ element-offset₀ el
 
 abbrev decreases-loop-rounds : tie.decreases-loop-rounds
 decreases-loop-rounds table source label target elements₀ element-offset₀ element-to-block₀ begin₀ marked-split₀ end₀ begins₀ numbers₀ labels₀ blocks₀
-    spare₀ n count₀ rounds₀ elements element_offset element_to_block begin marked_split_lem end begins numbers labels blocks spare count
+    spare₀ n count₀ rounds₀ elements element_offset element_to_block begin marked_split end begins numbers labels blocks spare count
     rounds = table.n - rounds
 
 -- the table that is lent

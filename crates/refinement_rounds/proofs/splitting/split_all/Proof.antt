@@ -14,15 +14,15 @@ use Rattle.refinement_rounds.proofs.splitting.split_all.Tie as tie
 
 abbrev invariant-loop-b : tie.invariant-loop-b
 invariant-loop-b n count elements₀ element-offset₀ element-to-block₀ begin₀ marked-split₀ end₀ begins numbers₀ labels₀ blocks₀ d spare₀ c₀ b₀
-    elements element_offset element_to_block begin marked_split_lem end numbers labels blocks spare c b =
+    elements element_offset element_to_block begin marked_split end numbers labels blocks spare c b =
     Splitting (stored_signature (store_behind n labels₀ blocks₀ d begins))
     (parts elements₀ element-offset₀ element-to-block₀ begin₀ marked-split₀ end₀ n count) b
-    (parts elements element_offset element_to_block begin marked_split_lem end n c)
+    (parts elements element_offset element_to_block begin marked_split end n c)
     × (length elements ≡ length elements₀)
     × (length element_offset ≡ length element-offset₀)
     × (length element_to_block ≡ length element-to-block₀)
     × (length begin ≡ length begin₀)
-    × (length marked_split_lem ≡ length marked-split₀)
+    × (length marked_split ≡ length marked-split₀)
     × (length end ≡ length end₀)
     × (length numbers ≡ length numbers₀)
     × (labels ≡ labels₀)
@@ -31,7 +31,7 @@ invariant-loop-b n count elements₀ element-offset₀ element-to-block₀ begin
 
 abbrev decreases-loop-b : tie.decreases-loop-b
 decreases-loop-b n count elements₀ element-offset₀ element-to-block₀ begin₀ marked-split₀ end₀ begins numbers₀ labels₀ blocks₀ d spare₀ c₀ b₀
-    elements element_offset element_to_block begin marked_split_lem end numbers labels blocks spare c b = count - b
+    elements element_offset element_to_block begin marked_split end numbers labels blocks spare c b = count - b
 
 -- the partition that is lent, and the signatures
 abbrev P : tie.Start invariant-loop-b decreases-loop-b → Partition

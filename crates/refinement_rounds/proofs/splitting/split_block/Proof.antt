@@ -117,7 +117,7 @@ mark_all-requires : tie.Need-mark_all-requires
 mark_all-requires c κs =
     let a = c in
     let g = a.requires.0 in
-    (omega (arith, g.1, g.0.consistent.most, g.0.long.begin), omega (arith, g.1, g.0.consistent.most, g.0.long.marked_split_lem))
+    (omega (arith, g.1, g.0.consistent.most, g.0.long.begin), omega (arith, g.1, g.0.consistent.most, g.0.long.marked_split))
 
 slice_bounds-partition_marked_with-end : tie.Need-slice_bounds-partition_marked_with-end
 slice_bounds-partition_marked_with-end c =

@@ -16,16 +16,16 @@ use Rattle.table.specs.Lts.{Lts, lts, Valid}
 use Rattle.table.proofs.Stretches.{rising}
 
 abbrev invariant-loop-i : tie.invariant-loop-i
-invariant-loop-i source label target element_offset element_to_block marked_split_lem state state-to-key pushed-labels₀ pushed-blocks₀ m tau_hat_lem b i₀
+invariant-loop-i source label target element_offset element_to_block marked_split state state-to-key pushed-labels₀ pushed-blocks₀ m tau_hat_lem b i₀
     end d₀ pushed-labels pushed-blocks i d =
     Pushing []
     (λ k.
-    cond (hidden_in label target element_to_block b k && marked_by element_offset element_to_block marked_split_lem (get_or target k 0))
+    cond (hidden_in label target element_to_block b k && marked_by element_offset element_to_block marked_split (get_or target k 0))
     (tau_hat_lem, get_or state-to-key (get_or target k 0) 0) (get_or label k 0, get_or element_to_block (get_or target k 0) 0))
     (λ k. eqb (get_or source k 0) state) i₀ end pushed-labels₀ pushed-blocks₀ i d pushed-labels pushed-blocks
 
 abbrev decreases-loop-i : tie.decreases-loop-i
-decreases-loop-i source label target element_offset element_to_block marked_split_lem state state-to-key pushed-labels₀ pushed-blocks₀ m tau_hat_lem b i₀ end
+decreases-loop-i source label target element_offset element_to_block marked_split state state-to-key pushed-labels₀ pushed-blocks₀ m tau_hat_lem b i₀ end
     d₀ pushed-labels pushed-blocks i d =
     end - i
 

@@ -9,7 +9,7 @@ use Rattle.signatures.specs.Strong.{own_rows}
 use Rattle.table.specs.Lts.{Lts, lts}
 use Rattle.table.proofs.Stretches.{rising}
 use Rattle.signatures_sorted.proofs.Emptied.{lent-zero, refinished}
-use Rattle.signatures_sorted.proofs.Pushed.{few_rows, rows-counted}
+use Rattle.signatures_sorted.proofs.Pushed.{few_rows, rows_counted}
 use Rattle.signatures_sorted.proofs.cores.branching_bisim_signature_sorted.Statement.{statement}
 use Rattle.signatures_sorted.proofs.cores.branching_bisim_signature_sorted.Tie as tie
 
@@ -32,7 +32,7 @@ module _ (q : tie.After-rows_of-rows) where
   D = q.rows_of-rows.result.end - q.rows_of-rows.result.first
 
   rows : D ≡ length (own_rows (L A) A.args.state)
-  rows = omega (arith, q.rows_of-rows.ensures.0, q.rows_of-rows.ensures.1, rows-counted (L A) A.args.state)
+  rows = omega (arith, q.rows_of-rows.ensures.0, q.rows_of-rows.ensures.1, rows_counted (L A) A.args.state)
 
   few : D ≤ A.args.table.m
   few = omega (arith, rows, few_rows (L A) A.args.state)
@@ -55,7 +55,7 @@ rows_of-rows-requires c κs = let a = c.before.before.before.before.before.befor
     (a.requires.0.0.long.source, rising (L a) a.requires.0.0, omega (arith, a.requires.0.1, a.requires.0.0.few_states))
 
 overflow_sub-d : tie.Need-overflow_sub-d
-overflow_sub-d c = let q = c.before in omega (arith, q.rows_of-rows.ensures.0, q.rows_of-rows.ensures.1, rows-counted (L (A q)) (A q).args.state)
+overflow_sub-d c = let q = c.before in omega (arith, q.rows_of-rows.ensures.0, q.rows_of-rows.ensures.1, rows_counted (L (A q)) (A q).args.state)
 
 slice_bounds-sign_rows-end : tie.Need-slice_bounds-sign_rows-end
 slice_bounds-sign_rows-end c = let q = c.before.before.before in fits q (A q).args.own_labels.now (A q).requires.1.1.1.0.0

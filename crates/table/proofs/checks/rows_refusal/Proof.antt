@@ -1,6 +1,5 @@
 -- `checks.rows_refusal` meets its contract. The loop has passed only rows without a fault.
 use borrow.Author.Rules.{rules}
-use borrow.Author.Tests.{not-true, not-false}
 use mathlib.Core.Path.{sym, ◌∙◌}
 use native.Mathlib.Omega.{arith}
 use Rattle.std.specs.Prelude.{◌-◌, ◌≤◌}

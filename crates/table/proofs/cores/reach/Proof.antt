@@ -72,16 +72,16 @@ loop-head-smaller c = let a = c in
 
 loop-head-preserved : tie.Need-loop-head-preserved invariant-loop-head decreases-loop-head
 loop-head-preserved c = let a = c in (
-      subst (λ (x : ℕ). Search (edge (lts a.args.table a.args.source.now a.args.label.now a.args.target.now)
-          a.args.hidden) a.args.table.n x c.visit-tail.new.marks
-          c.visit-tail.new.queue
-          (c.loop-head.head + 1)
-          c.visit-tail.result)
-          c.loop-head.invariant.0.first
-          c.visit-tail.ensures,
-      c.visit-tail.auto.queue ∙
-          c.loop-head.invariant.1,
-    )
+  subst (λ (x : ℕ). Search (edge (lts a.args.table a.args.source.now a.args.label.now a.args.target.now)
+      a.args.hidden) a.args.table.n x c.visit-tail.new.marks
+      c.visit-tail.new.queue
+      (c.loop-head.head + 1)
+      c.visit-tail.result)
+      c.loop-head.invariant.0.first
+      c.visit-tail.ensures,
+  c.visit-tail.auto.queue ∙
+      c.loop-head.invariant.1,
+)
 
 shape_of-marks : tie.Need-shape_of-marks invariant-loop-head decreases-loop-head
 shape_of-marks c = let a = c in

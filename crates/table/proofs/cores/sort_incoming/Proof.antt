@@ -20,12 +20,12 @@ shape_of-spare c = search rules
 
 returns : tie.Need-returns
 returns c = let a = c in (
-      c.sort.ensures.0 ∙ ap (sort_by a.args.target.now a.args.source.now a.args.label.now)
-          c.count_up.ensures,
-      c.sort.ensures.1 ∙
-          ap (λ (n : ℕ). wiped (n / 2) a.args.spare.now)
-          c.count_up.auto.a,
-    )
+  c.sort.ensures.0 ∙ ap (sort_by a.args.target.now a.args.source.now a.args.label.now)
+      c.count_up.ensures,
+  c.sort.ensures.1 ∙
+      ap (λ (n : ℕ). wiped (n / 2) a.args.spare.now)
+      c.count_up.auto.a,
+)
 
 pub sort_incoming_spec : {M : Type 1} → statement M
 sort_incoming_spec =

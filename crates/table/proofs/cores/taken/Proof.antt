@@ -1,7 +1,7 @@
 -- `cores.taken` meets its contract.
 use mathlib.Core.Bool.{not}
 use borrow.Author.Rules.{rules}
-use borrow.Author.Tests.{eq-eqb, ne_eqb, not-false}
+use borrow.Author.Tests.{eq-eqb, ne_eqb}
 use mathlib.Core.Path.{ap, sym}
 use Rattle.table.specs.Reach.{takes}
 use Rattle.table.proofs.cores.taken.Statement.{statement}

@@ -12,13 +12,13 @@ use Rattle.table_closure.proofs.cores.close_marks.Tie as tie
 
 abbrev invariant-loop-it : tie.invariant-loop-it
 invariant-loop-it n source target elements₀ element-offset₀ element_to_block begin marked-split₀ end b order h x it₀ elements element_offset
-    marked_split_lem it =
+    marked_split it =
     Down n (row_list source target order) element_to_block h b (get_or begin b 0) (get_or end b 0)
-    (marks elements₀ element-offset₀ marked-split₀) (marks elements element_offset marked_split_lem) it
+    (marks elements₀ element-offset₀ marked-split₀) (marks elements element_offset marked_split) it
 
 abbrev decreases-loop-it : tie.decreases-loop-it
 decreases-loop-it n source target elements₀ element-offset₀ element_to_block begin marked-split₀ end b order h x it₀ elements element_offset
-    marked_split_lem it =
+    marked_split it =
     it
 
 -- the listed rows and the columns that are lent
@@ -50,7 +50,7 @@ at-requires c κs =
     omega (
       arith,
       c.requires.1.1.1,
-      c.loop-it.invariant.kept.marked_split_lem,
+      c.loop-it.invariant.kept.marked_split,
     )
 
 going_on-requires : tie.Need-going_on-requires invariant-loop-it decreases-loop-it
@@ -110,7 +110,7 @@ shape_of-element_offset : tie.Need-shape_of-element_offset invariant-loop-it dec
 shape_of-element_offset c = c.loop-it.invariant.kept.element_offset
 
 shape_of-marked_split : tie.Need-shape_of-marked_split invariant-loop-it decreases-loop-it
-shape_of-marked_split c = c.loop-it.invariant.kept.marked_split_lem
+shape_of-marked_split c = c.loop-it.invariant.kept.marked_split
 
 returns : tie.Need-returns invariant-loop-it decreases-loop-it
 returns c = let a = c.before.before.before.before.before.before.before.before.before.before.before.before.before.before.before in

@@ -65,7 +65,7 @@ close_marks-requires c κs =
         fits (P a) g,
         (
           omega (arith, g.long.begin),
-          omega (arith, g.long.marked_split_lem),
+          omega (arith, g.long.marked_split),
           omega (arith, g.long.end),
           (g.consistent.bounds a.args.b w).most,
         ),

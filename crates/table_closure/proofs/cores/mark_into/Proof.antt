@@ -10,13 +10,13 @@ use Rattle.table_closure.proofs.cores.mark_into.Statement.{statement}
 use Rattle.table_closure.proofs.cores.mark_into.Tie as tie
 
 abbrev invariant-loop-j : tie.invariant-loop-j
-invariant-loop-j n source target elements₀ element-offset₀ element_to_block marked-split₀ u order h j₀ end elements element_offset marked_split_lem j =
+invariant-loop-j n source target elements₀ element-offset₀ element_to_block marked-split₀ u order h j₀ end elements element_offset marked_split j =
     ((j₀ ≤ j) × (j ≤ end))
     × Into (row_list source target order) element_to_block h u (marks elements₀ element-offset₀ marked-split₀)
-    (marks elements element_offset marked_split_lem) j
+    (marks elements element_offset marked_split) j
 
 abbrev decreases-loop-j : tie.decreases-loop-j
-decreases-loop-j n source target elements₀ element-offset₀ element_to_block marked-split₀ u order h j₀ end elements element_offset marked_split_lem j =
+decreases-loop-j n source target elements₀ element-offset₀ element_to_block marked-split₀ u order h j₀ end elements element_offset marked_split j =
     end - j
 
 -- the listed rows and the columns that are lent
@@ -95,7 +95,7 @@ shape_of-element_offset c = let a = c.before.before.before.before.before.before.
 
 shape_of-marked_split : tie.Need-shape_of-marked_split invariant-loop-j decreases-loop-j
 shape_of-marked_split c = let a = c.before.before.before.before.before.before.before.before.before.before in
-    (into_kept _ _ (R a) a.args.h a.requires.0 a.args.u (C a) _ _ c.loop-j.invariant.1 a.requires.1).marked_split_lem
+    (into_kept _ _ (R a) a.args.h a.requires.0 a.args.u (C a) _ _ c.loop-j.invariant.1 a.requires.1).marked_split
 
 returns : tie.Need-returns invariant-loop-j decreases-loop-j
 returns c = let a = c.before.before.before.before.before.before.before.before.before.before in

@@ -32,19 +32,19 @@ overflow_cast-table c = search rules
 
 write_places-requires : tie.Need-write_places-requires
 write_places-requires c κs = let a = c.before.before.before.before.before.before.before.before.before.before.before.before.before.before.before.before.before.before.before.before in (
-      (
-        omega (
-          arith,
-          c.sweep_all-free.auto.marks,
-          c.clear.auto.a,
-          a.requires.1,
-        ),
-        omega (arith, a.requires.1),
-        a.requires.0.few_states,
-      ),
-      in_range_lem (L a) a.requires.0 a.args.hidden _ _
-          c.sweep_all-free.ensures c.if-free.true,
-    )
+  (
+    omega (
+      arith,
+      c.sweep_all-free.auto.marks,
+      c.clear.auto.a,
+      a.requires.1,
+    ),
+    omega (arith, a.requires.1),
+    a.requires.0.few_states,
+  ),
+  in_range_lem (L a) a.requires.0 a.args.hidden _ _
+      c.sweep_all-free.ensures c.if-free.true,
+)
 
 clear-requires-2 : tie.Need-clear-requires-2
 clear-requires-2 c κs = search rules
@@ -54,9 +54,9 @@ clear-requires-3 c κs = search rules
 
 shape_of-places : tie.Need-shape_of-places
 shape_of-places c = elim c.if-free.branch [
-      then-free w ↦ ap length w.places-is ∙ w.write_places.auto.places
-    | else-free w ↦ ap length w.places-is
-    ]
+  | then-free w ↦ ap length w.places-is ∙ w.write_places.auto.places
+  | else-free w ↦ ap length w.places-is
+]
 
 shape_of-marks : tie.Need-shape_of-marks
 shape_of-marks c = search rules
@@ -66,24 +66,26 @@ shape_of-stack c = search rules
 
 returns : tie.Need-returns
 returns c = let a = c.before.before.before.before.before.before.before.before.before.before.before.before.before.before.before.before.before.before.before.before.before.before.before.before.before.before in (
-      is_free (L a) a.requires.0 a.args.hidden _ _
-          c.sweep_all-free.ensures,
-      (
-        elim c.if-free.branch [ then-free w ↦ w.places-is ∙ placed (L a) a.requires.0 a.args.hidden _ _
-            c.sweep_all-free.ensures
-            a.args.reversed a.args.places.now _ w.if-free.true w.write_places.ensures
-            | else-free w ↦ w.places-is ∙ stays (L a) a.requires.0 a.args.hidden _ _
-            c.sweep_all-free.ensures
-            a.args.reversed a.args.places.now w.if-free.false ],
-        (
-          c.clear-2.ensures ∙
-              ap zeros (c.sweep_all-free.auto.marks ∙
-              c.clear.auto.a),
-          c.clear-3.ensures ∙
-              ap zeros c.sweep_all-free.auto.stack,
-        ),
-      ),
-    )
+  is_free (L a) a.requires.0 a.args.hidden _ _
+      c.sweep_all-free.ensures,
+  (
+    elim c.if-free.branch [
+      | then-free w ↦ w.places-is ∙ placed (L a) a.requires.0 a.args.hidden _ _
+          c.sweep_all-free.ensures
+          a.args.reversed a.args.places.now _ w.if-free.true w.write_places.ensures
+      | else-free w ↦ w.places-is ∙ stays (L a) a.requires.0 a.args.hidden _ _
+          c.sweep_all-free.ensures
+          a.args.reversed a.args.places.now w.if-free.false
+    ],
+    (
+      c.clear-2.ensures ∙
+          ap zeros (c.sweep_all-free.auto.marks ∙
+          c.clear.auto.a),
+      c.clear-3.ensures ∙
+          ap zeros c.sweep_all-free.auto.stack,
+    ),
+  ),
+)
 
 pub sort_topological_spec : {M : Type 1} → statement M
 sort_topological_spec =

@@ -1,6 +1,5 @@
 -- `block.Block.has_marked` meets its contract.
 use borrow.Author.Rules.{rules}
-use borrow.Author.Tests.{not-true, not-false}
 use mathlib.Core.Path.{sym, ◌∙◌}
 use Rattle.partition.specs.Block.{has_marked}
 use Rattle.partition.proofs.block.Block.has_marked.Statement.{statement}

@@ -1,6 +1,5 @@
 -- `block.Block.has_unmarked` meets its contract.
 use borrow.Author.Rules.{rules}
-use borrow.Author.Tests.{not-true, not-false}
 use mathlib.Core.Path.{sym, ◌∙◌}
 use Rattle.partition.specs.Block.{has_unmarked}
 use Rattle.partition.proofs.block.Block.has_unmarked.Statement.{statement}

@@ -1,6 +1,5 @@
 -- `block.Block.len_marked` meets its contract.
 use borrow.Author.Rules.{rules}
-use borrow.Author.Tests.{not-true, not-false}
 use mathlib.Core.Path.{sym, ◌∙◌}
 use Rattle.partition.specs.Block.{len_marked}
 use native.Mathlib.Omega.{arith}

@@ -1,4 +1,4 @@
--- `checks.length_refusal` meets its contract.
+-- `checks.sized_length_refusal` meets its contract.
 use native.Mathlib.Omega.{arith}
 use borrow.Author.Rules.{rules}
 use Rattle.std.specs.Prelude.{◌+◌, ◌*◌, eqb, leb, [], ◌∷◌}
@@ -7,15 +7,15 @@ use Rattle.columns.specs.Due.{test}
 use Rattle.columns.specs.Limits.{wrong_contents}
 use Rattle.columns.proofs.Chains.{chained}
 use Rattle.file.specs.Layout.{row_size, rows_length_at, input_rows}
-use Rattle.file.proofs.Inputs.{no_header, lengths_read}
-use Rattle.file.proofs.checks.length_refusal.Statement.{statement}
-use Rattle.file.proofs.checks.length_refusal.Tie as tie
+use Rattle.file.proofs.Inputs.{sized_no_header, sized_lengths_read}
+use Rattle.file.proofs.checks.sized_length_refusal.Statement.{statement}
+use Rattle.file.proofs.checks.sized_length_refusal.Tie as tie
 
 refuse-requires : tie.Need-refuse-requires
 refuse-requires c κs = search rules
 
 returns-then-size-lt-INPUT_ROWS : tie.Need-returns-then-size-lt-INPUT_ROWS
-returns-then-size-lt-INPUT_ROWS c = let a = c.args in c.refuse.ensures ∙ no_header a.bytes.now a.size c.if-size-lt-INPUT_ROWS.true
+returns-then-size-lt-INPUT_ROWS c = let a = c.args in c.refuse.ensures ∙ sized_no_header a.bytes.now a.size c.if-size-lt-INPUT_ROWS.true
 
 number_at-rows-requires : tie.Need-number_at-rows-requires
 number_at-rows-requires c κs = omega (arith, c.requires c.if-size-lt-INPUT_ROWS.false)
@@ -59,10 +59,10 @@ returns c =
     ∙ chained (other ∷ []) (short ∷ longer ∷ []) refl _ c.refuse_unless-other.ensures _
     (c.or_else.ensures
     ∙ chained (short ∷ []) (longer ∷ []) refl _ c.refuse_unless-short.ensures _ c.refuse_unless-longer.ensures)
-    ∙ lengths_read s size c.if-size-lt-INPUT_ROWS.false m named c.number_at-rows.ensures.0 c.number_at-named.ensures.0
+    ∙ sized_lengths_read s size c.if-size-lt-INPUT_ROWS.false m named c.number_at-rows.ensures.0 c.number_at-named.ensures.0
 
-pub length_refusal_spec : {M : Type 1} → statement M
-length_refusal_spec =
+pub sized_length_refusal_spec : {M : Type 1} → statement M
+sized_length_refusal_spec =
     tie.close
     (tie.spec
     refuse-requires
