@@ -21,7 +21,7 @@ use Rattle.file.proofs.Theorems.{held_whole}
 use Rattle.file_reduction.specs.Reducing.{reduce_file}
 use Rattle.file_reduction.proofs.Done.{refused_file}
 use Rattle.file_reduction.proofs.Ties.{largest, always_room}
-use Rattle.io.specs.Counts.{IsPrefixLen}
+use Rattle.spelling.specs.Counts.{IsPrefixLen}
 use Rattle.reduce.specs.Held.{Heard, AsWhole, Enough}
 use Rattle.reduce.specs.declared.input.Got.{Got}
 

@@ -1,11 +1,11 @@
 // Standard input: its first bytes are held, the others counted as far as it matters.
 ghost use Rattle.std.specs.Prelude.{false, ◌≡◌, ◌≤◌, length, take};
 ghost use Rattle.file.specs.Layout.{largest_input, counted};
-ghost use Rattle.io.specs.Counts.{IsPrefixLen};
+ghost use Rattle.spelling.specs.Counts.{IsPrefixLen};
 ghost use Rattle.reduce.specs.Held.{Enough};
 
 use file::layout::COUNTED;
-use libc::STDIN_FILENO;
+use std::io::{Read, Stdin};
 
 // What one read brought: how many bytes, none at the end of the input, and whether it did not fail.
 #[derive(Drop)]
@@ -24,29 +24,27 @@ pub struct Got {
 }
 
 // One read.
-fn read_some(rest: &mut [u8]) -> Brought
+fn read_some(stdin: &mut Stdin, rest: &mut [u8]) -> Brought
     ensures { result.count ≤ length rest.new }
 {
-    let got = libc::read(STDIN_FILENO, &mut *rest);
-    if got < 0 {
-        return Brought {
+    match stdin.read(rest) {
+        Ok(count) => Brought { good: true, count },
+        Err(_) => Brought {
             good: false,
             count: 0,
-        };
+        },
     }
-    let count = io::count(got, &*rest);
-    Brought { good: true, count }
 }
 
 // Counts what comes behind the bytes held, until the input ends or as many are counted as matter.
-fn count_more(held: usize) -> Got
+fn count_more(stdin: &mut Stdin, held: usize) -> Got
     requires { held ≤ counted }
     ensures { (result.used ≡ held) × (held ≤ result.size) × (result.ended ≡ false → counted ≤ result.size) }
 {
     let mut spare = [0u8; 4096];
     let mut size = held;
     while size < COUNTED {
-        let got = read_some(&mut spare);
+        let got = read_some(stdin, &mut spare);
         let more = got.count;
         if more == 0 {
             return Got {
@@ -68,13 +66,13 @@ fn count_more(held: usize) -> Got
 
 // Reads the first bytes until the input ends or there is no more room, and counts the others. A read that fails is told, and not taken for
 // the end.
-pub fn read_input(bytes: &mut [u8]) -> Got
+pub fn read_input(stdin: &mut Stdin, bytes: &mut [u8]) -> Got
     requires { length bytes.old ≡ largest_input }
     ensures { IsPrefixLen result.used bytes.new × Enough (take result.used bytes.new) result }
 {
     let mut used = 0;
     while used < bytes.len() {
-        let got = read_some(&mut bytes[used..]);
+        let got = read_some(stdin, &mut bytes[used..]);
         let more = got.count;
         if more == 0 {
             return Got {
@@ -86,5 +84,5 @@ pub fn read_input(bytes: &mut [u8]) -> Got
         }
         used += more;
     }
-    count_more(used)
+    count_more(stdin, used)
 }

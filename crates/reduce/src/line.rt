@@ -1,6 +1,6 @@
 // The line on standard error.
 ghost use Rattle.std.specs.Prelude.{◌≡◌, ◌+◌, ◌≤◌, length, take};
-ghost use Rattle.io.specs.Counts.{IsPrefixLen};
+ghost use Rattle.spelling.specs.Counts.{IsPrefixLen};
 ghost use Rattle.file_reduction.specs.Answers.{said_file};
 ghost use Rattle.spelling.specs.Texts.{Put};
 ghost use Rattle.reduce.specs.Line.{source_text, result_text, refused_text, line_text, meaning as Line·meaning};

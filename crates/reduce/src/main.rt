@@ -1,3 +1,5 @@
+#![tactic(auto)]
+
 // The program that people run: an input file on standard input, the output file of its strong reduction on standard output. What was done,
 // or why nothing was, is one line on standard error.
 ghost use Rattle.std.specs.Prelude.{◌≡◌, List, [], ℕ, ◌≤◌, length};
@@ -18,28 +20,25 @@ use file::checks::long_refusal;
 use file::layout::{LARGEST_INPUT, LARGEST_OUTPUT};
 use file_reduction::answers::{FileAnswer, FileOutcome, refusing_file};
 use file_reduction::reduce_file;
-use libc::{STDERR_FILENO, STDOUT_FILENO};
+use std::io::{Print, Stderr, Stdout};
 
 // Writes a line to standard error.
-fn say(line: &[u8]) {
-    io::write_all(STDERR_FILENO, line);
+fn say(stderr: Stderr, line: &[u8]) {
+    let _ = Print::write_all(&stderr, line);
 }
 
 // Writes the line of an answer.
-fn say_answer(answer: FileAnswer) {
+fn say_answer(stderr: Stderr, answer: FileAnswer) {
     let mut text = [0u8; LINE];
     let size = line(answer, &mut text);
-    say(&text[..size]);
+    say(stderr, &text[..size]);
 }
 
 // Writes the output file of an input that is held whole to standard output, and says whether all of it is written.
-fn write_output(input: &[u8], file: &[u8]) -> bool
+fn write_output(stdout: Stdout, input: &[u8], file: &[u8]) -> bool
     requires { file.now ≡ reduced_bytes (table_in input.now) }
 {
-    if !io::write_all(STDOUT_FILENO, file) {
-        return false;
-    }
-    libc::close(STDOUT_FILENO) == 0
+    Print::write_all(&stdout, file).is_ok()
 }
 
 // Reduces what was read into the room that document 01 names. The answer and the output are those of the whole input, whichever it is that
@@ -59,40 +58,32 @@ fn reduce_into(held: &[u8], got: Got, output: &mut [u8]) -> FileAnswer
 }
 
 // Reduces what was read, and writes the result if there is one.
-fn reduce_input(held: &[u8], got: Got)
+fn reduce_input(rt: &HostRuntime, held: &[u8], got: Got)
     requires { Enough held.now got }
 {
     let mut output = [0u8; LARGEST_OUTPUT];
     let answer = reduce_into(held, got, &mut output);
-    let outcome = answer.outcome;
-    match outcome {
-        FileOutcome::Refused(_) => say_answer(answer),
-        FileOutcome::Done {
-            bytes,
-            states: _,
-            labels: _,
-            rows: _,
-            blocks: _,
-            reduced_rows: _,
-            rounds: _,
-        } => {
-            let written = bytes as usize;
-            if write_output(held, &output[..written]) {
-                say_answer(answer);
+    match &answer.outcome {
+        FileOutcome::Refused(_) => say_answer(rt.stderr(), answer),
+        FileOutcome::Done { bytes, .. } => {
+            let written = *bytes as usize;
+            if write_output(rt.stdout(), held, &output[..written]) {
+                say_answer(rt.stderr(), answer);
             } else {
-                say(b"failed: the output could not be written\n");
+                say(rt.stderr(), b"failed: the output could not be written\n");
             }
         }
     }
 }
 
-fn main() {
+fn main(rt: HostRuntime) {
+    let mut stdin = rt.stdin();
     let mut bytes = [0u8; LARGEST_INPUT];
-    let got = read_input(&mut bytes);
+    let got = read_input(&mut stdin, &mut bytes);
     let used = got.used;
     if got.good {
-        reduce_input(&bytes[..used], got);
+        reduce_input(&rt, &bytes[..used], got);
     } else {
-        say(b"failed: the input could not be read\n");
+        say(rt.stderr(), b"failed: the input could not be read\n");
     }
 }

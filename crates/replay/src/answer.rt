@@ -5,9 +5,9 @@ use replay_calls::readers::part_of;
 use replay_calls::records::unmarked;
 use replay_families::called;
 use replay_files::filing;
-use replay_lines::input::Buffer;
+use replay_lines::input::Source;
 use replay_lines::lines::{Answered, bad_case, end_case};
-use replay_lines::output::said;
+use replay_lines::output::{Sink, said};
 use replay_lines::slices::part;
 use replay_reductions::reducing;
 use replay_slots::case::{Bytes, Case, Narrow, Wide};
@@ -33,7 +33,7 @@ fn done(
     g: &mut Slot,
     h: &mut Slot,
     i: &mut Slot,
-    out: &mut Buffer,
+    out: &mut Sink,
     used: usize,
 ) -> usize {
     if operation == ITER_BLOCK {
@@ -60,7 +60,7 @@ fn done(
 // The rest of a line, and its answer.
 pub fn answer(
     line: Line,
-    buffer: &mut Buffer,
+    buffer: &mut Source,
     narrow: &mut Narrow,
     wide: &mut Wide,
     bytes: &mut Bytes,
@@ -74,7 +74,7 @@ pub fn answer(
     g: &mut Slot,
     h: &mut Slot,
     i: &mut Slot,
-    out: &mut Buffer,
+    out: &mut Sink,
     used: usize,
 ) -> Answered {
     let operation = line.operation;

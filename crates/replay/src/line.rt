@@ -1,6 +1,6 @@
 // A line of which the name is read.
 use replay_calls::operations::OPERATIONS;
-use replay_lines::input::{Buffer, END, Input};
+use replay_lines::input::{END, Input, Source};
 use replay_lines::lines::{read_word, skip_silent};
 use replay_slots::names::{Kinds, find};
 
@@ -14,7 +14,7 @@ pub struct Line {
 }
 
 // The next line that has an answer.
-pub fn next_line(rest: Input, buffer: &mut Buffer) -> Line {
+pub fn next_line(rest: Input, buffer: &mut Source) -> Line {
     let start = skip_silent(rest.judged(true), buffer);
     let mut name = [0u8; 64];
     let read = read_word(start, buffer, &mut name);

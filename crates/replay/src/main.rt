@@ -1,15 +1,17 @@
+#![tactic(auto)]
+
 // Reads cases from standard input, one a line, and writes one answer line for each.
 mod answer;
 mod line;
 
 use crate::answer::answer;
 use crate::line::next_line;
-use libc::STDERR_FILENO;
 use replay_lines::input;
-use replay_lines::input::{Buffer, Input};
-use replay_lines::output::flush;
+use replay_lines::input::{Input, Source};
+use replay_lines::output::{Sink, flush};
 use replay_slots::case::{Bytes, Narrow, Wide};
 use replay_slots::slots::{Slot, Text};
+use std::io::Print;
 
 // How many bytes are kept before they are written, at the end of a line.
 const MANY: usize = 32768;
@@ -22,7 +24,7 @@ struct Output {
 }
 
 // Writes what is not written yet if it is much.
-fn written(out: &[u8], used: usize) -> Output {
+fn written(out: &mut Sink, used: usize) -> Output {
     if used < MANY {
         return Output { good: true, used };
     }
@@ -32,8 +34,8 @@ fn written(out: &[u8], used: usize) -> Output {
 
 // All lines, as long as the answers can be written; whether they are.
 fn replay_all(
-    buffer: &mut Buffer,
-    out: &mut Buffer,
+    buffer: &mut Source,
+    out: &mut Sink,
     narrow: &mut Narrow,
     wide: &mut Wide,
     bytes: &mut Bytes,
@@ -76,7 +78,7 @@ fn replay_all(
             out,
             output.used,
         );
-        output = written(&*out, answered.used);
+        output = written(out, answered.used);
         if !output.good {
             return false;
         }
@@ -85,9 +87,9 @@ fn replay_all(
     flush(out, output.used)
 }
 
-fn main() {
-    let mut buffer = io::large_buffer();
-    let mut out = io::large_buffer();
+fn main(rt: HostRuntime) {
+    let mut buffer = Source::new(rt.stdin());
+    let mut out = Sink::new(rt.stdout());
     let mut narrow = [0u16; 1400000];
     let mut wide = [0u32; 70000];
     let mut bytes = [0u8; 140000];
@@ -119,6 +121,6 @@ fn main() {
         &mut i,
     );
     if !good {
-        io::write_all(STDERR_FILENO, b"replay: the answers could not be written\n");
+        let _ = Print::write_all(&rt.stderr(), b"replay: the answers could not be written\n");
     }
 }

@@ -1,5 +1,5 @@
 // The operations that change two or three slices of u16.
-ghost use Rattle.io.specs.Counts.{IsPrefixLen};
+ghost use Rattle.spelling.specs.Counts.{IsPrefixLen};
 
 use crate::headers::{partition, table};
 use crate::operations::{INCOMING, MARK_ELEMENT, REACHABLE};

@@ -1,5 +1,5 @@
 // The operations that read a partition.
-ghost use Rattle.io.specs.Counts.{IsPrefixLen};
+ghost use Rattle.spelling.specs.Counts.{IsPrefixLen};
 
 use crate::headers::partition;
 use crate::operations::{BLOCK_NUMBER, IS_ELEMENT_MARKED, LEN, NUM_OF_BLOCKS, READ_BLOCK};

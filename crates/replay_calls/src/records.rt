@@ -1,7 +1,7 @@
 // The operations on block records, whose fields begin, marked_split and end lie one after the other in a slot.
 ghost use Rattle.std.specs.Prelude.{◌≤◌};
 ghost use Rattle.columns.specs.Limits.{max_states};
-ghost use Rattle.io.specs.Counts.{IsPrefixLen};
+ghost use Rattle.spelling.specs.Counts.{IsPrefixLen};
 
 use crate::headers::{block, partition};
 use columns::limits::MAX_STATES;
@@ -10,8 +10,7 @@ use partition_records::records::empty_table;
 use partition_records::swapping::swap_here;
 use partition_records::unmarking::unmark_here;
 use replay_lines::answers::{Said, plain};
-use replay_lines::input::Buffer;
-use replay_lines::output::said;
+use replay_lines::output::{Sink, said};
 use replay_lines::slices::column as column_text;
 use replay_slots::case::{Case, column};
 use replay_slots::slots::Filled;
@@ -68,7 +67,7 @@ fn number_of(cells: usize) -> usize
 }
 
 // `unmark_all` on the block of the first three numbers: the answer, and the block at return.
-pub fn unmarked(case: Case, out: &mut Buffer, used: usize) -> usize {
+pub fn unmarked(case: Case, out: &mut Sink, used: usize) -> usize {
     let done = unmark_here(block(case));
     let at = said(plain(done.answer), out, used);
     let left = done.block;

@@ -1,5 +1,5 @@
 // The operations that change four to six slices of u16 and write no signature.
-ghost use Rattle.io.specs.Counts.{IsPrefixLen};
+ghost use Rattle.spelling.specs.Counts.{IsPrefixLen};
 
 use crate::headers::{partition, table};
 use crate::operations::{BLOCKPARTITION_NEW, MARK_BACKWARD_CLOSURE, SWAP_BLOCKS};

@@ -1,3 +1,5 @@
+#![tactic(auto)]
+
 // The calls that lend the slots: which family an operation belongs to says how many. The slots of the slices of u16 that an operation
 // may change are called a to i.
 use replay_calls::blocks::of_numbers;

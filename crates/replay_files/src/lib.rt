@@ -1,3 +1,5 @@
+#![tactic(auto)]
+
 // A call for each operation on files. It holds what it changes in arrays of its own: it fills these with what the case has, lends them,
 // and writes the answer and each slice at return.
 mod answers;
@@ -9,7 +11,7 @@ use crate::reading::read;
 use crate::reducing::reduce;
 use crate::writing::write;
 use replay_calls::operations::{READ_FILE, WRITE_FILE};
-use replay_lines::input::Buffer;
+use replay_lines::output::Sink;
 use replay_slots::case::Case;
 
 // The answer to a case, and what may have changed, at return.
@@ -18,7 +20,7 @@ pub fn filing(
     case: Case,
     cells: &[u16],
     bytes: &[u8],
-    out: &mut Buffer,
+    out: &mut Sink,
     used: usize,
 ) -> usize {
     match operation {

@@ -1,12 +1,11 @@
 // `read_file`.
 use file::reading::read_file;
 use replay_calls::answers::header;
-use replay_lines::input::Buffer;
-use replay_lines::output::said;
+use replay_lines::output::{Sink, said};
 use replay_slots::case::{Case, HELD_ROOM, byte_column};
 use replay_slots::held::{lend, show_three};
 
-pub fn read(case: Case, cells: &[u16], bytes: &[u8], out: &mut Buffer, used: usize) -> usize {
+pub fn read(case: Case, cells: &[u16], bytes: &[u8], out: &mut Sink, used: usize) -> usize {
     let mut source = [0u16; HELD_ROOM];
     let mut label = [0u16; HELD_ROOM];
     let mut target = [0u16; HELD_ROOM];

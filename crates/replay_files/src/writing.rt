@@ -2,12 +2,11 @@
 use file::writing::write_file;
 use replay_calls::headers::table;
 use replay_lines::answers::number;
-use replay_lines::input::Buffer;
-use replay_lines::output::said;
+use replay_lines::output::{Sink, said};
 use replay_slots::case::{Case, ROOM, column};
 use replay_slots::texts::{lend, show};
 
-pub fn write(case: Case, cells: &[u16], bytes: &[u8], out: &mut Buffer, used: usize) -> usize {
+pub fn write(case: Case, cells: &[u16], bytes: &[u8], out: &mut Sink, used: usize) -> usize {
     let mut written = [0u8; ROOM];
     let answer = write_file(
         table(case),

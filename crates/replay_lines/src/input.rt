@@ -1,11 +1,39 @@
-// Standard input, byte by byte out of a lent buffer, and where its lines end.
+// Standard input, byte by byte out of a lent source, and where its lines end.
 ghost use Rattle.std.specs.Prelude.{cond, true, false, ◌≡◌};
+ghost use Rattle.spelling.specs.Counts.{IsPrefixLen};
 ghost use Rattle.replay_lines.specs.Places.{in_line, filled, Next};
 
-use libc::STDIN_FILENO;
+use std::io::{Read, Stdin};
 
 // What is read at once, and what is written at once.
 pub type Buffer = [u8; 65536];
+
+// Standard input, with the bytes that were read of it last.
+#[derive(Drop)]
+pub struct Source {
+    pub bytes: Buffer,
+    stdin: Stdin,
+}
+
+impl Source {
+    // Nothing is read.
+    pub fn new(stdin: Stdin) -> Source {
+        Source {
+            bytes: [0; 65536],
+            stdin,
+        }
+    }
+
+    // Reads some bytes into the buffer's front, and says how many: none at the end of the input, or where the read fails.
+    fn read_some(&mut self) -> usize
+        ensures { IsPrefixLen result self.new.bytes }
+    {
+        match self.stdin.read(&mut self.bytes) {
+            Ok(count) => count,
+            Err(_) => 0,
+        }
+    }
+}
 
 // More turns than any loop takes. Nothing says that the input ends, so loops over it count down from here.
 pub const TURNS: u64 = u64::MAX;
@@ -17,9 +45,9 @@ pub const BLANK: u16 = 32;
 
 pub const NEWLINE: u16 = 10;
 
-// A place in the input: its byte, and the bytes after it, which are the buffer's cells at..end. `good` says whether the
+// A place in the input: its byte, and the bytes after it, which are the source's cells at..end. `good` says whether the
 // line is a case's as far as it is read; once it is not, no more of it is read.
-#[derive(Drop)]
+#[derive(Clone, Copy)]
 pub struct Input {
     pub at: usize,
     pub end: usize,
@@ -33,12 +61,11 @@ fn wide(byte: u8) -> u16
     byte as u16
 }
 
-// The place after the buffer's last byte: the buffer is filled anew.
-fn refill(buffer: &mut Buffer, good: bool) -> Input
-    ensures { result ≡ filled good buffer.new result.end }
+// The place after the last byte that was read: the source is filled anew.
+fn refill(buffer: &mut Source, good: bool) -> Input
+    ensures { result ≡ filled good buffer.new.bytes result.end }
 {
-    let got = libc::read(STDIN_FILENO, buffer);
-    let end = io::count(got, buffer);
+    let end = buffer.read_some();
     if end == 0 {
         return Input {
             at: 0,
@@ -50,22 +77,22 @@ fn refill(buffer: &mut Buffer, good: bool) -> Input
     Input {
         at: 1,
         end,
-        byte: wide(buffer[0]),
+        byte: wide(buffer.bytes[0]),
         good,
     }
 }
 
 impl Input {
     // The first place.
-    pub fn new(buffer: &mut Buffer) -> Input
-        ensures { result ≡ filled true buffer.new result.end }
+    pub fn new(buffer: &mut Source) -> Input
+        ensures { result ≡ filled true buffer.new.bytes result.end }
     {
         refill(buffer, true)
     }
 
     // The place after this one.
-    pub fn next(self, buffer: &mut Buffer) -> Input
-        ensures { Next self buffer.old result buffer.new }
+    pub fn next(self, buffer: &mut Source) -> Input
+        ensures { Next self buffer.old.bytes result buffer.new.bytes }
     {
         let at = self.at;
         if at < self.end {
@@ -73,7 +100,7 @@ impl Input {
                 return Input {
                     at: at + 1,
                     end: self.end,
-                    byte: wide(buffer[at]),
+                    byte: wide(buffer.bytes[at]),
                     good: self.good,
                 };
             }
@@ -94,7 +121,7 @@ impl Input {
     }
 
     // The first place of the next line.
-    pub fn skip_line(self, buffer: &mut Buffer) -> Input
+    pub fn skip_line(self, buffer: &mut Source) -> Input
         ensures { result.good ≡ self.good }
     {
         let mut input = self;
@@ -110,7 +137,7 @@ impl Input {
     }
 
     // The first place of the next line; good if this one is, and ends here.
-    pub fn end_line(self, buffer: &mut Buffer) -> Input
+    pub fn end_line(self, buffer: &mut Source) -> Input
         ensures { result.good ≡ cond (in_line self.byte) false self.good }
     {
         if in_line(self.byte) {

@@ -1,3 +1,5 @@
+#![tactic(auto)]
+
 // Cases and answers as text: standard input byte by byte, its words and numbers, and what is written of answers and slices.
 pub mod answers;
 pub mod input;

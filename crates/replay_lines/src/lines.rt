@@ -4,9 +4,9 @@ ghost use Rattle.replay_lines.specs.Places.{in_word};
 ghost use Rattle.replay_lines.specs.Text.{put_byte, puts};
 ghost use Rattle.replay_lines.specs.Spelling.{bad_text};
 
-use crate::input::{BLANK, Buffer, Input, NEWLINE, TURNS, in_line};
+use crate::input::{BLANK, Input, NEWLINE, Source, TURNS, in_line};
 use crate::numbers::Cells;
-use crate::output::{byte, number, word};
+use crate::output::{Sink, byte, number, word};
 
 const SHARP: u16 = 35;
 
@@ -26,7 +26,7 @@ fn is_silent(byte: u16) -> bool {
 }
 
 // The first place of the next line that has an answer, or the end.
-pub fn skip_silent(first: Input, buffer: &mut Buffer) -> Input
+pub fn skip_silent(first: Input, buffer: &mut Source) -> Input
     ensures { result.good ≡ first.good }
 {
     let mut input = first;
@@ -49,7 +49,7 @@ pub fn in_word(byte: u16) -> bool
 }
 
 // The word that starts here, or as much of it as `into` has room for.
-pub fn read_word(first: Input, buffer: &mut Buffer, into: &mut [u8]) -> Cells
+pub fn read_word(first: Input, buffer: &mut Source, into: &mut [u8]) -> Cells
     ensures count_in_bounds { result.count ≤ length into.new }
     ensures good_value { result.input.good ≡ first.good }
 {
@@ -67,8 +67,8 @@ pub fn read_word(first: Input, buffer: &mut Buffer, into: &mut [u8]) -> Cells
 }
 
 // A line whose answer is written up to its end.
-pub fn end_case(rest: Input, out: &mut Buffer, used: usize) -> Answered
-    ensures { (result.rest ≡ rest) × ((result.used, out.new) ≡ put_byte out.old used 10) }
+pub fn end_case(rest: Input, out: &mut Sink, used: usize) -> Answered
+    ensures { (result.rest ≡ rest) × ((result.used, out.new.bytes) ≡ put_byte out.old.bytes used 10) }
 {
     Answered {
         rest,
@@ -77,8 +77,8 @@ pub fn end_case(rest: Input, out: &mut Buffer, used: usize) -> Answered
 }
 
 // A line that is no case: the place of the first word that is wrong, missing or too many, the name's being 0.
-pub fn bad_case(rest: Input, place: usize, out: &mut Buffer, used: usize) -> Answered
-    ensures { (result.rest ≡ rest) × ((result.used, out.new) ≡ puts (bad_text place) (used, out.old)) }
+pub fn bad_case(rest: Input, place: usize, out: &mut Sink, used: usize) -> Answered
+    ensures { (result.rest ≡ rest) × ((result.used, out.new.bytes) ≡ puts (bad_text place) (used, out.old.bytes)) }
 {
     let said = word(b"bad", out, used);
     let at = number(place as u64, out, said);

@@ -2,7 +2,7 @@
 ghost use Rattle.std.specs.Prelude.{◌≤◌, false, ◌≡◌};
 ghost use Rattle.replay_lines.specs.Places.{Read, ReadHere};
 
-use crate::input::{BLANK, Buffer, Input, TURNS};
+use crate::input::{BLANK, Input, Source, TURNS};
 
 // Numbers above this one are not told apart.
 const LARGE: u64 = 1000000000000000000;
@@ -44,7 +44,7 @@ fn grown(value: u64, digit: u16) -> u64 {
 }
 
 // The number whose digits start here.
-fn digits(first: Input, buffer: &mut Buffer) -> Number
+fn digits(first: Input, buffer: &mut Source) -> Number
     ensures { result.input.good ≡ first.good }
 {
     let mut input = first;
@@ -68,7 +68,7 @@ impl Input {
     }
 
     // A number of at most `most` that starts here; where it is not there, 0 and a bad line.
-    pub fn number_here(self, buffer: &mut Buffer, most: u64) -> Number
+    pub fn number_here(self, buffer: &mut Source, most: u64) -> Number
         ensures value_le_most { result.value ≤ most }
         ensures read_here { ReadHere self result.input result.value }
     {
@@ -83,7 +83,7 @@ impl Input {
     }
 
     // A blank and a number of at most `most`; where they are not there, 0 and a bad line.
-    pub fn number(self, buffer: &mut Buffer, most: u64) -> Number
+    pub fn number(self, buffer: &mut Source, most: u64) -> Number
         ensures value_le_most { result.value ≤ most }
         ensures read { Read self result.input result.value }
     {

@@ -1,4 +1,4 @@
-// Standard output, byte by byte through a lent buffer, of which the first `used` cells are not written yet.
+// Standard output, byte by byte through a lent sink, of which the first `used` cells are not written yet.
 ghost use Rattle.std.specs.Prelude.{◌≡◌, ◌∷◌, take};
 ghost use Rattle.columns.specs.Answers.{refused as refused_with};
 ghost use Rattle.spelling.specs.Digits.{digits};
@@ -8,36 +8,66 @@ ghost use Rattle.replay_lines.specs.Spelling.{spelled, spelled_all, said_text};
 
 use crate::answers::Said;
 use crate::input::Buffer;
-use libc::STDOUT_FILENO;
+use spelling::decimal;
+use std::io::{Print, Stdout};
 
-// Writes what is not written yet, and says whether that is done. Where it is not, the output is closed, so that nothing more is written
-// behind a gap.
-pub fn flush(out: &[u8], used: usize) -> bool {
-    if used <= out.len() {
-        if io::write_all(STDOUT_FILENO, &out[0..used]) {
-            return true;
+// Standard output, with the bytes that are not written yet. Once a write fails it is broken, and nothing more is written behind the gap.
+#[derive(Drop)]
+pub struct Sink {
+    pub bytes: Buffer,
+    broken: bool,
+    stdout: Stdout,
+}
+
+impl Sink {
+    // Nothing is to be written.
+    pub fn new(stdout: Stdout) -> Sink {
+        Sink {
+            bytes: [0; 65536],
+            broken: false,
+            stdout,
         }
     }
-    libc::close(STDOUT_FILENO);
+}
+
+// Writes the first bytes, and says whether that is done.
+fn write_front(out: &Sink, used: usize) -> bool {
+    if out.broken {
+        return false;
+    }
+    if 65536 < used {
+        return false;
+    }
+    Print::write_all(&out.stdout, &out.bytes[..used]).is_ok()
+}
+
+// Writes what is not written yet, and says whether that is done. Where it is not, the output is broken.
+pub fn flush(out: &mut Sink, used: usize) -> bool
+    ensures { out.new.bytes ≡ out.old.bytes }
+{
+    if write_front(out, used) {
+        return true;
+    }
+    out.broken = true;
     false
 }
 
 // One byte more. A full buffer is written first.
-pub fn byte(byte: u8, out: &mut Buffer, used: usize) -> usize
-    ensures { (result, out.new) ≡ put_byte out.old used byte }
+pub fn byte(byte: u8, out: &mut Sink, used: usize) -> usize
+    ensures { (result, out.new.bytes) ≡ put_byte out.old.bytes used byte }
 {
     if used < 65536 {
-        out[used] = byte;
+        out.bytes[used] = byte;
         return used + 1;
     }
-    flush(&*out, used);
-    out[0] = byte;
+    flush(out, used);
+    out.bytes[0] = byte;
     1
 }
 
 // The bytes of a word.
-pub fn word(word: &[u8], out: &mut Buffer, used: usize) -> usize
-    ensures { (result, out.new) ≡ puts word.now (used, out.old) }
+pub fn word(word: &[u8], out: &mut Sink, used: usize) -> usize
+    ensures { (result, out.new.bytes) ≡ puts word.now (used, out.old.bytes) }
 {
     let mut at = used;
     let mut i = 0;
@@ -49,25 +79,25 @@ pub fn word(word: &[u8], out: &mut Buffer, used: usize) -> usize
 }
 
 // A mark and a number.
-pub fn marked(mark: u8, value: u64, out: &mut Buffer, used: usize) -> usize
-    ensures { (result, out.new) ≡ puts (mark ∷ digits value) (used, out.old) }
+pub fn marked(mark: u8, value: u64, out: &mut Sink, used: usize) -> usize
+    ensures { (result, out.new.bytes) ≡ puts (mark ∷ digits value) (used, out.old.bytes) }
 {
     let mut text = [0u8; 20];
-    let count = io::decimal(value, &mut text);
+    let count = decimal(value, &mut text);
     let at = byte(mark, out, used);
     word(&text[..count], out, at)
 }
 
 // A blank and a number.
-pub fn number(value: u64, out: &mut Buffer, used: usize) -> usize
-    ensures { (result, out.new) ≡ puts (spelled value) (used, out.old) }
+pub fn number(value: u64, out: &mut Sink, used: usize) -> usize
+    ensures { (result, out.new.bytes) ≡ puts (spelled value) (used, out.old.bytes) }
 {
     marked(b' ', value, out, used)
 }
 
 // The first `count` numbers of an answer.
-fn numbers(numbers: [u64; 8], count: usize, out: &mut Buffer, used: usize) -> usize
-    ensures { (result, out.new) ≡ puts (spelled_all (take count numbers)) (used, out.old) }
+fn numbers(numbers: [u64; 8], count: usize, out: &mut Sink, used: usize) -> usize
+    ensures { (result, out.new.bytes) ≡ puts (spelled_all (take count numbers)) (used, out.old.bytes) }
 {
     let mut at = used;
     let mut i = 0;
@@ -82,8 +112,8 @@ fn numbers(numbers: [u64; 8], count: usize, out: &mut Buffer, used: usize) -> us
 }
 
 // What is refused: a number and a place.
-fn refused(refusal: u64, place: u64, out: &mut Buffer, used: usize) -> usize
-    ensures { (result, out.new) ≡ puts (said_text (refused_with refusal place)) (used, out.old) }
+fn refused(refusal: u64, place: u64, out: &mut Sink, used: usize) -> usize
+    ensures { (result, out.new.bytes) ≡ puts (said_text (refused_with refusal place)) (used, out.old.bytes) }
 {
     let a = word(b"refused", out, used);
     let b = number(refusal, out, a);
@@ -91,8 +121,8 @@ fn refused(refusal: u64, place: u64, out: &mut Buffer, used: usize) -> usize
 }
 
 // What an answer says.
-pub fn said(said: Said, out: &mut Buffer, used: usize) -> usize
-    ensures { (result, out.new) ≡ puts (said_text (told said)) (used, out.old) }
+pub fn said(said: Said, out: &mut Sink, used: usize) -> usize
+    ensures { (result, out.new.bytes) ≡ puts (said_text (told said)) (used, out.old.bytes) }
 {
     let given = said.numbers;
     if said.refused {

@@ -2,14 +2,14 @@
 ghost use Rattle.std.specs.Prelude.{◌≡◌, ◌+◌, ◌<◌, ◌≤◌};
 ghost use Rattle.replay_lines.specs.Runs.{none, alone, longer, rest, repeats, ascends, last_cell};
 
-use crate::input::{Buffer, Input};
+use crate::input::{Input, Source};
 
 const STAR: u16 = 42;
 
 const PLUS: u16 = 43;
 
 // The first cell, how many there are, and by how much each is more than the one before: 0 or 1, and 0 for one cell.
-#[derive(Drop)]
+#[derive(Clone, Copy)]
 pub struct Run {
     pub first: u64,
     pub count: u64,
@@ -111,7 +111,7 @@ fn ascending(first: u64, largest: u64, room: u64) -> u64
 
 impl Input {
     // The sign of a run, and how many cells it has, from 1 to `most`.
-    fn counted(self, first: u64, step: u64, most: u64, buffer: &mut Buffer) -> Word
+    fn counted(self, first: u64, step: u64, most: u64, buffer: &mut Source) -> Word
         ensures { (result.run.first ≡ first) × (result.run.count ≤ most) × (result.run.step ≡ step) }
     {
         let read = self.next(buffer).number_here(buffer, most);
@@ -132,7 +132,7 @@ impl Input {
     }
 
     // A blank, and a number or a run of at most `room` cells, of which none is above `largest`.
-    pub fn word(self, largest: u64, room: u64, buffer: &mut Buffer) -> Word
+    pub fn word(self, largest: u64, room: u64, buffer: &mut Source) -> Word
         requires { largest ≤ 4294967295 }
         ensures { last_cell result.run ≤ largest }
     {

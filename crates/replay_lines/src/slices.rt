@@ -4,8 +4,7 @@ ghost use Rattle.replay_lines.specs.Text.{puts};
 ghost use Rattle.replay_lines.specs.Runs.{alone};
 ghost use Rattle.replay_lines.specs.Slices.{run_text, cells_text, Showing, column_text, part_text};
 
-use crate::input::Buffer;
-use crate::output::{marked, number, word};
+use crate::output::{Sink, marked, number, word};
 use crate::runs::Run;
 
 // What is shown of a slice: its last run, which is not written yet, and how many bytes of the output are not.
@@ -16,8 +15,8 @@ pub struct Shown {
 }
 
 // A run, with a blank before it.
-fn show_run(run: Run, out: &mut Buffer, used: usize) -> usize
-    ensures { (result, out.new) ≡ puts (run_text run) (used, out.old) }
+fn show_run(run: Run, out: &mut Sink, used: usize) -> usize
+    ensures { (result, out.new.bytes) ≡ puts (run_text run) (used, out.old.bytes) }
 {
     if run.count == 0 {
         return used;
@@ -33,8 +32,8 @@ fn show_run(run: Run, out: &mut Buffer, used: usize) -> usize
 }
 
 // A cell that starts a run: the one before is written.
-fn start_run(shown: Shown, x: u64, out: &mut Buffer) -> Shown
-    ensures { (result.run ≡ alone x) × ((result.used, out.new) ≡ puts (run_text shown.run) (shown.used, out.old)) }
+fn start_run(shown: Shown, x: u64, out: &mut Sink) -> Shown
+    ensures { (result.run ≡ alone x) × ((result.used, out.new.bytes) ≡ puts (run_text shown.run) (shown.used, out.old.bytes)) }
 {
     let used = show_run(shown.run, out, shown.used);
     let run = Run::alone(x);
@@ -42,9 +41,9 @@ fn start_run(shown: Shown, x: u64, out: &mut Buffer) -> Shown
 }
 
 // A cell more: the run goes on with it, or the cell starts the next.
-fn show_cell(shown: Shown, short: bool, x: u64, out: &mut Buffer) -> Shown
+fn show_cell(shown: Shown, short: bool, x: u64, out: &mut Sink) -> Shown
     requires { shown.run.count < 18446744073709551615 }
-    ensures { Showing short shown out.old x result out.new }
+    ensures { Showing short shown out.old.bytes x result out.new.bytes }
 {
     if !short {
         return start_run(shown, x, out);
@@ -69,8 +68,8 @@ fn wide(cell: u16) -> u64
 }
 
 // The cells of a slice.
-fn cells(cells: &[u16], short: bool, out: &mut Buffer, used: usize) -> usize
-    ensures { (result, out.new) ≡ puts (cells_text short cells.now) (used, out.old) }
+fn cells(cells: &[u16], short: bool, out: &mut Sink, used: usize) -> usize
+    ensures { (result, out.new.bytes) ≡ puts (cells_text short cells.now) (used, out.old.bytes) }
 {
     let run = Run::none();
     let mut shown = Shown { run, used };
@@ -83,16 +82,16 @@ fn cells(cells: &[u16], short: bool, out: &mut Buffer, used: usize) -> usize
 }
 
 // A slice at return.
-pub fn column(column: &[u16], short: bool, out: &mut Buffer, used: usize) -> usize
-    ensures { (result, out.new) ≡ puts (column_text short column.now) (used, out.old) }
+pub fn column(column: &[u16], short: bool, out: &mut Sink, used: usize) -> usize
+    ensures { (result, out.new.bytes) ≡ puts (column_text short column.now) (used, out.old.bytes) }
 {
     let at = word(b" |", out, used);
     cells(column, short, out, at)
 }
 
 // A part of a lent slice.
-pub fn part(part: &[u16], short: bool, out: &mut Buffer, used: usize) -> usize
-    ensures { (result, out.new) ≡ puts (part_text short part.now) (used, out.old) }
+pub fn part(part: &[u16], short: bool, out: &mut Sink, used: usize) -> usize
+    ensures { (result, out.new.bytes) ≡ puts (part_text short part.now) (used, out.old.bytes) }
 {
     let a = word(b"part", out, used);
     let b = number(part.len() as u64, out, a);
@@ -106,8 +105,8 @@ fn widest(byte: u8) -> u64
 }
 
 // The cells of a slice of bytes, as numbers.
-fn byte_cells(cells: &[u8], short: bool, out: &mut Buffer, used: usize) -> usize
-    ensures { (result, out.new) ≡ puts (cells_text short cells.now) (used, out.old) }
+fn byte_cells(cells: &[u8], short: bool, out: &mut Sink, used: usize) -> usize
+    ensures { (result, out.new.bytes) ≡ puts (cells_text short cells.now) (used, out.old.bytes) }
 {
     let run = Run::none();
     let mut shown = Shown { run, used };
@@ -120,8 +119,8 @@ fn byte_cells(cells: &[u8], short: bool, out: &mut Buffer, used: usize) -> usize
 }
 
 // A slice of bytes at return.
-pub fn bytes(bytes: &[u8], short: bool, out: &mut Buffer, used: usize) -> usize
-    ensures { (result, out.new) ≡ puts (column_text short bytes.now) (used, out.old) }
+pub fn bytes(bytes: &[u8], short: bool, out: &mut Sink, used: usize) -> usize
+    ensures { (result, out.new.bytes) ≡ puts (column_text short bytes.now) (used, out.old.bytes) }
 {
     let at = word(b" |", out, used);
     byte_cells(bytes, short, out, at)

@@ -2,12 +2,11 @@
 use quotient_components::tau_scc_decomposition;
 use replay_calls::headers::table;
 use replay_lines::answers::number;
-use replay_lines::input::Buffer;
-use replay_lines::output::said;
+use replay_lines::output::{Sink, said};
 use replay_slots::case::{Case, HELD_ROOM, column};
 use replay_slots::held::{lend, show, show_three};
 
-pub fn components(case: Case, cells: &[u16], out: &mut Buffer, used: usize) -> usize {
+pub fn components(case: Case, cells: &[u16], out: &mut Sink, used: usize) -> usize {
     let mut numbers = [0u16; HELD_ROOM];
     let mut order = [0u16; HELD_ROOM];
     let mut back_source = [0u16; HELD_ROOM];

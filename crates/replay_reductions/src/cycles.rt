@@ -2,12 +2,11 @@
 use crate::answers::reordered;
 use quotient_cycles::tau_cycle_elimination_and_reorder;
 use replay_calls::headers::table;
-use replay_lines::input::Buffer;
-use replay_lines::output::said;
+use replay_lines::output::{Sink, said};
 use replay_slots::case::{Case, HELD_ROOM, column};
 use replay_slots::held::{lend, show, show_three};
 
-pub fn cycles(case: Case, cells: &[u16], out: &mut Buffer, used: usize) -> usize {
+pub fn cycles(case: Case, cells: &[u16], out: &mut Sink, used: usize) -> usize {
     let mut result_source = [0u16; HELD_ROOM];
     let mut result_label = [0u16; HELD_ROOM];
     let mut result_target = [0u16; HELD_ROOM];

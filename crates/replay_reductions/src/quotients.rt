@@ -3,12 +3,11 @@ use quotient::quotient_lts_naive;
 use quotient_block::quotient_lts_block;
 use replay_calls::answers::header;
 use replay_calls::headers::table;
-use replay_lines::input::Buffer;
-use replay_lines::output::said;
+use replay_lines::output::{Sink, said};
 use replay_slots::case::{Case, HELD_ROOM, column};
 use replay_slots::held::{lend, show, show_three};
 
-pub fn naive(case: Case, cells: &[u16], out: &mut Buffer, used: usize) -> usize {
+pub fn naive(case: Case, cells: &[u16], out: &mut Sink, used: usize) -> usize {
     let mut result_source = [0u16; HELD_ROOM];
     let mut result_label = [0u16; HELD_ROOM];
     let mut result_target = [0u16; HELD_ROOM];
@@ -55,7 +54,7 @@ pub fn naive(case: Case, cells: &[u16], out: &mut Buffer, used: usize) -> usize 
     show(case, 7, &spare, out, at)
 }
 
-pub fn block(case: Case, cells: &[u16], out: &mut Buffer, used: usize) -> usize {
+pub fn block(case: Case, cells: &[u16], out: &mut Sink, used: usize) -> usize {
     let mut result_source = [0u16; HELD_ROOM];
     let mut result_label = [0u16; HELD_ROOM];
     let mut result_target = [0u16; HELD_ROOM];

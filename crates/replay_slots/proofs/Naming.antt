@@ -1,16 +1,15 @@
 -- Laws of names in a text: each by the byte at a place, or that there is none.
 use Prim.Native.Nat.{ℕ, suc, ◌+◌, ◌-◌, ◌≤◌, ◌<◌}
-use mathlib.Core.Bool.{Bool, true, false, ◌&&◌}
-use mathlib.Core.List.{List, [], ◌∷◌, ◌++◌}
-use mathlib.Core.Path.{◌≡◌, refl, sym, ap, ◌∙◌}
+use mathlib.Core.Bool.{true, false}
+use mathlib.Core.List.{List, ◌∷◌, ◌++◌}
+use mathlib.Core.Path.{◌≡◌}
 use native.Mathlib.Numerals.{add-one}
 use native.Mathlib.Omega.{arith}
 use borrow.Author.Tests.{eq-eqb, ne_eqb}
 use lib.Dec.{eqb}
-use lib.ListN.{length, get_or, take, drop, set, drop_of_length-le, length-take}
+use lib.ListN.{length, get_or, take, drop, set, drop_of_length-le}
 use lib.Seq.{drop-cons, take-suc, append_snoc, length-take-le, set-append_seam}
 use Rattle.columns.specs.Columns.{zeros}
-use Rattle.replay_slots.specs.declared.names.Found.{Found}
 use Rattle.replay_slots.specs.Names.{past_blank, begins, word_in, missing, find_from}
 
 module _ (text : List ℕ) (i : ℕ) where

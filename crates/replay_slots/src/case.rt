@@ -39,7 +39,7 @@ pub const RECORDS: u64 = MAX_STATES as u64;
 pub const CHANGED: usize = 16;
 
 // The numbers, where the slices start and end, and whether a run stands in the line: slices are then shown in runs.
-#[derive(Drop)]
+#[derive(Clone, Copy)]
 pub struct Case {
     pub short: bool,
     pub numbers: [u16; 16],

@@ -5,7 +5,7 @@ ghost use Rattle.replay_lines.specs.Runs.{last_cell};
 ghost use Rattle.replay_slots.specs.Sizes.{bounded};
 
 use crate::case::{BYTE, Bytes, NARROW, Narrow, WIDE, Wide};
-use replay_lines::input::{Buffer, Input};
+use replay_lines::input::{Input, Source};
 use replay_lines::lines::in_word;
 use replay_lines::runs::Run;
 
@@ -57,7 +57,7 @@ impl Feed {
     }
 
     // With a word more, unless it is wrong.
-    fn word(self, largest: u64, room: u64, buffer: &mut Buffer) -> Feed
+    fn word(self, largest: u64, room: u64, buffer: &mut Source) -> Feed
         requires { largest ≤ 4294967295 }
         ensures { last_cell result.run ≤ largest }
     {
@@ -81,7 +81,7 @@ impl Feed {
     }
 
     // With a cell more, of at most `largest`, where `room` are missing.
-    fn cell(self, largest: u64, room: u64, buffer: &mut Buffer) -> Feed
+    fn cell(self, largest: u64, room: u64, buffer: &mut Source) -> Feed
         requires { (largest ≤ 4294967295) × (last_cell self.run ≤ largest) }
         ensures { last_cell result.run ≤ largest }
     {
@@ -137,7 +137,7 @@ pub fn read_cells(
     largest: u64,
     from: usize,
     to: usize,
-    buffer: &mut Buffer,
+    buffer: &mut Source,
     narrow: &mut Narrow,
     wide: &mut Wide,
     bytes: &mut Bytes,

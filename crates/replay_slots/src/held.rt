@@ -5,7 +5,7 @@ ghost use Rattle.replay_slots.specs.Shown.{slice_text};
 
 use crate::case::{Case, HELD_ROOM, between, changed};
 use crate::slots::copy;
-use replay_lines::input::Buffer;
+use replay_lines::output::Sink;
 use replay_lines::slices::column as show_column;
 
 pub type Held = [u16; HELD_ROOM];
@@ -17,8 +17,8 @@ pub fn lend<'a>(case: Case, cells: &[u16], k: usize, array: &'a mut [u16]) -> &'
 }
 
 // Slice k at return.
-pub fn show(case: Case, k: usize, array: &Held, out: &mut Buffer, used: usize) -> usize
-    ensures { (result, out.new) ≡ puts (slice_text case k array.now) (used, out.old) }
+pub fn show(case: Case, k: usize, array: &Held, out: &mut Sink, used: usize) -> usize
+    ensures { (result, out.new.bytes) ≡ puts (slice_text case k array.now) (used, out.old.bytes) }
 {
     show_column(between(array, 0, case.length(k)), case.short, out, used)
 }
@@ -30,12 +30,12 @@ pub fn show_three(
     a: &Held,
     b: &Held,
     c: &Held,
-    out: &mut Buffer,
+    out: &mut Sink,
     used: usize,
 ) -> usize
     requires { k < 14 }
     ensures { let text = slice_text case k a.now ++ (slice_text case (k + 1) b.now ++ slice_text case (k + 2) c.now) in
-        (result, out.new) ≡ puts text (used, out.old) }
+        (result, out.new.bytes) ≡ puts text (used, out.old.bytes) }
 {
     let after_a = show(case, k, a, out, used);
     let after_b = show(case, k + 1, b, out, after_a);

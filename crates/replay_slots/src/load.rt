@@ -7,7 +7,7 @@ use crate::case::{
 };
 use crate::cells::{Feed, plus, read_cells, whole};
 use crate::names::Kinds;
-use replay_lines::input::{Buffer, Input};
+use replay_lines::input::{Input, Source};
 
 // Whether a slice of this kind may change.
 fn changes(kind: u8) -> bool {
@@ -62,7 +62,7 @@ fn room(longest: usize, taken: usize, all: usize) -> u64 {
 }
 
 // What is read of a line: how many words, numbers, slices that are only read, slices that may change, and cells of each type.
-#[derive(Drop)]
+#[derive(Clone, Copy)]
 pub struct Reading {
     pub case: Case,
     pub input: Input,
@@ -146,7 +146,7 @@ impl Reading {
     }
 
     // A number.
-    fn number(self, most: u64, buffer: &mut Buffer) -> Reading {
+    fn number(self, most: u64, buffer: &mut Source) -> Reading {
         let read = self.input.number(buffer, most);
         let mut after = self.word(whole(read.input));
         let value = (read.value % 65536) as u16;
@@ -161,7 +161,7 @@ impl Reading {
         self,
         kind: u8,
         end: usize,
-        buffer: &mut Buffer,
+        buffer: &mut Source,
         narrow: &mut Narrow,
         wide: &mut Wide,
         bytes: &mut Bytes,
@@ -178,7 +178,7 @@ impl Reading {
     fn slice(
         self,
         kind: u8,
-        buffer: &mut Buffer,
+        buffer: &mut Source,
         narrow: &mut Narrow,
         wide: &mut Wide,
         bytes: &mut Bytes,
@@ -196,7 +196,7 @@ impl Reading {
     fn records(
         self,
         kind: u8,
-        buffer: &mut Buffer,
+        buffer: &mut Source,
         narrow: &mut Narrow,
         wide: &mut Wide,
         bytes: &mut Bytes,
@@ -211,7 +211,7 @@ impl Reading {
     fn parameter(
         self,
         kind: u8,
-        buffer: &mut Buffer,
+        buffer: &mut Source,
         narrow: &mut Narrow,
         wide: &mut Wide,
         bytes: &mut Bytes,
@@ -229,7 +229,7 @@ impl Reading {
 pub fn load(
     first: Input,
     kinds: &Kinds,
-    buffer: &mut Buffer,
+    buffer: &mut Source,
     narrow: &mut Narrow,
     wide: &mut Wide,
     bytes: &mut Bytes,

@@ -1,10 +1,10 @@
 // The slices that an operation may change, in slots: filled with what the case has, and shown as they are at return.
-ghost use Rattle.io.specs.Counts.{IsPrefixLen};
+ghost use Rattle.spelling.specs.Counts.{IsPrefixLen};
 
 use crate::case::{CHANGED, Case, between, byte_column, changed};
 use crate::names::Kinds;
 use crate::texts::show as show_bytes;
-use replay_lines::input::Buffer;
+use replay_lines::output::Sink;
 use replay_lines::slices::column;
 
 pub type Slot = [u16; 70000];
@@ -103,7 +103,7 @@ pub fn fill_all(
 }
 
 // Slice k at return, in its slot.
-fn show_filled(case: Case, k: usize, slot: &Slot, out: &mut Buffer, used: usize) -> usize {
+fn show_filled(case: Case, k: usize, slot: &Slot, out: &mut Sink, used: usize) -> usize {
     column(between(slot, 0, case.length(k)), case.short, out, used)
 }
 
@@ -120,7 +120,7 @@ fn show_slot(
     g: &Slot,
     h: &Slot,
     i: &Slot,
-    out: &mut Buffer,
+    out: &mut Sink,
     used: usize,
 ) -> usize {
     match k {
@@ -152,7 +152,7 @@ fn show_kind(
     h: &Slot,
     i: &Slot,
     text: &Text,
-    out: &mut Buffer,
+    out: &mut Sink,
     used: usize,
 ) -> usize {
     match kind {
@@ -195,7 +195,7 @@ pub fn show(
     h: &Slot,
     i: &Slot,
     text: &Text,
-    out: &mut Buffer,
+    out: &mut Sink,
     used: usize,
 ) -> usize {
     let mut at = used;

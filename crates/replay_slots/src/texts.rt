@@ -5,7 +5,7 @@ ghost use Rattle.replay_slots.specs.Shown.{slice_text};
 
 use crate::case::{CHANGED, Case, between_bytes, byte_column};
 use crate::slots::{Text, copy_bytes};
-use replay_lines::input::Buffer;
+use replay_lines::output::Sink;
 use replay_lines::slices::bytes as show_bytes;
 
 // The bytes that may change, filled with what the case has: slice 0 of those.
@@ -15,8 +15,8 @@ pub fn lend<'a>(case: Case, cells: &[u8], array: &'a mut [u8]) -> &'a mut [u8] {
 }
 
 // They at return.
-pub fn show(case: Case, array: &Text, out: &mut Buffer, used: usize) -> usize
-    ensures { (result, out.new) ≡ puts (slice_text case 0 array.now) (used, out.old) }
+pub fn show(case: Case, array: &Text, out: &mut Sink, used: usize) -> usize
+    ensures { (result, out.new.bytes) ≡ puts (slice_text case 0 array.now) (used, out.old.bytes) }
 {
     show_bytes(
         between_bytes(array, 0, case.length(0)),

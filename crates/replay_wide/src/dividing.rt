@@ -1,6 +1,6 @@
 // `partition_marked_with`.
 ghost use Rattle.std.specs.Prelude.{◌≡◌};
-ghost use Rattle.io.specs.Counts.{IsPrefixLen};
+ghost use Rattle.spelling.specs.Counts.{IsPrefixLen};
 ghost use Rattle.partition_division.specs.Division.{said_division};
 ghost use Rattle.replay_lines.specs.Told.{told};
 

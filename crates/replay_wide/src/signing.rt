@@ -1,5 +1,5 @@
 // The signatures of a state's own steps, strong and inductive.
-ghost use Rattle.io.specs.Counts.{IsPrefixLen};
+ghost use Rattle.spelling.specs.Counts.{IsPrefixLen};
 
 use replay_calls::headers::table;
 use replay_calls::operations::STRONG_BISIM_SIGNATURE;

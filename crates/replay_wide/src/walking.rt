@@ -1,5 +1,5 @@
 // The branching signature, and the one that takes given lists.
-ghost use Rattle.io.specs.Counts.{IsPrefixLen};
+ghost use Rattle.spelling.specs.Counts.{IsPrefixLen};
 
 use replay_calls::headers::table;
 use replay_calls::operations::BRANCHING_BISIM_SIGNATURE;

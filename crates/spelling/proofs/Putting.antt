@@ -7,7 +7,7 @@ use mathlib.Core.Path.{◌≡◌, refl, sym, ap, ◌∙◌}
 use lib.ListN.{length, take, drop, get_or, set, length-append}
 use lib.Seq.{take_all, length-take-le, paste, paste-suc, take-paste, drop-paste, length-paste}
 use Rattle.columns.proofs.Parts.{drop_more}
-use Rattle.io.specs.Counts.{IsPrefixLen}
+use Rattle.spelling.specs.Counts.{IsPrefixLen}
 use Rattle.spelling.specs.Texts.{Put}
 
 -- nothing is put

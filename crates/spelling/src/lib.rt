@@ -1,7 +1,10 @@
+#![tactic(auto)]
+
 // Texts and numbers as bytes: each is put over lent bytes from byte `at` on, and the place behind it is answered.
-ghost use Rattle.std.specs.Prelude.{◌++◌, ◌+◌, ◌≤◌, length};
+ghost use Rattle.std.specs.Prelude.{◌≡◌, ◌++◌, ◌+◌, ◌≤◌, length, take};
+ghost use Rattle.spelling.specs.Counts.{IsPrefixLen};
 ghost use Rattle.spelling.specs.Texts.{Put};
-ghost use Rattle.spelling.specs.Digits.{digits};
+ghost use Rattle.spelling.specs.Digits.{digits, IsDigitCount};
 
 // Bytes.
 pub fn put(bytes: &[u8], out: &mut [u8], at: usize) -> usize
@@ -16,6 +19,36 @@ pub fn put(bytes: &[u8], out: &mut [u8], at: usize) -> usize
     at + i
 }
 
+// How many decimal digits a number has.
+fn digit_count(number: u64) -> usize
+    ensures { IsDigitCount number result }
+{
+    let mut count = 1;
+    let mut rest = number / 10;
+    while 0 < rest {
+        rest /= 10;
+        count += 1;
+    }
+    count
+}
+
+// The decimal digits of a number over the first bytes of `text`, and how many they are.
+pub fn decimal(number: u64, text: &mut [u8; 20]) -> usize
+    ensures prefix_len { IsPrefixLen result text.new }
+    ensures upper_bound { result ≤ 20 }
+    ensures text_value { take result text.new ≡ digits number }
+{
+    let count = digit_count(number);
+    let mut i = count;
+    let mut rest = number;
+    while 0 < i {
+        i -= 1;
+        text[i] = 48 + (rest % 10) as u8;
+        rest /= 10;
+    }
+    count
+}
+
 // The decimal digits of a number, of which there are at most 20.
 pub fn put_number(number: u64, out: &mut [u8], at: usize) -> usize
     requires { at + 20 ≤ length out.old }
@@ -23,7 +56,7 @@ pub fn put_number(number: u64, out: &mut [u8], at: usize) -> usize
     ensures upper_bound { result ≤ at + 20 }
 {
     let mut text = [0u8; 20];
-    let count = io::decimal(number, &mut text);
+    let count = decimal(number, &mut text);
     put(&text[..count], out, at)
 }
 

@@ -6,75 +6,75 @@ use Rattle.replay_calls.proofs.Running.{family_run, family_rest, family_none}
 use Rattle.replay_calls.proofs.operations.family.Statement.{statement}
 use Rattle.replay_calls.proofs.operations.family.Tie as tie
 
-returns : tie.Need-returns
+returns-in-18 : tie.Need-returns-in-18
 unfolding run_of
-returns c = family_run 18 18 (omega arith) (omega arith) (omega arith) refl
+returns-in-18 c = family_run 18 18 (omega arith) (omega arith) (omega arith) refl
 
-returns-2 : tie.Need-returns-2
+returns-in-19 : tie.Need-returns-in-19
 unfolding run_of
-returns-2 c = family_run 19 19 (omega arith) (omega arith) (omega arith) refl
+returns-in-19 c = family_run 19 19 (omega arith) (omega arith) (omega arith) refl
 
-returns-3 : tie.Need-returns-3
+returns-in-30 : tie.Need-returns-in-30
 unfolding run_of
-returns-3 c = family_run 30 30 (omega arith) (omega arith) (omega arith) refl
+returns-in-30 c = family_run 30 30 (omega arith) (omega arith) (omega arith) refl
 
-returns-4 : tie.Need-returns-4
+returns-in-1-to-8 : tie.Need-returns-in-1-to-8
 unfolding run_of
-returns-4 c = family_run 1 8 (omega arith) (omega arith) (omega arith) refl
+returns-in-1-to-8 c = family_run 1 8 (omega arith) (omega arith) (omega arith) refl
 
-returns-5 : tie.Need-returns-5
+returns-in-9-to-14 : tie.Need-returns-in-9-to-14
 unfolding run_of
-returns-5 c = family_run 9 14 (omega arith) (omega arith) (omega arith) refl
+returns-in-9-to-14 c = family_run 9 14 (omega arith) (omega arith) (omega arith) refl
 
-returns-6 : tie.Need-returns-6
+returns-in-15-to-17 : tie.Need-returns-in-15-to-17
 unfolding run_of
-returns-6 c = family_run 15 17 (omega arith) (omega arith) (omega arith) refl
+returns-in-15-to-17 c = family_run 15 17 (omega arith) (omega arith) (omega arith) refl
 
-returns-7 : tie.Need-returns-7
+returns-in-20-to-23 : tie.Need-returns-in-20-to-23
 unfolding run_of
-returns-7 c = family_run 20 23 (omega arith) (omega arith) (omega arith) refl
+returns-in-20-to-23 c = family_run 20 23 (omega arith) (omega arith) (omega arith) refl
 
-returns-8 : tie.Need-returns-8
+returns-in-24-to-25 : tie.Need-returns-in-24-to-25
 unfolding run_of
-returns-8 c = family_run 24 25 (omega arith) (omega arith) (omega arith) refl
+returns-in-24-to-25 c = family_run 24 25 (omega arith) (omega arith) (omega arith) refl
 
-returns-9 : tie.Need-returns-9
+returns-in-26-to-29 : tie.Need-returns-in-26-to-29
 unfolding run_of
-returns-9 c = family_run 26 29 (omega arith) (omega arith) (omega arith) refl
+returns-in-26-to-29 c = family_run 26 29 (omega arith) (omega arith) (omega arith) refl
 
-returns-10 : tie.Need-returns-10
+returns-in-31-to-32 : tie.Need-returns-in-31-to-32
 unfolding run_of
-returns-10 c = family_run 31 32 (omega arith) (omega arith) (omega arith) refl
+returns-in-31-to-32 c = family_run 31 32 (omega arith) (omega arith) (omega arith) refl
 
-returns-11 : tie.Need-returns-11
+returns-in-33-to-34 : tie.Need-returns-in-33-to-34
 unfolding run_of
-returns-11 c = family_run 33 34 (omega arith) (omega arith) (omega arith) refl
+returns-in-33-to-34 c = family_run 33 34 (omega arith) (omega arith) (omega arith) refl
 
-returns-12 : tie.Need-returns-12
+returns-in-35-to-40 : tie.Need-returns-in-35-to-40
 unfolding run_of
-returns-12 c = family_run 35 40 (omega arith) (omega arith) (omega arith) refl
+returns-in-35-to-40 c = family_run 35 40 (omega arith) (omega arith) (omega arith) refl
 
-returns-13 : tie.Need-returns-13
-returns-13 c = family_none (omega arith)
+returns-in_default : tie.Need-returns-in_default
+returns-in_default c = family_none (omega arith)
 
-returns-14 : tie.Need-returns-14
-returns-14 c = family_rest (omega arith)
+returns-in_default-2 : tie.Need-returns-in_default-2
+returns-in_default-2 c = family_rest (omega arith)
 
-pub family-spec : {M : Type 1} → statement M
-family-spec =
+pub family_spec : {M : Type 1} → statement M
+family_spec =
     tie.close
     (tie.spec
-    returns
-    returns-2
-    returns-3
-    returns-4
-    returns-5
-    returns-6
-    returns-7
-    returns-8
-    returns-9
-    returns-10
-    returns-11
-    returns-12
-    returns-13
-    returns-14)
+    returns-in-18
+    returns-in-19
+    returns-in-30
+    returns-in-1-to-8
+    returns-in-9-to-14
+    returns-in-15-to-17
+    returns-in-20-to-23
+    returns-in-24-to-25
+    returns-in-26-to-29
+    returns-in-31-to-32
+    returns-in-33-to-34
+    returns-in-35-to-40
+    returns-in_default
+    returns-in_default-2)

@@ -8,5 +8,5 @@ returns : tie.Need-returns
 unfolding told
 returns c = refl
 
-pub done-with-spec : {M : Type 1} → statement M
-done-with-spec = tie.close (tie.spec returns)
+pub done_with_spec : {M : Type 1} → statement M
+done_with_spec = tie.close (tie.spec returns)

@@ -3,13 +3,13 @@ use Rattle.replay_lines.proofs.Placing.{newline, other}
 use Rattle.replay_lines.proofs.input.in_line.Statement.{statement}
 use Rattle.replay_lines.proofs.input.in_line.Tie as tie
 
+returns-then-byte-eq-NEWLINE : tie.Need-returns-then-byte-eq-NEWLINE
+returns-then-byte-eq-NEWLINE c = newline _ c.if-byte-eq-NEWLINE.true
+
 returns : tie.Need-returns
-returns c = newline _ c.if1.true
+returns c = other _ c.if-byte-eq-NEWLINE.false
 
-returns-2 : tie.Need-returns-2
-returns-2 c = other _ c.if1.false
-
-pub in-line-spec : {M : Type 1} → statement M
-in-line-spec =
+pub in_line_spec : {M : Type 1} → statement M
+in_line_spec =
     tie.close
-    (tie.spec returns returns-2)
+    (tie.spec returns-then-byte-eq-NEWLINE returns)

@@ -7,18 +7,18 @@ use Rattle.replay_lines.specs.Places.{in_line, in_word}
 use Rattle.replay_lines.proofs.lines.in_word.Statement.{statement}
 use Rattle.replay_lines.proofs.lines.in_word.Tie as tie
 
+returns-then-byte-eq-BLANK : tie.Need-returns-then-byte-eq-BLANK
+unfolding in_word
+returns-then-byte-eq-BLANK c = sym (ap (λ (b : Bool). cond b false (in_line c.args.byte)) (eq-eqb _ 32 c.if-byte-eq-BLANK.true))
+
+in_line-requires : tie.Need-in_line-requires
+in_line-requires c κs = search rules
+
 returns : tie.Need-returns
 unfolding in_word
-returns c = sym (ap (λ (b : Bool). cond b false (in_line c.before.args.byte)) (eq-eqb _ 32 c.if1.true))
+returns c =
+    c.in_line.ensures
+    ∙ sym (ap (λ (b : Bool). cond b false (in_line c.args.byte)) (ne_eqb _ 32 c.if-byte-eq-BLANK.false))
 
-in-line-requires : tie.Need-in-line-requires
-in-line-requires c κs = search rules
-
-returns-2 : tie.Need-returns-2
-unfolding in_word
-returns-2 c =
-    c.in-line.ensures
-    ∙ sym (ap (λ (b : Bool). cond b false (in_line c.before.before.args.byte)) (ne_eqb _ 32 c.before.if1.false))
-
-pub in-word-spec : {M : Type 1} → statement M
-in-word-spec = tie.close (tie.spec returns in-line-requires returns-2)
+pub in_word_spec : {M : Type 1} → statement M
+in_word_spec = tie.close (tie.spec returns-then-byte-eq-BLANK in_line-requires returns)

@@ -1,51 +1,51 @@
 -- `case::between` meets its contract: there is such a part, or not.
 use borrow.Author.Rules.{rules}
-use mathlib.Core.Logic.{⊎_elim}
 use mathlib.Core.Path.{refl}
 use Rattle.replay_slots.proofs.Parts.{part_there, part_missing, fits_beyond, fits_turned}
 use Rattle.replay_slots.proofs.case.between.Statement.{statement}
+use Rattle.replay_slots.proofs.case.between.Lts.{then-start-end+else-end-cells, else-start-end}
 use Rattle.replay_slots.proofs.case.between.Tie as tie
 
-mul-result : tie.Need-overflow-mul-result
-mul-result c = search rules
+offset_bounds-cells-start : tie.Need-offset_bounds-cells-start
+offset_bounds-cells-start c = search rules
 
-part-result-start : tie.Need-slice-bounds-result-start
-part-result-start c = search rules
+slice_bounds-result-start : tie.Need-slice_bounds-result-start
+slice_bounds-result-start c = search rules
 
-part-result-end : tie.Need-slice-bounds-result-end
-part-result-end c = search rules
+slice_bounds-result-end : tie.Need-slice_bounds-result-end
+slice_bounds-result-end c = search rules
+
+returns-then-end-cells : tie.Need-returns-then-end-cells
+returns-then-end-cells c = let a = c.args in
+    part_there a.start a.end c.if-start-end.true c.if-end-cells.true refl refl
+
+slice_bounds-result-count-2 : tie.Need-slice_bounds-result-count-2
+slice_bounds-result-count-2 c = search rules
+
+slice_bounds-result-start-2 : tie.Need-slice_bounds-result-start-2
+slice_bounds-result-start-2 c = search rules
+
+slice_bounds-result-end-2 : tie.Need-slice_bounds-result-end-2
+slice_bounds-result-end-2 c = search rules
 
 returns : tie.Need-returns
-returns c = let a = c.before.before.before.args in
-    part_there a.start a.end c.before.before.if1.true c.before.if2.true refl refl
-
-sub-result : tie.Need-overflow-sub-result
-sub-result c = search rules
-
-part-result-start-2 : tie.Need-slice-bounds-result-start-2
-part-result-start-2 c = search rules
-
-part-result-end-2 : tie.Need-slice-bounds-result-end-2
-part-result-end-2 c = search rules
-
-returns-2 : tie.Need-returns-2
-returns-2 c = let a = c.before.before.args in
+returns c = let a = c.args in
     part_missing a.start a.end
-    (⊎_elim
-    (λ w. fits_beyond a.cells.now a.start a.end w.1.left)
-    (λ w. fits_turned a.cells.now a.start a.end w.left)
-    c.before.if1.branch)
+    (elim c.if-start-end.branch [
+      | then-start-end+else-end-cells w ↦ fits_beyond a.cells.now a.start a.end w.if-end-cells.false
+      | else-start-end w ↦ fits_turned a.cells.now a.start a.end w.if-start-end.false
+    ])
     refl refl
 
-pub between-spec : {M : Type 1} → statement M
-between-spec =
+pub between_spec : {M : Type 1} → statement M
+between_spec =
     tie.close
     (tie.spec
-    mul-result
-    part-result-start
-    part-result-end
-    returns
-    sub-result
-    part-result-start-2
-    part-result-end-2
-    returns-2)
+    offset_bounds-cells-start
+    slice_bounds-result-start
+    slice_bounds-result-end
+    returns-then-end-cells
+    slice_bounds-result-count-2
+    slice_bounds-result-start-2
+    slice_bounds-result-end-2
+    returns)

@@ -10,11 +10,11 @@ start-requires c κs = search rules
 end-requires : tie.Need-end-requires
 end-requires c κs = search rules
 
-between-bytes-requires : tie.Need-between-bytes-requires
-between-bytes-requires c κs = search rules
+between_bytes-requires : tie.Need-between_bytes-requires
+between_bytes-requires c κs = search rules
 
 returns : tie.Need-returns
-returns c = part_of c.before.before.start.ensures c.before.end.ensures c.between-bytes.ensures
+returns c = part_of c.start.ensures c.end.ensures c.between_bytes.ensures
 
-pub byte-column-spec : {M : Type 1} → statement M
-byte-column-spec = tie.close (tie.spec start-requires end-requires between-bytes-requires returns)
+pub byte_column_spec : {M : Type 1} → statement M
+byte_column_spec = tie.close (tie.spec start-requires end-requires between_bytes-requires returns)

@@ -14,7 +14,7 @@ between-requires : tie.Need-between-requires
 between-requires c κs = search rules
 
 returns : tie.Need-returns
-returns c = part_of c.before.before.start.ensures c.before.end.ensures c.between.ensures
+returns c = part_of c.start.ensures c.end.ensures c.between.ensures
 
-pub column-spec : {M : Type 1} → statement M
-column-spec = tie.close (tie.spec start-requires end-requires between-requires returns)
+pub column_spec : {M : Type 1} → statement M
+column_spec = tie.close (tie.spec start-requires end-requires between-requires returns)

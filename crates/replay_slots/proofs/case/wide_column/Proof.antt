@@ -10,11 +10,11 @@ start-requires c κs = search rules
 end-requires : tie.Need-end-requires
 end-requires c κs = search rules
 
-between-wide-requires : tie.Need-between-wide-requires
-between-wide-requires c κs = search rules
+between_wide-requires : tie.Need-between_wide-requires
+between_wide-requires c κs = search rules
 
 returns : tie.Need-returns
-returns c = part_of c.before.before.start.ensures c.before.end.ensures c.between-wide.ensures
+returns c = part_of c.start.ensures c.end.ensures c.between_wide.ensures
 
-pub wide-column-spec : {M : Type 1} → statement M
-wide-column-spec = tie.close (tie.spec start-requires end-requires between-wide-requires returns)
+pub wide_column_spec : {M : Type 1} → statement M
+wide_column_spec = tie.close (tie.spec start-requires end-requires between_wide-requires returns)

@@ -5,20 +5,20 @@ use Rattle.replay_slots.specs.Sizes.{bounded}
 use Rattle.replay_slots.proofs.cells.plus.Statement.{statement}
 use Rattle.replay_slots.proofs.cells.plus.Tie as tie
 
-add-result : tie.Need-overflow-add-result
-add-result c = search rules
+overflow_add-result : tie.Need-overflow_add-result
+overflow_add-result c = search rules
 
-returns : tie.Need-returns
+returns-then-b-lt1000000000000 : tie.Need-returns-then-b-lt1000000000000
 unfolding bounded
-returns c = rw (lt-ltb _ 1000000000000 c.before.if1.true, lt-ltb _ 1000000000000 c.if2.true)
+returns-then-b-lt1000000000000 c = rw (lt-ltb _ 1000000000000 c.if-a-lt1000000000000.true, lt-ltb _ 1000000000000 c.if-b-lt1000000000000.true)
 
-returns-2 : tie.Need-returns-2
+returns-else-b-lt1000000000000 : tie.Need-returns-else-b-lt1000000000000
 unfolding bounded
-returns-2 c = rw (lt-ltb _ 1000000000000 c.before.if1.true, le-ltb _ 1000000000000 c.if2.false)
+returns-else-b-lt1000000000000 c = rw (lt-ltb _ 1000000000000 c.if-a-lt1000000000000.true, le-ltb _ 1000000000000 c.if-b-lt1000000000000.false)
 
-returns-3 : tie.Need-returns-3
+returns-else-a-lt1000000000000 : tie.Need-returns-else-a-lt1000000000000
 unfolding bounded
-returns-3 c = rw (le-ltb _ 1000000000000 c.if1.false)
+returns-else-a-lt1000000000000 c = rw (le-ltb _ 1000000000000 c.if-a-lt1000000000000.false)
 
-pub plus-spec : {M : Type 1} → statement M
-plus-spec = tie.close (tie.spec add-result returns returns-2 returns-3)
+pub plus_spec : {M : Type 1} → statement M
+plus_spec = tie.close (tie.spec overflow_add-result returns-then-b-lt1000000000000 returns-else-b-lt1000000000000 returns-else-a-lt1000000000000)

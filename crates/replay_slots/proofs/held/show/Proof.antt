@@ -14,9 +14,9 @@ column-requires : tie.Need-column-requires
 column-requires c κs = search rules
 
 returns : tie.Need-returns
-returns c = let a = c.before.before.before.before.before.args in
-    slice_shown a.case a.k a.array.now _ c.before.before.before.length.ensures c.before.before.between.ensures.cells
+returns c = let a = c.args in
+    slice_shown a.case a.k a.array.now _ c.length.ensures c.between.ensures.cells
     c.column.ensures
 
-pub show-spec : {M : Type 1} → statement M
-show-spec = tie.close (tie.spec length-requires between-requires column-requires returns)
+pub show_spec : {M : Type 1} → statement M
+show_spec = tie.close (tie.spec length-requires between-requires column-requires returns)

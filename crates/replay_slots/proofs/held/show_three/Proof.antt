@@ -4,26 +4,26 @@ use Rattle.replay_lines.proofs.Putting.{puts_then}
 use Rattle.replay_slots.proofs.held.show_three.Statement.{statement}
 use Rattle.replay_slots.proofs.held.show_three.Tie as tie
 
+show-after_a-requires : tie.Need-show-after_a-requires
+show-after_a-requires c κs = search rules
+
+overflow_add-k : tie.Need-overflow_add-k
+overflow_add-k c = search rules
+
+show-after_b-requires : tie.Need-show-after_b-requires
+show-after_b-requires c κs = search rules
+
+overflow_add-k-2 : tie.Need-overflow_add-k-2
+overflow_add-k-2 c = search rules
+
 show-requires : tie.Need-show-requires
 show-requires c κs = search rules
 
-add-show : tie.Need-overflow-add-show
-add-show c = search rules
-
-show-requires-2 : tie.Need-show-requires-2
-show-requires-2 c κs = search rules
-
-add-show-2 : tie.Need-overflow-add-show-2
-add-show-2 c = search rules
-
-show-requires-3 : tie.Need-show-requires-3
-show-requires-3 c κs = search rules
-
 returns : tie.Need-returns
 returns c =
-    puts_then _ _ _ c.before.before.before.before.show.ensures
-    (puts_then _ _ _ c.before.before.show2.ensures c.show3.ensures)
+    puts_then _ _ _ c.show-after_a.ensures
+    (puts_then _ _ _ c.show-after_b.ensures c.show.ensures)
 
-pub show-three-spec : {M : Type 1} → statement M
-show-three-spec =
-    tie.close (tie.spec show-requires add-show show-requires-2 add-show-2 show-requires-3 returns)
+pub show_three_spec : {M : Type 1} → statement M
+show_three_spec =
+    tie.close (tie.spec show-after_a-requires overflow_add-k show-after_b-requires overflow_add-k-2 show-requires returns)

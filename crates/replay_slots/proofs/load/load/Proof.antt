@@ -4,51 +4,51 @@ use Prim.Native.Nat.{◌≤◌, ◌-◌}
 use Rattle.replay_slots.proofs.load.load.Statement.{statement}
 use Rattle.replay_slots.proofs.load.load.Tie as tie
 
-abbrev invariant-loop : tie.invariant-loop
-invariant-loop kinds buffer₀ narrow₀ wide₀ bytes₀ reading₀ i₀ buffer narrow wide bytes reading i = i ≤ 64
+abbrev invariant-loop-i : tie.invariant-loop-i
+invariant-loop-i kinds buffer₀ narrow₀ wide₀ bytes₀ reading₀ i₀ buffer narrow wide bytes reading i = i ≤ 64
 
-abbrev decreases-loop : tie.decreases-loop
-decreases-loop kinds buffer₀ narrow₀ wide₀ bytes₀ reading₀ i₀ buffer narrow wide bytes reading i = 64 - i
+abbrev decreases-loop-i : tie.decreases-loop-i
+decreases-loop-i kinds buffer₀ narrow₀ wide₀ bytes₀ reading₀ i₀ buffer narrow wide bytes reading i = 64 - i
 
-new-requires : tie.Need-new-requires invariant-loop decreases-loop
-new-requires c κs = search rules
+new-reading-requires : tie.Need-new-reading-requires invariant-loop-i decreases-loop-i
+new-reading-requires c κs = search rules
 
-loop-holds : tie.Need-loop-init invariant-loop decreases-loop
-loop-holds c = search rules
+loop-i-init : tie.Need-loop-i-init invariant-loop-i decreases-loop-i
+loop-i-init c = search rules
 
-element-copy-out-kind : tie.Need-element-copy-out-kind invariant-loop decreases-loop
-element-copy-out-kind c = search rules
+bounds-kinds-i : tie.Need-bounds-kinds-i invariant-loop-i decreases-loop-i
+bounds-kinds-i c = search rules
 
-parameter-requires : tie.Need-parameter-requires invariant-loop decreases-loop
-parameter-requires c κs = search rules
+parameter-reading-requires : tie.Need-parameter-reading-requires invariant-loop-i decreases-loop-i
+parameter-reading-requires c κs = search rules
 
-add-i : tie.Need-overflow-add-i invariant-loop decreases-loop
-add-i c = search rules
+overflow_add-i : tie.Need-overflow_add-i invariant-loop-i decreases-loop-i
+overflow_add-i c = search rules
 
-loop-less : tie.Need-loop-smaller invariant-loop decreases-loop
-loop-less c = search rules
+loop-i-smaller : tie.Need-loop-i-smaller invariant-loop-i decreases-loop-i
+loop-i-smaller c = search rules
 
-loop-again : tie.Need-loop-preserved invariant-loop decreases-loop
-loop-again c = search rules
+loop-i-preserved : tie.Need-loop-i-preserved invariant-loop-i decreases-loop-i
+loop-i-preserved c = search rules
 
-end-line-requires : tie.Need-end-line-requires invariant-loop decreases-loop
-end-line-requires c κs = search rules
+end_line-rest-requires : tie.Need-end_line-rest-requires invariant-loop-i decreases-loop-i
+end_line-rest-requires c κs = search rules
 
-returns : tie.Need-returns invariant-loop decreases-loop
+returns : tie.Need-returns invariant-loop-i decreases-loop-i
 returns c = search rules
 
 pub load_spec : {M : Type 1} → statement M
 load_spec =
     tie.close
     (tie.spec
-    invariant-loop
-    decreases-loop
-    new-requires
-    loop-holds
-    element-copy-out-kind
-    parameter-requires
-    add-i
-    loop-less
-    loop-again
-    end-line-requires
+    invariant-loop-i
+    decreases-loop-i
+    new-reading-requires
+    loop-i-init
+    bounds-kinds-i
+    parameter-reading-requires
+    overflow_add-i
+    loop-i-smaller
+    loop-i-preserved
+    end_line-rest-requires
     returns)

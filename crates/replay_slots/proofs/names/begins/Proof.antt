@@ -9,69 +9,69 @@ use Rattle.replay_slots.proofs.Naming.{begins_short, begins_other, begins_on, be
 use Rattle.replay_slots.proofs.names.begins.Statement.{statement}
 use Rattle.replay_slots.proofs.names.begins.Tie as tie
 
-abbrev invariant-loop : tie.invariant-loop
-invariant-loop text name i₀ i = (i ≤ length name) × (begins (drop i name) (drop i text) ≡ begins name text)
+abbrev invariant-loop-i : tie.invariant-loop-i
+invariant-loop-i text name i₀ i = (i ≤ length name) × (begins (drop i name) (drop i text) ≡ begins name text)
 
-abbrev decreases-loop : tie.decreases-loop
-decreases-loop text name i₀ i = length name - i
+abbrev decreases-loop-i : tie.decreases-loop-i
+decreases-loop-i text name i₀ i = length name - i
 
-loop-holds : tie.Need-loop-init invariant-loop decreases-loop
-loop-holds c = (search rules, refl)
+loop-i-init : tie.Need-loop-i-init invariant-loop-i decreases-loop-i
+loop-i-init c = (search rules, refl)
 
-returns : tie.Need-returns invariant-loop decreases-loop
-returns c = let a = c.before.before.before.args in
-    let l = c.before.before.loop in
+returns-then-text-i : tie.Need-returns-then-text-i invariant-loop-i decreases-loop-i
+returns-then-text-i c = let a = c.args in
+    let l = c.loop-i in
     begins_short a.name.now a.text.now l.i (omega arith) (omega arith) ∙ l.invariant.1
 
-shared-slice-read-if2 : tie.Need-shared-slice-read-if2 invariant-loop decreases-loop
-shared-slice-read-if2 c = search rules
+bounds-text-i : tie.Need-bounds-text-i invariant-loop-i decreases-loop-i
+bounds-text-i c = search rules
 
-shared-slice-read-if2-2 : tie.Need-shared-slice-read-if2-2 invariant-loop decreases-loop
-shared-slice-read-if2-2 c = search rules
+bounds-name-i : tie.Need-bounds-name-i invariant-loop-i decreases-loop-i
+bounds-name-i c = search rules
 
-returns-2 : tie.Need-returns-2 invariant-loop decreases-loop
-returns-2 c = let a = c.before.before.before.before.before.before.args in
-    let l = c.before.before.before.before.before.loop in
-    begins_other a.name.now a.text.now l.i (omega arith) (omega arith) c.if2.true ∙ l.invariant.1
+returns-then-text-i-2 : tie.Need-returns-then-text-i-2 invariant-loop-i decreases-loop-i
+returns-then-text-i-2 c = let a = c.args in
+    let l = c.loop-i in
+    begins_other a.name.now a.text.now l.i (omega arith) (omega arith) c.if-text-i-2.true ∙ l.invariant.1
 
-add-i : tie.Need-overflow-add-i invariant-loop decreases-loop
-add-i c = search rules
+overflow_add-i : tie.Need-overflow_add-i invariant-loop-i decreases-loop-i
+overflow_add-i c = search rules
 
-loop-less : tie.Need-loop-smaller invariant-loop decreases-loop
-loop-less c = search rules
+loop-i-smaller : tie.Need-loop-i-smaller invariant-loop-i decreases-loop-i
+loop-i-smaller c = search rules
 
-loop-again : tie.Need-loop-preserved invariant-loop decreases-loop
-loop-again c = let a = c.before.before.before.before.before.before.args in
-    let l = c.before.before.before.before.before.loop in
-    (search rules, begins_on a.name.now a.text.now l.i (omega arith) (omega arith) c.if2.false ∙ l.invariant.1)
+loop-i-preserved : tie.Need-loop-i-preserved invariant-loop-i decreases-loop-i
+loop-i-preserved c = let a = c.args in
+    let l = c.loop-i in
+    (search rules, begins_on a.name.now a.text.now l.i (omega arith) (omega arith) c.if-text-i-2.false ∙ l.invariant.1)
 
-shared-slice-read-result : tie.Need-shared-slice-read-result invariant-loop decreases-loop
-shared-slice-read-result c = search rules
+bounds-text-i-then-i-text : tie.Need-bounds-text-i-then-i-text invariant-loop-i decreases-loop-i
+bounds-text-i-then-i-text c = search rules
 
-returns-3 : tie.Need-returns-3 invariant-loop decreases-loop
-returns-3 c = let a = c.before.before.before.before.args in
-    let l = c.before.before.before.loop in
+returns-then-i-text : tie.Need-returns-then-i-text invariant-loop-i decreases-loop-i
+returns-then-i-text c = let a = c.args in
+    let l = c.loop-i in
     begins-blank a.name.now a.text.now l.i (omega arith) (omega arith) ∙ l.invariant.1
 
-returns-4 : tie.Need-returns-4 invariant-loop decreases-loop
-returns-4 c = let a = c.before.before.before.args in
-    let l = c.before.before.loop in
+returns : tie.Need-returns invariant-loop-i decreases-loop-i
+returns c = let a = c.args in
+    let l = c.loop-i in
     begins_ended a.name.now a.text.now l.i (omega arith) (omega arith) ∙ l.invariant.1
 
-pub begins-spec : {M : Type 1} → statement M
-begins-spec =
+pub begins_spec : {M : Type 1} → statement M
+begins_spec =
     tie.close
     (tie.spec
-    invariant-loop
-    decreases-loop
-    loop-holds
-    returns
-    shared-slice-read-if2
-    shared-slice-read-if2-2
-    returns-2
-    add-i
-    loop-less
-    loop-again
-    shared-slice-read-result
-    returns-3
-    returns-4)
+    invariant-loop-i
+    decreases-loop-i
+    loop-i-init
+    returns-then-text-i
+    bounds-text-i
+    bounds-name-i
+    returns-then-text-i-2
+    overflow_add-i
+    loop-i-smaller
+    loop-i-preserved
+    bounds-text-i-then-i-text
+    returns-then-i-text
+    returns)

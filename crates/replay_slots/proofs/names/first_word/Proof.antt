@@ -4,70 +4,70 @@ use native.Mathlib.Omega.{arith}
 use Prim.Native.Nat.{◌≤◌, ◌-◌}
 use mathlib.Core.List.{◌++◌}
 use mathlib.Core.Path.{◌≡◌, refl, ◌∙◌}
-use lib.ListN.{length, take, drop}
+use lib.ListN.{take, drop}
 use Rattle.columns.specs.Columns.{zeros}
 use Rattle.replay_slots.specs.Names.{word_in}
 use Rattle.replay_slots.proofs.Naming.{word_none, word_stop, word_set, word_on, word_end}
 use Rattle.replay_slots.proofs.names.first_word.Statement.{statement}
 use Rattle.replay_slots.proofs.names.first_word.Tie as tie
 
-abbrev invariant-loop : tie.invariant-loop
-invariant-loop text word₀ i₀ word i =
+abbrev invariant-loop-i : tie.invariant-loop-i
+invariant-loop-i text word₀ i₀ word i =
     (i ≤ 64) × (word ≡ take i text ++ zeros (64 - i)) × (take i text ++ word_in (64 - i) (drop i text) ≡ word_in 64 text)
 
-abbrev decreases-loop : tie.decreases-loop
-decreases-loop text word₀ i₀ word i = 64 - i
+abbrev decreases-loop-i : tie.decreases-loop-i
+decreases-loop-i text word₀ i₀ word i = 64 - i
 
-loop-holds : tie.Need-loop-init invariant-loop decreases-loop
-loop-holds c = (search rules, refl, refl)
+loop-i-init : tie.Need-loop-i-init invariant-loop-i decreases-loop-i
+loop-i-init c = (search rules, refl, refl)
 
-returns : tie.Need-returns invariant-loop decreases-loop
-returns c = let a = c.before.before.before.args in
-    let l = c.before.before.loop in
+returns-then-text-i : tie.Need-returns-then-text-i invariant-loop-i decreases-loop-i
+returns-then-text-i c = let a = c.args in
+    let l = c.loop-i in
     cc (word_none a.text.now 64 l.i (omega arith) (omega arith))
 
-shared-slice-read-byte : tie.Need-shared-slice-read-byte invariant-loop decreases-loop
-shared-slice-read-byte c = search rules
+bounds-text-i : tie.Need-bounds-text-i invariant-loop-i decreases-loop-i
+bounds-text-i c = search rules
 
-returns-2 : tie.Need-returns-2 invariant-loop decreases-loop
-returns-2 c = let a = c.before.before.before.before.before.args in
-    let l = c.before.before.before.before.loop in
-    cc (word_stop a.text.now 64 l.i (omega arith) (omega arith) c.if2.true)
+returns-then-byte-eq32 : tie.Need-returns-then-byte-eq32 invariant-loop-i decreases-loop-i
+returns-then-byte-eq32 c = let a = c.args in
+    let l = c.loop-i in
+    cc (word_stop a.text.now 64 l.i (omega arith) (omega arith) c.if-byte-eq32.true)
 
-array-write-word : tie.Need-array-write-word invariant-loop decreases-loop
-array-write-word c = search rules
+bounds-word-i : tie.Need-bounds-word-i invariant-loop-i decreases-loop-i
+bounds-word-i c = search rules
 
-add-i : tie.Need-overflow-add-i invariant-loop decreases-loop
-add-i c = search rules
+overflow_add-i : tie.Need-overflow_add-i invariant-loop-i decreases-loop-i
+overflow_add-i c = search rules
 
-loop-less : tie.Need-loop-smaller invariant-loop decreases-loop
-loop-less c = search rules
+loop-i-smaller : tie.Need-loop-i-smaller invariant-loop-i decreases-loop-i
+loop-i-smaller c = search rules
 
-loop-again : tie.Need-loop-preserved invariant-loop decreases-loop
-loop-again c = let a = c.before.before.before.before.before.args in
-    let l = c.before.before.before.before.loop in (
+loop-i-preserved : tie.Need-loop-i-preserved invariant-loop-i decreases-loop-i
+loop-i-preserved c = let a = c.args in
+    let l = c.loop-i in (
       search rules,
       word_set a.text.now 64 l.i (omega arith) (omega arith) l.invariant.1,
-      word_on a.text.now 64 l.i (omega arith) (omega arith) c.if2.false ∙ l.invariant.2,
+      word_on a.text.now 64 l.i (omega arith) (omega arith) c.if-byte-eq32.false ∙ l.invariant.2,
     )
 
-returns-3 : tie.Need-returns-3 invariant-loop decreases-loop
-returns-3 c = let a = c.before.before.args in
-    let l = c.before.loop in
+returns : tie.Need-returns invariant-loop-i decreases-loop-i
+returns c = let a = c.args in
+    let l = c.loop-i in
     cc (word_end a.text.now 64 l.i (omega arith))
 
-pub first-word-spec : {M : Type 1} → statement M
-first-word-spec =
+pub first_word_spec : {M : Type 1} → statement M
+first_word_spec =
     tie.close
     (tie.spec
-    invariant-loop
-    decreases-loop
-    loop-holds
-    returns
-    shared-slice-read-byte
-    returns-2
-    array-write-word
-    add-i
-    loop-less
-    loop-again
-    returns-3)
+    invariant-loop-i
+    decreases-loop-i
+    loop-i-init
+    returns-then-text-i
+    bounds-text-i
+    returns-then-byte-eq32
+    bounds-word-i
+    overflow_add-i
+    loop-i-smaller
+    loop-i-preserved
+    returns)

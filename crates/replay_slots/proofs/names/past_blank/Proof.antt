@@ -9,53 +9,53 @@ use Rattle.replay_slots.proofs.Naming.{past_here, past_on, past_end}
 use Rattle.replay_slots.proofs.names.past_blank.Statement.{statement}
 use Rattle.replay_slots.proofs.names.past_blank.Tie as tie
 
-abbrev invariant-loop : tie.invariant-loop
-invariant-loop text from i₀ i = (i ≤ length text) × (past_blank (drop i text) ≡ past_blank (drop from text))
+abbrev invariant-loop-i : tie.invariant-loop-i
+invariant-loop-i text from i₀ i = (i ≤ length text) × (past_blank (drop i text) ≡ past_blank (drop from text))
 
-abbrev decreases-loop : tie.decreases-loop
-decreases-loop text from i₀ i = length text - i
+abbrev decreases-loop-i : tie.decreases-loop-i
+decreases-loop-i text from i₀ i = length text - i
 
-loop-holds : tie.Need-loop-init invariant-loop decreases-loop
-loop-holds c = (search rules, refl)
+loop-i-init : tie.Need-loop-i-init invariant-loop-i decreases-loop-i
+loop-i-init c = (search rules, refl)
 
-shared-slice-read-if1 : tie.Need-shared-slice-read-if1 invariant-loop decreases-loop
-shared-slice-read-if1 c = search rules
+bounds-text-i : tie.Need-bounds-text-i invariant-loop-i decreases-loop-i
+bounds-text-i c = search rules
 
-add-result : tie.Need-overflow-add-result invariant-loop decreases-loop
-add-result c = search rules
+overflow_add-result : tie.Need-overflow_add-result invariant-loop-i decreases-loop-i
+overflow_add-result c = search rules
 
-returns : tie.Need-returns invariant-loop decreases-loop
-returns c = let a = c.before.before.before.before.args in
-    let l = c.before.before.before.loop in
-    (search rules, past_here a.text.now l.i (omega arith) c.if1.true ∙ l.invariant.1)
+returns-then-text-i-eq32 : tie.Need-returns-then-text-i-eq32 invariant-loop-i decreases-loop-i
+returns-then-text-i-eq32 c = let a = c.args in
+    let l = c.loop-i in
+    (search rules, past_here a.text.now l.i (omega arith) c.if-text-i-eq32.true ∙ l.invariant.1)
 
-add-i : tie.Need-overflow-add-i invariant-loop decreases-loop
-add-i c = search rules
+overflow_add-i : tie.Need-overflow_add-i invariant-loop-i decreases-loop-i
+overflow_add-i c = search rules
 
-loop-less : tie.Need-loop-smaller invariant-loop decreases-loop
-loop-less c = search rules
+loop-i-smaller : tie.Need-loop-i-smaller invariant-loop-i decreases-loop-i
+loop-i-smaller c = search rules
 
-loop-again : tie.Need-loop-preserved invariant-loop decreases-loop
-loop-again c = let a = c.before.before.before.before.args in
-    let l = c.before.before.before.loop in
-    (search rules, past_on a.text.now l.i (omega arith) c.if1.false ∙ l.invariant.1)
+loop-i-preserved : tie.Need-loop-i-preserved invariant-loop-i decreases-loop-i
+loop-i-preserved c = let a = c.args in
+    let l = c.loop-i in
+    (search rules, past_on a.text.now l.i (omega arith) c.if-text-i-eq32.false ∙ l.invariant.1)
 
-returns-2 : tie.Need-returns-2 invariant-loop decreases-loop
-returns-2 c = let a = c.before.before.args in
-    let l = c.before.loop in
+returns : tie.Need-returns invariant-loop-i decreases-loop-i
+returns c = let a = c.args in
+    let l = c.loop-i in
     (search rules, past_end a.text.now l.i (omega arith) ∙ l.invariant.1)
 
-pub past-blank-spec : {M : Type 1} → statement M
-past-blank-spec =
+pub past_blank_spec : {M : Type 1} → statement M
+past_blank_spec =
     tie.close
     (tie.spec
-    invariant-loop
-    decreases-loop
-    loop-holds
-    shared-slice-read-if1
-    add-result
-    returns
-    add-i
-    loop-less
-    loop-again
-    returns-2)
+    invariant-loop-i
+    decreases-loop-i
+    loop-i-init
+    bounds-text-i
+    overflow_add-result
+    returns-then-text-i-eq32
+    overflow_add-i
+    loop-i-smaller
+    loop-i-preserved
+    returns)

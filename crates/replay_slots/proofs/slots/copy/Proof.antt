@@ -3,67 +3,67 @@ use borrow.Author.Rules.{rules}
 use Prim.Native.Nat.{◌≤◌, ◌-◌}
 use mathlib.Core.Path.{◌≡◌}
 use lib.ListN.{length}
-use Rattle.io.proofs.Counting.{prefix_len_of_le}
+use Rattle.spelling.proofs.Counting.{prefix_len_of_le}
 use Rattle.replay_slots.proofs.slots.copy.Statement.{statement}
 use Rattle.replay_slots.proofs.slots.copy.Tie as tie
 
-abbrev invariant-loop : tie.invariant-loop
-invariant-loop from into₀ i₀ into i = (i ≤ length from) × (i ≤ length into₀) × (length into ≡ length into₀)
+abbrev invariant-loop-i : tie.invariant-loop-i
+invariant-loop-i from into₀ i₀ into i = (i ≤ length from) × (i ≤ length into₀) × (length into ≡ length into₀)
 
-abbrev decreases-loop : tie.decreases-loop
-decreases-loop from into₀ i₀ into i = length from - i
+abbrev decreases-loop-i : tie.decreases-loop-i
+decreases-loop-i from into₀ i₀ into i = length from - i
 
-loop-holds : tie.Need-loop-init invariant-loop decreases-loop
-loop-holds c = search rules
+loop-i-init : tie.Need-loop-i-init invariant-loop-i decreases-loop-i
+loop-i-init c = search rules
 
-same_length : tie.Need-same-length invariant-loop decreases-loop
-same_length c = search rules
+shape_of-into-then-into-i : tie.Need-shape_of-into-then-into-i invariant-loop-i decreases-loop-i
+shape_of-into-then-into-i c = search rules
 
-returns : tie.Need-returns invariant-loop decreases-loop
+returns-then-into-i : tie.Need-returns-then-into-i invariant-loop-i decreases-loop-i
+returns-then-into-i c = prefix_len_of_le _ _ (search rules)
+
+offset_bounds-from-i : tie.Need-offset_bounds-from-i invariant-loop-i decreases-loop-i
+offset_bounds-from-i c = search rules
+
+bounds-from-i : tie.Need-bounds-from-i invariant-loop-i decreases-loop-i
+bounds-from-i c = search rules
+
+offset_bounds-into-i : tie.Need-offset_bounds-into-i invariant-loop-i decreases-loop-i
+offset_bounds-into-i c = search rules
+
+bounds-into-i : tie.Need-bounds-into-i invariant-loop-i decreases-loop-i
+bounds-into-i c = search rules
+
+overflow_add-i : tie.Need-overflow_add-i invariant-loop-i decreases-loop-i
+overflow_add-i c = search rules
+
+loop-i-smaller : tie.Need-loop-i-smaller invariant-loop-i decreases-loop-i
+loop-i-smaller c = search rules
+
+loop-i-preserved : tie.Need-loop-i-preserved invariant-loop-i decreases-loop-i
+loop-i-preserved c = search rules
+
+shape_of-into : tie.Need-shape_of-into invariant-loop-i decreases-loop-i
+shape_of-into c = search rules
+
+returns : tie.Need-returns invariant-loop-i decreases-loop-i
 returns c = prefix_len_of_le _ _ (search rules)
-
-mul-into : tie.Need-overflow-mul-into invariant-loop decreases-loop
-mul-into c = search rules
-
-shared-slice-read-into : tie.Need-shared-slice-read-into invariant-loop decreases-loop
-shared-slice-read-into c = search rules
-
-mul-into-2 : tie.Need-overflow-mul-into-2 invariant-loop decreases-loop
-mul-into-2 c = search rules
-
-slice-write-into : tie.Need-slice-write-into invariant-loop decreases-loop
-slice-write-into c = search rules
-
-add-i : tie.Need-overflow-add-i invariant-loop decreases-loop
-add-i c = search rules
-
-loop-less : tie.Need-loop-smaller invariant-loop decreases-loop
-loop-less c = search rules
-
-loop-again : tie.Need-loop-preserved invariant-loop decreases-loop
-loop-again c = search rules
-
-same-length-2 : tie.Need-same-length-2 invariant-loop decreases-loop
-same-length-2 c = search rules
-
-returns-2 : tie.Need-returns-2 invariant-loop decreases-loop
-returns-2 c = prefix_len_of_le _ _ (search rules)
 
 pub copy_spec : {M : Type 1} → statement M
 copy_spec =
     tie.close
     (tie.spec
-    invariant-loop
-    decreases-loop
-    loop-holds
-    same_length
-    returns
-    mul-into
-    shared-slice-read-into
-    mul-into-2
-    slice-write-into
-    add-i
-    loop-less
-    loop-again
-    same-length-2
-    returns-2)
+    invariant-loop-i
+    decreases-loop-i
+    loop-i-init
+    shape_of-into-then-into-i
+    returns-then-into-i
+    offset_bounds-from-i
+    bounds-from-i
+    offset_bounds-into-i
+    bounds-into-i
+    overflow_add-i
+    loop-i-smaller
+    loop-i-preserved
+    shape_of-into
+    returns)

@@ -4,51 +4,51 @@ use Prim.Native.Nat.{◌≤◌, ◌-◌}
 use Rattle.replay_slots.proofs.slots.show.Statement.{statement}
 use Rattle.replay_slots.proofs.slots.show.Tie as tie
 
-abbrev invariant-loop : tie.invariant-loop
-invariant-loop kinds case a b c d e f g h i text out₀ used at₀ k₀ p₀ out at k p = p ≤ 64
+abbrev invariant-loop-p : tie.invariant-loop-p
+invariant-loop-p kinds case a b c d e f g h i text out₀ used at₀ k₀ p₀ out at k p = p ≤ 64
 
-abbrev decreases-loop : tie.decreases-loop
-decreases-loop kinds case a b c d e f g h i text out₀ used at₀ k₀ p₀ out at k p = 64 - p
+abbrev decreases-loop-p : tie.decreases-loop-p
+decreases-loop-p kinds case a b c d e f g h i text out₀ used at₀ k₀ p₀ out at k p = 64 - p
 
-loop-holds : tie.Need-loop-init invariant-loop decreases-loop
-loop-holds c = search rules
+loop-p-init : tie.Need-loop-p-init invariant-loop-p decreases-loop-p
+loop-p-init c = search rules
 
-element-copy-out-kind : tie.Need-element-copy-out-kind invariant-loop decreases-loop
-element-copy-out-kind c = search rules
+bounds-kinds-p : tie.Need-bounds-kinds-p invariant-loop-p decreases-loop-p
+bounds-kinds-p c = search rules
 
-show-kind-requires : tie.Need-show-kind-requires invariant-loop decreases-loop
-show-kind-requires c κs = search rules
+show_kind-at-requires : tie.Need-show_kind-at-requires invariant-loop-p decreases-loop-p
+show_kind-at-requires c κs = search rules
 
-next-slot-requires : tie.Need-next-slot-requires invariant-loop decreases-loop
-next-slot-requires c κs = search rules
+next_slot-k-requires : tie.Need-next_slot-k-requires invariant-loop-p decreases-loop-p
+next_slot-k-requires c κs = search rules
 
-add-p : tie.Need-overflow-add-p invariant-loop decreases-loop
-add-p c = search rules
+overflow_add-p : tie.Need-overflow_add-p invariant-loop-p decreases-loop-p
+overflow_add-p c = search rules
 
-loop-less : tie.Need-loop-smaller invariant-loop decreases-loop
-loop-less c = search rules
+loop-p-smaller : tie.Need-loop-p-smaller invariant-loop-p decreases-loop-p
+loop-p-smaller c = search rules
 
-loop-again : tie.Need-loop-preserved invariant-loop decreases-loop
-loop-again c = search rules
+loop-p-preserved : tie.Need-loop-p-preserved invariant-loop-p decreases-loop-p
+loop-p-preserved c = search rules
 
-returns : tie.Need-returns invariant-loop decreases-loop
-returns c = search rules
+returns-after-loop-p : tie.Need-returns-after-loop-p invariant-loop-p decreases-loop-p
+returns-after-loop-p c = search rules
 
-returns-2 : tie.Need-returns-2 invariant-loop decreases-loop
-returns-2 c = search rules
+returns-then-kind-eq0 : tie.Need-returns-then-kind-eq0 invariant-loop-p decreases-loop-p
+returns-then-kind-eq0 c = search rules
 
-pub show-spec : {M : Type 1} → statement M
-show-spec =
+pub show_spec : {M : Type 1} → statement M
+show_spec =
     tie.close
     (tie.spec
-    invariant-loop
-    decreases-loop
-    loop-holds
-    element-copy-out-kind
-    show-kind-requires
-    next-slot-requires
-    add-p
-    loop-less
-    loop-again
-    returns
-    returns-2)
+    invariant-loop-p
+    decreases-loop-p
+    loop-p-init
+    bounds-kinds-p
+    show_kind-at-requires
+    next_slot-k-requires
+    overflow_add-p
+    loop-p-smaller
+    loop-p-preserved
+    returns-after-loop-p
+    returns-then-kind-eq0)

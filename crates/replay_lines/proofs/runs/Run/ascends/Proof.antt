@@ -4,19 +4,19 @@ use Rattle.replay_lines.proofs.Running.{ascends-not, ascends_one, ascends_more}
 use Rattle.replay_lines.proofs.runs.Run.ascends.Statement.{statement}
 use Rattle.replay_lines.proofs.runs.Run.ascends.Tie as tie
 
+returns-then-x-self : tie.Need-returns-then-x-self
+returns-then-x-self c = ascends-not c.args.self c.args.x (λ e. omega arith)
+
+returns-then-x-self-2 : tie.Need-returns-then-x-self-2
+returns-then-x-self-2 c = let start = c in ascends-not start.args.self start.args.x (λ e. omega arith)
+
+returns-then-self-eq1 : tie.Need-returns-then-self-eq1
+returns-then-self-eq1 c = let start = c in
+    ascends_one start.args.self start.args.x (omega arith) c.if-self-eq1.true
+
 returns : tie.Need-returns
-returns c = ascends-not c.before.before.args.self c.before.before.args.x (λ e. omega arith)
+returns c = let start = c in
+    ascends_more start.args.self start.args.x (omega arith) c.if-self-eq1.false
 
-returns-2 : tie.Need-returns-2
-returns-2 c = let start = c.before.before.before.before.before in ascends-not start.args.self start.args.x (λ e. omega arith)
-
-returns-3 : tie.Need-returns-3
-returns-3 c = let start = c.before.before.before.before.before.before.before in
-    ascends_one start.args.self start.args.x (omega arith) c.if3.true
-
-returns-4 : tie.Need-returns-4
-returns-4 c = let start = c.before.before.before.before.before.before.before.before in
-    ascends_more start.args.self start.args.x (omega arith) c.before.if3.false
-
-pub ascends-spec : {M : Type 1} → statement M
-ascends-spec = tie.close (tie.spec returns returns-2 returns-3 returns-4)
+pub ascends_spec : {M : Type 1} → statement M
+ascends_spec = tie.close (tie.spec returns-then-x-self returns-then-x-self-2 returns-then-self-eq1 returns)

@@ -4,13 +4,13 @@ use Rattle.replay_lines.specs.Runs.{repeats}
 use Rattle.replay_lines.proofs.runs.Run.repeats.Statement.{statement}
 use Rattle.replay_lines.proofs.runs.Run.repeats.Tie as tie
 
+returns-then-self-ne0 : tie.Need-returns-then-self-ne0
+unfolding repeats
+returns-then-self-ne0 c = rw (ne_eqb _ _ c.if-self-ne0.true)
+
 returns : tie.Need-returns
 unfolding repeats
-returns c = rw (ne_eqb _ _ c.if1.true)
+returns c = rw (eq-eqb _ _ c.if-self-ne0.false)
 
-returns-2 : tie.Need-returns-2
-unfolding repeats
-returns-2 c = rw (eq-eqb _ _ c.before.if1.false)
-
-pub repeats-spec : {M : Type 1} → statement M
-repeats-spec = tie.close (tie.spec returns returns-2)
+pub repeats_spec : {M : Type 1} → statement M
+repeats_spec = tie.close (tie.spec returns-then-self-ne0 returns)

@@ -7,15 +7,15 @@ use Rattle.replay_lines.proofs.Running.{last_rest, second_last}
 use Rattle.replay_lines.proofs.runs.Run.rest.Statement.{statement}
 use Rattle.replay_lines.proofs.runs.Run.rest.Tie as tie
 
-add-t2 : tie.Need-overflow-add-t2
-add-t2 c = omega (arith, second_last c.before.args.self 4294967295 c.before.requires.0 c.before.requires.1)
+overflow_add-result : tie.Need-overflow_add-result
+overflow_add-result c = omega (arith, second_last c.args.self 4294967295 c.requires.0 c.requires.1)
 
-sub-t3 : tie.Need-overflow-sub-t3
-sub-t3 c = search rules
+overflow_sub-result : tie.Need-overflow_sub-result
+overflow_sub-result c = search rules
 
 returns : tie.Need-returns
 unfolding last_cell
-returns c = (refl, last_rest _ _ _ c.before.before.requires.0)
+returns c = (refl, last_rest _ _ _ c.requires.0)
 
-pub rest-spec : {M : Type 1} → statement M
-rest-spec = tie.close (tie.spec add-t2 sub-t3 returns)
+pub rest_spec : {M : Type 1} → statement M
+rest_spec = tie.close (tie.spec overflow_add-result overflow_sub-result returns)

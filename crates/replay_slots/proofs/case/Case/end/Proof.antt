@@ -6,19 +6,19 @@ use lib.ListN.{length, get_or-eq_default}
 use Rattle.replay_slots.proofs.case.Case.end.Statement.{statement}
 use Rattle.replay_slots.proofs.case.Case.end.Tie as tie
 
-mul-result : tie.Need-overflow-mul-result
-mul-result c = search rules
+offset_bounds-ends-k : tie.Need-offset_bounds-ends-k
+offset_bounds-ends-k c = search rules
 
-array-read-result : tie.Need-array-read-result
-array-read-result c = search rules
+bounds-ends-k : tie.Need-bounds-ends-k
+bounds-ends-k c = search rules
+
+returns-then-k-lt32 : tie.Need-returns-then-k-lt32
+returns-then-k-lt32 c = search rules
 
 returns : tie.Need-returns
-returns c = search rules
+returns c =
+    let e : length c.args.self.ends ≡ 32 = search rules in
+    sym (get_or-eq_default c.args.self.ends 0 (omega arith))
 
-returns-2 : tie.Need-returns-2
-returns-2 c =
-    let e : length c.before.before.args.self.ends ≡ 32 = search rules in
-    sym (get_or-eq_default c.before.before.args.self.ends 0 (omega arith))
-
-pub end-spec : {M : Type 1} → statement M
-end-spec = tie.close (tie.spec mul-result array-read-result returns returns-2)
+pub end_spec : {M : Type 1} → statement M
+end_spec = tie.close (tie.spec offset_bounds-ends-k bounds-ends-k returns-then-k-lt32 returns)

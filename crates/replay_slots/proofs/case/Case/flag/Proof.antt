@@ -9,5 +9,5 @@ number-requires c κs = search rules
 returns : tie.Need-returns
 returns c = rw c.number.ensures
 
-pub flag-spec : {M : Type 1} → statement M
-flag-spec = tie.close (tie.spec number-requires returns)
+pub flag_spec : {M : Type 1} → statement M
+flag_spec = tie.close (tie.spec number-requires returns)

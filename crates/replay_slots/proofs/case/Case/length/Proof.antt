@@ -7,31 +7,31 @@ use lib.ListN.{length, get_or, get_or-eq_default}
 use Rattle.replay_slots.proofs.case.Case.length.Statement.{statement}
 use Rattle.replay_slots.proofs.case.Case.length.Tie as tie
 
-add_start : tie.Need-overflow-add-start
-add_start c = search rules
+overflow_add-k : tie.Need-overflow_add-k
+overflow_add-k c = search rules
 
-start-requires : tie.Need-start-requires
-start-requires c κs = search rules
+start-start-requires : tie.Need-start-start-requires
+start-start-requires c κs = search rules
 
-add-end : tie.Need-overflow-add-end
-add-end c = search rules
+overflow_add-k-then-k-lt16 : tie.Need-overflow_add-k-then-k-lt16
+overflow_add-k-then-k-lt16 c = search rules
 
-end-requires : tie.Need-end-requires
-end-requires c κs = search rules
+end-end-requires : tie.Need-end-end-requires
+end-end-requires c κs = search rules
 
-returns : tie.Need-returns
-returns c = search rules
+returns-then-start-end : tie.Need-returns-then-start-end
+returns-then-start-end c = search rules
 
-returns-2 : tie.Need-returns-2
-returns-2 c = search rules
+returns-else-start-end : tie.Need-returns-else-start-end
+returns-else-start-end c = search rules
 
-returns-3 : tie.Need-returns-3
-returns-3 c =
-    let e : length c.before.args.self.ends ≡ 32 = search rules in
-    let z : get_or c.before.args.self.ends (16 + c.before.args.k) 0 ≡ 0
-    = get_or-eq_default c.before.args.self.ends 0 (omega arith) in
+returns-else-k-lt16 : tie.Need-returns-else-k-lt16
+returns-else-k-lt16 c =
+    let e : length c.args.self.ends ≡ 32 = search rules in
+    let z : get_or c.args.self.ends (16 + c.args.k) 0 ≡ 0
+    = get_or-eq_default c.args.self.ends 0 (omega arith) in
     omega arith
 
 pub length_spec : {M : Type 1} → statement M
 length_spec =
-    tie.close (tie.spec add_start start-requires add-end end-requires returns returns-2 returns-3)
+    tie.close (tie.spec overflow_add-k start-start-requires overflow_add-k-then-k-lt16 end-end-requires returns-then-start-end returns-else-start-end returns-else-k-lt16)

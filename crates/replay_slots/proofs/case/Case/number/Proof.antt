@@ -6,19 +6,19 @@ use lib.ListN.{length, get_or-eq_default}
 use Rattle.replay_slots.proofs.case.Case.number.Statement.{statement}
 use Rattle.replay_slots.proofs.case.Case.number.Tie as tie
 
-mul-result : tie.Need-overflow-mul-result
-mul-result c = search rules
+offset_bounds-numbers-k : tie.Need-offset_bounds-numbers-k
+offset_bounds-numbers-k c = search rules
 
-array-read-result : tie.Need-array-read-result
-array-read-result c = search rules
+bounds-numbers-k : tie.Need-bounds-numbers-k
+bounds-numbers-k c = search rules
+
+returns-then-k-lt16 : tie.Need-returns-then-k-lt16
+returns-then-k-lt16 c = search rules
 
 returns : tie.Need-returns
-returns c = search rules
+returns c =
+    let e : length c.args.self.numbers ≡ 16 = search rules in
+    sym (get_or-eq_default c.args.self.numbers 0 (omega arith))
 
-returns-2 : tie.Need-returns-2
-returns-2 c =
-    let e : length c.before.before.args.self.numbers ≡ 16 = search rules in
-    sym (get_or-eq_default c.before.before.args.self.numbers 0 (omega arith))
-
-pub number-spec : {M : Type 1} → statement M
-number-spec = tie.close (tie.spec mul-result array-read-result returns returns-2)
+pub number_spec : {M : Type 1} → statement M
+number_spec = tie.close (tie.spec offset_bounds-numbers-k bounds-numbers-k returns-then-k-lt16 returns)

@@ -7,19 +7,19 @@ use lib.Seq.{set_out}
 use Rattle.replay_slots.proofs.case.Case.numbered.Statement.{statement}
 use Rattle.replay_slots.proofs.case.Case.numbered.Tie as tie
 
-mul-case : tie.Need-overflow-mul-case
-mul-case c = search rules
+offset_bounds-case-k : tie.Need-offset_bounds-case-k
+offset_bounds-case-k c = search rules
 
-element-write-case : tie.Need-element-write-case
-element-write-case c = search rules
+bounds-case-k : tie.Need-bounds-case-k
+bounds-case-k c = search rules
 
-returns : tie.Need-returns
-returns c = search rules
+returns-then-k-lt16 : tie.Need-returns-then-k-lt16
+returns-then-k-lt16 c = search rules
 
-returns-2 : tie.Need-returns-2
-returns-2 c =
-    let e : length c.before.args.self.numbers ≡ 16 = search rules in
-    rw (set_out c.before.args.self.numbers c.before.args.k c.before.args.value (omega arith))
+returns-else-k-lt16 : tie.Need-returns-else-k-lt16
+returns-else-k-lt16 c =
+    let e : length c.args.self.numbers ≡ 16 = search rules in
+    rw (set_out c.args.self.numbers c.args.k c.args.value (omega arith))
 
-pub numbered-spec : {M : Type 1} → statement M
-numbered-spec = tie.close (tie.spec mul-case element-write-case returns returns-2)
+pub numbered_spec : {M : Type 1} → statement M
+numbered_spec = tie.close (tie.spec offset_bounds-case-k bounds-case-k returns-then-k-lt16 returns-else-k-lt16)

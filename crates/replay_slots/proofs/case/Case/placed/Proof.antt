@@ -7,29 +7,29 @@ use lib.Seq.{set_out}
 use Rattle.replay_slots.proofs.case.Case.placed.Statement.{statement}
 use Rattle.replay_slots.proofs.case.Case.placed.Tie as tie
 
-mul-case : tie.Need-overflow-mul-case
-mul-case c = search rules
+offset_bounds-case-k : tie.Need-offset_bounds-case-k
+offset_bounds-case-k c = search rules
 
-element-write-case : tie.Need-element-write-case
-element-write-case c = search rules
+bounds-case-k : tie.Need-bounds-case-k
+bounds-case-k c = search rules
 
-mul-case-2 : tie.Need-overflow-mul-case-2
-mul-case-2 c = search rules
+offset_bounds-case-k-then-k-lt32 : tie.Need-offset_bounds-case-k-then-k-lt32
+offset_bounds-case-k-then-k-lt32 c = search rules
 
-element-write-case-2 : tie.Need-element-write-case-2
-element-write-case-2 c = search rules
+bounds-case-k-then-k-lt32 : tie.Need-bounds-case-k-then-k-lt32
+bounds-case-k-then-k-lt32 c = search rules
 
-returns : tie.Need-returns
-returns c = search rules
+returns-then-k-lt32 : tie.Need-returns-then-k-lt32
+returns-then-k-lt32 c = search rules
 
-returns-2 : tie.Need-returns-2
-returns-2 c =
-    let a = c.before.args in
+returns-else-k-lt32 : tie.Need-returns-else-k-lt32
+returns-else-k-lt32 c =
+    let a = c.args in
     let e : length a.self.starts ≡ 32 = search rules in
     let f : length a.self.ends ≡ 32 = search rules in
     rw (set_out a.self.starts a.k a.start (omega arith), set_out a.self.ends a.k a.end (omega arith))
 
-pub placed-spec : {M : Type 1} → statement M
-placed-spec =
+pub placed_spec : {M : Type 1} → statement M
+placed_spec =
     tie.close
-    (tie.spec mul-case element-write-case mul-case-2 element-write-case-2 returns returns-2)
+    (tie.spec offset_bounds-case-k bounds-case-k offset_bounds-case-k-then-k-lt32 bounds-case-k-then-k-lt32 returns-then-k-lt32 returns-else-k-lt32)

@@ -6,19 +6,19 @@ use lib.ListN.{length, get_or-eq_default}
 use Rattle.replay_slots.proofs.case.Case.start.Statement.{statement}
 use Rattle.replay_slots.proofs.case.Case.start.Tie as tie
 
-mul-result : tie.Need-overflow-mul-result
-mul-result c = search rules
+offset_bounds-starts-k : tie.Need-offset_bounds-starts-k
+offset_bounds-starts-k c = search rules
 
-array-read-result : tie.Need-array-read-result
-array-read-result c = search rules
+bounds-starts-k : tie.Need-bounds-starts-k
+bounds-starts-k c = search rules
+
+returns-then-k-lt32 : tie.Need-returns-then-k-lt32
+returns-then-k-lt32 c = search rules
 
 returns : tie.Need-returns
-returns c = search rules
-
-returns-2 : tie.Need-returns-2
-returns-2 c =
-    let e : length c.before.before.args.self.starts ≡ 32 = search rules in
-    sym (get_or-eq_default c.before.before.args.self.starts 0 (omega arith))
+returns c =
+    let e : length c.args.self.starts ≡ 32 = search rules in
+    sym (get_or-eq_default c.args.self.starts 0 (omega arith))
 
 pub start_spec : {M : Type 1} → statement M
-start_spec = tie.close (tie.spec mul-result array-read-result returns returns-2)
+start_spec = tie.close (tie.spec offset_bounds-starts-k bounds-starts-k returns-then-k-lt32 returns)

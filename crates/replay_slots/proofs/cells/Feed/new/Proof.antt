@@ -7,11 +7,11 @@ use Rattle.replay_lines.proofs.Running.{last_equal}
 use Rattle.replay_slots.proofs.cells.Feed.new.Statement.{statement}
 use Rattle.replay_slots.proofs.cells.Feed.new.Tie as tie
 
-none-requires : tie.Need-none-requires
-none-requires c κs = search rules
+none-run-requires : tie.Need-none-run-requires
+none-run-requires c κs = search rules
 
 returns : tie.Need-returns
-returns c = last_equal _ _ (ap (λ (r : Run). r.step) c.none.ensures) (omega (arith, ap (λ (r : Run). r.first) c.none.ensures))
+returns c = last_equal _ _ (ap (λ (r : Run). r.step) c.none-run.ensures) (omega (arith, ap (λ (r : Run). r.first) c.none-run.ensures))
 
 pub new_spec : {M : Type 1} → statement M
-new_spec = tie.close (tie.spec none-requires returns)
+new_spec = tie.close (tie.spec none-run-requires returns)

@@ -1,0 +1,9 @@
+-- One text behind the other.
+use Rattle.spelling.proofs.Putting.{put_then}
+use Rattle.reduce.specs.Line.{source_text}
+use Rattle.reduce.proofs.line.source.Goals as goal
+
+pub returns-clause-put : goal.returns-clause-put
+unfolding source_text
+returns-clause-put c =
+    put_then (put_then (put_then c.put-a.ensures c.put_count-b.ensures.put) c.put_count-c.ensures.put) c.put_count.ensures.put
