@@ -4,39 +4,39 @@ use borrow.Author.Rules.{rules}
 use Rattle.file_reduction.proofs.find_blocks.Statement.{statement}
 use Rattle.file_reduction.proofs.find_blocks.Tie as tie
 
-slice-aggregate-strong-blocks : tie.Need-slice-aggregate-strong-blocks
-slice-aggregate-strong-blocks c = search rules
+slice_bounds-strong_blocks-end : tie.Need-slice_bounds-strong_blocks-end
+slice_bounds-strong_blocks-end c = search rules
 
-slice-aggregate-strong-blocks-2 : tie.Need-slice-aggregate-strong-blocks-2
-slice-aggregate-strong-blocks-2 c = search rules
+slice_bounds-strong_blocks-end-2 : tie.Need-slice_bounds-strong_blocks-end-2
+slice_bounds-strong_blocks-end-2 c = search rules
 
-slice-aggregate-strong-blocks-3 : tie.Need-slice-aggregate-strong-blocks-3
-slice-aggregate-strong-blocks-3 c = search rules
+slice_bounds-strong_blocks-end-3 : tie.Need-slice_bounds-strong_blocks-end-3
+slice_bounds-strong_blocks-end-3 c = search rules
 
-slice-aggregate-strong-blocks-4 : tie.Need-slice-aggregate-strong-blocks-4
-slice-aggregate-strong-blocks-4 c = search rules
+slice_bounds-strong_blocks-end-4 : tie.Need-slice_bounds-strong_blocks-end-4
+slice_bounds-strong_blocks-end-4 c = search rules
 
-slice-aggregate-strong-blocks-5 : tie.Need-slice-aggregate-strong-blocks-5
-slice-aggregate-strong-blocks-5 c = search rules
+slice_bounds-strong_blocks-end-5 : tie.Need-slice_bounds-strong_blocks-end-5
+slice_bounds-strong_blocks-end-5 c = search rules
 
-slice-aggregate-strong-blocks-6 : tie.Need-slice-aggregate-strong-blocks-6
-slice-aggregate-strong-blocks-6 c = search rules
+slice_bounds-strong_blocks-end-6 : tie.Need-slice_bounds-strong_blocks-end-6
+slice_bounds-strong_blocks-end-6 c = search rules
 
-slice-aggregate-strong-blocks-7 : tie.Need-slice-aggregate-strong-blocks-7
-slice-aggregate-strong-blocks-7 c = search rules
+slice_bounds-strong_blocks-end-7 : tie.Need-slice_bounds-strong_blocks-end-7
+slice_bounds-strong_blocks-end-7 c = search rules
 
-slice-aggregate-strong-blocks-8 : tie.Need-slice-aggregate-strong-blocks-8
-slice-aggregate-strong-blocks-8 c = search rules
+slice_bounds-strong_blocks-end-8 : tie.Need-slice_bounds-strong_blocks-end-8
+slice_bounds-strong_blocks-end-8 c = search rules
 
-slice-aggregate-strong-blocks-9 : tie.Need-slice-aggregate-strong-blocks-9
-slice-aggregate-strong-blocks-9 c = search rules
+slice_bounds-strong_blocks-end-9 : tie.Need-slice_bounds-strong_blocks-end-9
+slice_bounds-strong_blocks-end-9 c = search rules
 
-slice-aggregate-strong-blocks-10 : tie.Need-slice-aggregate-strong-blocks-10
-slice-aggregate-strong-blocks-10 c = search rules
+slice_bounds-strong_blocks-end-10 : tie.Need-slice_bounds-strong_blocks-end-10
+slice_bounds-strong_blocks-end-10 c = search rules
 
-strong-blocks-requires : tie.Need-strong-blocks-requires
-strong-blocks-requires c κs =
-    let p = c.before.before.before.before.before.before.before.before.before.before.before.before.before.before.before.requires in
+strong_blocks-requires : tie.Need-strong_blocks-requires
+strong_blocks-requires c κs =
+    let p = c.requires in
     let n = p.0.few_states in
     let m = p.0.few_rows in (
       p,
@@ -49,26 +49,26 @@ strong-blocks-requires c κs =
       ),
     )
 
-same_length : tie.Need-same-length
-same_length c = search rules
+shape_of-block : tie.Need-shape_of-block
+shape_of-block c = search rules
 
 returns : tie.Need-returns
 returns c = search rules
 
-pub find-blocks-spec : {M : Type 1} → statement M
-find-blocks-spec =
+pub find_blocks_spec : {M : Type 1} → statement M
+find_blocks_spec =
     tie.close
     (tie.spec
-    slice-aggregate-strong-blocks
-    slice-aggregate-strong-blocks-2
-    slice-aggregate-strong-blocks-3
-    slice-aggregate-strong-blocks-4
-    slice-aggregate-strong-blocks-5
-    slice-aggregate-strong-blocks-6
-    slice-aggregate-strong-blocks-7
-    slice-aggregate-strong-blocks-8
-    slice-aggregate-strong-blocks-9
-    slice-aggregate-strong-blocks-10
-    strong-blocks-requires
-    same_length
+    slice_bounds-strong_blocks-end
+    slice_bounds-strong_blocks-end-2
+    slice_bounds-strong_blocks-end-3
+    slice_bounds-strong_blocks-end-4
+    slice_bounds-strong_blocks-end-5
+    slice_bounds-strong_blocks-end-6
+    slice_bounds-strong_blocks-end-7
+    slice_bounds-strong_blocks-end-8
+    slice_bounds-strong_blocks-end-9
+    slice_bounds-strong_blocks-end-10
+    strong_blocks-requires
+    shape_of-block
     returns)

@@ -29,86 +29,86 @@ abbrev told : tie.Start → List ℕ
 told a =
     a.args.table.n ∷ a.args.table.labels ∷ a.args.table.m ∷ a.args.reduced.n ∷ a.args.reduced.m ∷ a.args.rounds ∷ []
 
-cast-output-size : tie.Need-overflow-cast-output-size
-cast-output-size c = search rules
+overflow_cast-reduced : tie.Need-overflow_cast-reduced
+overflow_cast-reduced c = search rules
 
-output-size-requires : tie.Need-output-size-requires
-output-size-requires c κs = search rules
+output_size-needed-requires : tie.Need-output_size-needed-requires
+output_size-needed-requires c κs = search rules
 
 refuse-requires : tie.Need-refuse-requires
 refuse-requires c κs = search rules
 
-refusing-file-requires : tie.Need-refusing-file-requires
-refusing-file-requires c κs = search rules
+refusing_file-requires : tie.Need-refusing_file-requires
+refusing_file-requires c κs = search rules
+
+returns-then-output-needed : tie.Need-returns-then-output-needed
+unfolding put_file
+returns-then-output-needed c =
+    let a = c.before.before.before.before.before.before.before.before.before.before in
+    let bytes = a.args.output.now in
+    let e = c.refuse.ensures ∙ ap (refusal no_room) c.output_size-needed.ensures in
+    left_refused (due (room_test (needed a) (length bytes) ∷ [])) _
+    (e ∙ no_room_lem (needed a) (length bytes) (omega (arith, c.if-output-needed.true, c.output_size-needed.ensures)))
+    bytes
+    (over (output_bytes (L a) a.args.blocks.now) bytes) (needed a ∷ told a) _
+    (λ z. omega (arith, ap (λ (r : Refusal). r.number) e, z)) c.refusing_file.ensures
+
+write-requires : tie.Need-write-requires
+write-requires c κs = (
+  c.requires,
+  omega (
+    arith,
+    c.if-output-needed.false,
+    c.output_size-needed.ensures,
+  ),
+)
+
+overflow_cast-result : tie.Need-overflow_cast-result
+overflow_cast-result c = search rules
+
+overflow_cast-result-2 : tie.Need-overflow_cast-result-2
+overflow_cast-result-2 c = search rules
+
+overflow_cast-result-3 : tie.Need-overflow_cast-result-3
+overflow_cast-result-3 c = search rules
+
+overflow_cast-result-4 : tie.Need-overflow_cast-result-4
+overflow_cast-result-4 c = search rules
+
+overflow_cast-result-5 : tie.Need-overflow_cast-result-5
+overflow_cast-result-5 c = search rules
+
+shape_of-output : tie.Need-shape_of-output
+shape_of-output c = c.write.auto.bytes
 
 returns : tie.Need-returns
 unfolding put_file
 returns c =
-    let a = c.before.before.before.before.before.before.before.before.before.before in
-    let bytes = a.args.output.now in
-    let e = c.before.refuse.ensures ∙ ap (refusal no_room) c.before.before.before.output_size_lem.ensures in
-    left_refused (due (room_test (needed a) (length bytes) ∷ [])) _
-    (e ∙ no_room_lem (needed a) (length bytes) (omega (arith, c.before.before.if1.true, c.before.before.before.output_size_lem.ensures)))
-    bytes
-    (over (output_bytes (L a) a.args.blocks.now) bytes) (needed a ∷ told a) _
-    (λ z. omega (arith, ap (λ (r : Refusal). r.number) e, z)) c.refusing-file.ensures
-
-write-requires : tie.Need-write-requires
-write-requires c κs = (
-  c.before.before.before.before.before.before.before.before.before.requires,
-  omega (
-    arith,
-    c.before.if1.false,
-    c.before.before.output_size_lem.ensures,
-  ),
-)
-
-cast-t19 : tie.Need-overflow-cast-t19
-cast-t19 c = search rules
-
-cast-t20 : tie.Need-overflow-cast-t20
-cast-t20 c = search rules
-
-cast-t21 : tie.Need-overflow-cast-t21
-cast-t21 c = search rules
-
-cast-t22 : tie.Need-overflow-cast-t22
-cast-t22 c = search rules
-
-cast-t23 : tie.Need-overflow-cast-t23
-cast-t23 c = search rules
-
-same_length : tie.Need-same-length
-same_length c = c.before.before.before.before.before.before.before.write.auto.1.1.1.1.1.0
-
-returns-2 : tie.Need-returns-2
-unfolding put_file
-returns-2 c =
     let a = c.before.before.before.before.before.before.before.before.before.before.before.before.before.before.before.before.before in
     let bytes = a.args.output.now in
     left_done (due (room_test (needed a) (length bytes) ∷ [])) none
     (room_left (needed a) (length bytes) (omega (
       arith,
-      c.before.before.before.before.before.before.before.before.before.if1.false,
-      c.before.before.before.before.before.before.before.before.before.before.output_size_lem.ensures,
+      c.if-output-needed.false,
+      c.output_size-needed.ensures,
     ))) bytes
     (over (output_bytes (L a) a.args.blocks.now) bytes) (needed a ∷ told a) _ _ refl
-    (ap (λ (n : ℕ). done (n ∷ told a)) c.before.before.before.before.before.before.before.before.before.before.output_size_lem.ensures) c.before.before.before.before.before.before.before.write.ensures
+    (ap (λ (n : ℕ). done (n ∷ told a)) c.output_size-needed.ensures) c.write.ensures
 
-pub put-file-spec : {M : Type 1} → statement M
-put-file-spec =
+pub put_file_spec : {M : Type 1} → statement M
+put_file_spec =
     tie.close
     (tie.spec
-    cast-output-size
-    output-size-requires
+    overflow_cast-reduced
+    output_size-needed-requires
     refuse-requires
-    refusing-file-requires
-    returns
+    refusing_file-requires
+    returns-then-output-needed
     write-requires
-    cast-t19
-    cast-t20
-    cast-t21
-    cast-t22
-    cast-t23
-    same_length
-    returns-2)
+    overflow_cast-result
+    overflow_cast-result-2
+    overflow_cast-result-3
+    overflow_cast-result-4
+    overflow_cast-result-5
+    shape_of-output
+    returns)

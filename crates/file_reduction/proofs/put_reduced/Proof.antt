@@ -15,81 +15,81 @@ abbrev L : tie.Start → Lts
 L a = lts a.args.table a.args.source.now a.args.label.now a.args.target.now
 
 -- where the function starts, from where the rows are made
-abbrev start : tie.After-rows-between → tie.Start
+abbrev start : tie.After-rows_between-rows → tie.Start
 start c = c.before.before.before.before.before.before.before.before.before
 
-slice-aggregate-rows-between : tie.Need-slice-aggregate-rows-between
-slice-aggregate-rows-between c = search rules
+slice_bounds-rows_between-end : tie.Need-slice_bounds-rows_between-end
+slice_bounds-rows_between-end c = search rules
 
-slice-aggregate-rows-between-2 : tie.Need-slice-aggregate-rows-between-2
-slice-aggregate-rows-between-2 c = search rules
+slice_bounds-rows_between-end-2 : tie.Need-slice_bounds-rows_between-end-2
+slice_bounds-rows_between-end-2 c = search rules
 
-slice-aggregate-rows-between-3 : tie.Need-slice-aggregate-rows-between-3
-slice-aggregate-rows-between-3 c = search rules
+slice_bounds-rows_between-end-3 : tie.Need-slice_bounds-rows_between-end-3
+slice_bounds-rows_between-end-3 c = search rules
 
-rows-between-requires : tie.Need-rows-between-requires
-rows-between-requires c κs =
-    let p = c.before.before.before.before.before.before.before.before.requires in
+rows_between-rows-requires : tie.Need-rows_between-rows-requires
+rows_between-rows-requires c κs =
+    let p = c.requires in
     let m = p.0.few_rows in
     ((p.0, p.1), (omega (arith, m), (omega (arith, m), (omega (arith, m), tt))))
 
-cast-t19 : tie.Need-overflow-cast-t19
-cast-t19 c =
+overflow_cast-reduced : tie.Need-overflow_cast-reduced
+overflow_cast-reduced c =
     let a = start c.before.before.before.before in
-    omega (arith, a.pre.3, few_blocks (L a) a.pre.0)
+    omega (arith, a.requires.3, few_blocks (L a) a.requires.0)
 
-cast-t20 : tie.Need-overflow-cast-t20
-cast-t20 c =
+overflow_cast-reduced-2 : tie.Need-overflow_cast-reduced-2
+overflow_cast-reduced-2 c =
     let made = c.before.before.before.before in
-    omega (arith, made.rows-between.ensures.0, few_rows (L (start made)) (start made).requires.0)
+    omega (arith, made.rows_between-rows.ensures.0, few_rows (L (start made)) (start made).requires.0)
 
-cast-at : tie.Need-overflow-cast-at
-cast-at c = search rules
+overflow_cast-table : tie.Need-overflow_cast-table
+overflow_cast-table c = search rules
 
 at-requires : tie.Need-at-requires
 at-requires c κs =
     let a = start c.before.before.before.before.before in
-    omega (arith, ap length a.pre.1, length-blocks (L a), a.pre.0.initial)
+    omega (arith, ap length a.requires.1, length-blocks (L a), a.requires.0.initial)
 
-cast-t23 : tie.Need-overflow-cast-t23
-cast-t23 c = search rules
+overflow_cast-reduced-3 : tie.Need-overflow_cast-reduced-3
+overflow_cast-reduced-3 c = search rules
 
-slice-aggregate-put-file : tie.Need-slice-aggregate-put-file
-slice-aggregate-put-file c = search rules
+slice_bounds-put_file-end : tie.Need-slice_bounds-put_file-end
+slice_bounds-put_file-end c = search rules
 
-slice-aggregate-put-file-2 : tie.Need-slice-aggregate-put-file-2
-slice-aggregate-put-file-2 c = search rules
+slice_bounds-put_file-end-2 : tie.Need-slice_bounds-put_file-end-2
+slice_bounds-put_file-end-2 c = search rules
 
-slice-aggregate-put-file-3 : tie.Need-slice-aggregate-put-file-3
-slice-aggregate-put-file-3 c = search rules
+slice_bounds-put_file-end-3 : tie.Need-slice_bounds-put_file-end-3
+slice_bounds-put_file-end-3 c = search rules
 
-put-file-requires : tie.Need-put-file-requires
-put-file-requires c κs =
+put_file-requires : tie.Need-put_file-requires
+put_file-requires c κs =
     let made = c.before.before.before.before.before.before.before.before.before.before in
     let a = start made in
-    let few = few_rows (L a) a.pre.0 in
-    let rows = made.rows-between.ensures.0 in (
+    let few = few_rows (L a) a.requires.0 in
+    let rows = made.rows_between-rows.ensures.0 in (
       record { source = omega (arith, rows, few); label = omega (arith, rows, few); target = omega (arith, rows, few) },
-      omega (arith, ap length a.pre.1, length-blocks (L a), a.pre.0.few_states),
+      omega (arith, ap length a.requires.1, length-blocks (L a), a.requires.0.few_states),
     )
 
-same_length : tie.Need-same-length
-same_length c = search rules
+shape_of-output : tie.Need-shape_of-output
+shape_of-output c = search rules
 
 returns : tie.Need-returns
 unfolding rows_over
 returns c =
     let made = c.before.before.before.before.before.before.before.before.before.before.before.before.before in
     let a = start made in
-    let r = made.rows-between.ensures in
+    let r = made.rows_between-rows.ensures in
     let first =
-    c.before.before.before.before.before.before.before.at.ensures.0
-    ∙ ap (λ (l : List ℕ). get_or l a.args.table.initial 0) a.pre.1 in
-    c.before.before.put-file.ensures
+    c.at.ensures.0
+    ∙ ap (λ (l : List ℕ). get_or l a.args.table.initial 0) a.requires.1 in
+    c.put_file.ensures
     ∙ put_reduced a.args.table a.args.source.now a.args.label.now a.args.target.now _ _ _ _ a.args.output.now
-    a.pre.2
+    a.requires.2
     (λ i. record {
-      n = a.pre.3 i;
+      n = a.requires.3 i;
       labels = a.args.table.labels;
       m = r.0 i;
       initial = first i;
@@ -97,24 +97,24 @@ returns c =
       label = (r.1 i).1.0;
       target = (r.1 i).1.1;
     })
-    a.pre.1
+    a.requires.1
 
-pub put-reduced-spec : {M : Type 1} → statement M
-put-reduced-spec =
+pub put_reduced_spec : {M : Type 1} → statement M
+put_reduced_spec =
     tie.close
     (tie.spec
-    slice-aggregate-rows-between
-    slice-aggregate-rows-between-2
-    slice-aggregate-rows-between-3
-    rows-between-requires
-    cast-t19
-    cast-t20
-    cast-at
+    slice_bounds-rows_between-end
+    slice_bounds-rows_between-end-2
+    slice_bounds-rows_between-end-3
+    rows_between-rows-requires
+    overflow_cast-reduced
+    overflow_cast-reduced-2
+    overflow_cast-table
     at-requires
-    cast-t23
-    slice-aggregate-put-file
-    slice-aggregate-put-file-2
-    slice-aggregate-put-file-3
-    put-file-requires
-    same_length
+    overflow_cast-reduced-3
+    slice_bounds-put_file-end
+    slice_bounds-put_file-end-2
+    slice_bounds-put_file-end-3
+    put_file-requires
+    shape_of-output
     returns)

@@ -14,110 +14,110 @@ use Rattle.file_reduction.proofs.reduce_checked.Statement.{statement}
 use Rattle.file_reduction.proofs.reduce_checked.Tie as tie
 
 -- no more rows than the columns have cells
-few : (c : tie.After-header) → c.header.result.m ≤ max_rows
+few : (c : tie.After-header-table) → c.header-table.result.m ≤ max_rows
 unfolding table_in
 few c =
-    omega (arith, ap (λ (t : Table). t.m) c.header.ensures, c.before.before.before.requires.0.few_rows)
+    omega (arith, ap (λ (t : Table). t.m) c.header-table.ensures, c.requires.0.few_rows)
 
 -- the rows that are read are those of the file
 same :
-    (c : tie.After-read-rows)
-    → lts c.before.before.before.before.before.header.result
-    (take c.before.before.before.before.before.header.result.m c.read-rows.new.1.1.0)
-    (take c.before.before.before.before.before.header.result.m c.read-rows.new.1.1.1.0)
-    (take c.before.before.before.before.before.header.result.m c.read-rows.new.1.1.1.1.0)
-    ≡ table_in c.before.before.before.before.before.before.before.before.args.input.now
+    (c : tie.After-read_rows)
+    → lts c.header-table.result
+    (take c.header-table.result.m c.read_rows.new.source)
+    (take c.header-table.result.m c.read_rows.new.label)
+    (take c.header-table.result.m c.read_rows.new.target)
+    ≡ table_in c.args.input.now
 unfolding table_in
 same c =
-    let s = c.before.before.before.before.before.before.before.before.args.input.now in
-    rows_front _ s _ _ _ _ c.read-rows.ensures
-    ∙ ap (λ (t : Table). with_rows t s) c.before.before.before.before.before.header.ensures
+    let s = c.args.input.now in
+    rows_front _ s _ _ _ _ c.read_rows.ensures
+    ∙ ap (λ (t : Table). with_rows t s) c.header-table.ensures
 
-header-requires : tie.Need-header-requires
-header-requires c κs = omega (arith, c.before.before.requires.1)
+header-table-requires : tie.Need-header-table-requires
+header-table-requires c κs = omega (arith, c.requires.1)
 
-cast-m : tie.Need-overflow-cast-m
-cast-m c = search rules
+overflow_cast-m : tie.Need-overflow_cast-m
+overflow_cast-m c = search rules
 
-slice-aggregate-read-rows : tie.Need-slice-aggregate-read-rows
-slice-aggregate-read-rows c = search rules
+slice_bounds-read_rows-end : tie.Need-slice_bounds-read_rows-end
+slice_bounds-read_rows-end c = search rules
 
-slice-aggregate-read-rows-2 : tie.Need-slice-aggregate-read-rows-2
-slice-aggregate-read-rows-2 c = search rules
+slice_bounds-read_rows-end-2 : tie.Need-slice_bounds-read_rows-end-2
+slice_bounds-read_rows-end-2 c = search rules
 
-slice-aggregate-read-rows-3 : tie.Need-slice-aggregate-read-rows-3
-slice-aggregate-read-rows-3 c = search rules
+slice_bounds-read_rows-end-3 : tie.Need-slice_bounds-read_rows-end-3
+slice_bounds-read_rows-end-3 c = search rules
 
-read-rows-requires : tie.Need-read-rows-requires
-read-rows-requires c κs =
+read_rows-requires : tie.Need-read_rows-requires
+read_rows-requires c κs =
     let h = few c.before.before.before.before in (
       omega (
         arith,
-        ap (λ (t : Table). t.m) c.before.before.before.before.header.ensures,
-        c.before.before.before.before.before.before.before.requires.1,
+        ap (λ (t : Table). t.m) c.header-table.ensures,
+        c.requires.1,
       ),
       omega (arith, h),
       omega (arith, h),
       omega (arith, h),
     )
 
-array-share-prefix-source : tie.Need-array-share-prefix-source
-array-share-prefix-source c = omega (arith, few c.before.before.before.before.before.before.before.before)
+slice_bounds-source-end : tie.Need-slice_bounds-source-end
+slice_bounds-source-end c = omega (arith, few c.before.before.before.before.before.before.before.before)
 
-slice-aggregate-reduce-table : tie.Need-slice-aggregate-reduce-table
-slice-aggregate-reduce-table c =
-    sym (length-take-le _ c.before.before.before.before.read-rows.new.1.1.0 (omega (
+slice_bounds-reduce_table-end : tie.Need-slice_bounds-reduce_table-end
+slice_bounds-reduce_table-end c =
+    sym (length-take-le _ c.read_rows.new.source (omega (
       arith,
       few c.before.before.before.before.before.before.before.before.before,
     )))
 
-array-share-prefix-label : tie.Need-array-share-prefix-label
-array-share-prefix-label c = omega (arith, few c.before.before.before.before.before.before.before.before.before)
+slice_bounds-label-end : tie.Need-slice_bounds-label-end
+slice_bounds-label-end c = omega (arith, few c.before.before.before.before.before.before.before.before.before)
 
-slice-aggregate-reduce-table-2 : tie.Need-slice-aggregate-reduce-table-2
-slice-aggregate-reduce-table-2 c =
-    sym (length-take-le _ c.before.before.before.before.before.read-rows.new.1.1.1.0 (omega (
+slice_bounds-reduce_table-end-2 : tie.Need-slice_bounds-reduce_table-end-2
+slice_bounds-reduce_table-end-2 c =
+    sym (length-take-le _ c.read_rows.new.label (omega (
       arith,
       few c.before.before.before.before.before.before.before.before.before.before,
     )))
 
-array-share-prefix-target : tie.Need-array-share-prefix-target
-array-share-prefix-target c = omega (arith, few c.before.before.before.before.before.before.before.before.before.before)
+slice_bounds-target-end : tie.Need-slice_bounds-target-end
+slice_bounds-target-end c = omega (arith, few c.before.before.before.before.before.before.before.before.before.before)
 
-slice-aggregate-reduce-table-3 : tie.Need-slice-aggregate-reduce-table-3
-slice-aggregate-reduce-table-3 c =
-    sym (length-take-le _ c.before.before.before.before.before.before.read-rows.new.1.1.1.1.0 (omega (
+slice_bounds-reduce_table-end-3 : tie.Need-slice_bounds-reduce_table-end-3
+slice_bounds-reduce_table-end-3 c =
+    sym (length-take-le _ c.read_rows.new.target (omega (
       arith,
       few c.before.before.before.before.before.before.before.before.before.before.before,
     )))
 
-reduce-table-requires : tie.Need-reduce-table-requires
-reduce-table-requires c κs = subst⁻¹ Valid (same c.before.before.before.before.before.before.before) c.before.before.before.before.before.before.before.before.before.before.before.before.before.before.before.requires.0
+reduce_table-requires : tie.Need-reduce_table-requires
+reduce_table-requires c κs = subst⁻¹ Valid (same c.before.before.before.before.before.before.before) c.requires.0
 
-same_length : tie.Need-same-length
-same_length c = c.before.before.reduce-table.auto.1.1.1.1.0
+shape_of-output : tie.Need-shape_of-output
+shape_of-output c = c.reduce_table.auto.output
 
 returns : tie.Need-returns
 returns c =
-    c.before.before.reduce-table.ensures
-    ∙ ap (λ (t : Lts). reduce_table t c.before.before.before.before.before.before.before.before.before.before.before.before.before.before.before.before.before.before.args.output.now) (same c.before.before.before.before.before.before.before.before.before.before)
+    c.reduce_table.ensures
+    ∙ ap (λ (t : Lts). reduce_table t c.args.output.now) (same c.before.before.before.before.before.before.before.before.before.before)
 
-pub reduce-checked-spec : {M : Type 1} → statement M
-reduce-checked-spec =
+pub reduce_checked_spec : {M : Type 1} → statement M
+reduce_checked_spec =
     tie.close
     (tie.spec
-    header-requires
-    cast-m
-    slice-aggregate-read-rows
-    slice-aggregate-read-rows-2
-    slice-aggregate-read-rows-3
-    read-rows-requires
-    array-share-prefix-source
-    slice-aggregate-reduce-table
-    array-share-prefix-label
-    slice-aggregate-reduce-table-2
-    array-share-prefix-target
-    slice-aggregate-reduce-table-3
-    reduce-table-requires
-    same_length
+    header-table-requires
+    overflow_cast-m
+    slice_bounds-read_rows-end
+    slice_bounds-read_rows-end-2
+    slice_bounds-read_rows-end-3
+    read_rows-requires
+    slice_bounds-source-end
+    slice_bounds-reduce_table-end
+    slice_bounds-label-end
+    slice_bounds-reduce_table-end-2
+    slice_bounds-target-end
+    slice_bounds-reduce_table-end-3
+    reduce_table-requires
+    shape_of-output
     returns)

@@ -16,50 +16,46 @@ use Rattle.file_reduction.proofs.reduce_file.Statement.{statement}
 use Rattle.file_reduction.proofs.reduce_file.Tie as tie
 
 -- what the tests of the file say
-checked : (c : tie.After-file-refusal) → c.file-refusal.result ≡ due (file_tests c.before.before.before.before.args.input.now
+checked : (c : tie.After-file_refusal-t) → c.file_refusal-t.result ≡ due (file_tests c.args.input.now
     true)
-checked c = c.file-refusal.ensures ∙ always_room c.before.before.before.before.args.input.now
+checked c = c.file_refusal-t.ensures ∙ always_room c.args.input.now
 
-slice-aggregate-file-refusal : tie.Need-slice-aggregate-file-refusal
-slice-aggregate-file-refusal c = refl
+file_refusal-t-requires : tie.Need-file_refusal-t-requires
+file_refusal-t-requires c κs = search rules
 
-file-refusal-requires : tie.Need-file-refusal-requires
-file-refusal-requires c κs = search rules
+refusing_file-requires : tie.Need-refusing_file-requires
+refusing_file-requires c κs = search rules
 
-refusing-file-requires : tie.Need-refusing-file-requires
-refusing-file-requires c κs = search rules
+returns-then-number-ne0 : tie.Need-returns-then-number-ne0
+returns-then-number-ne0 c =
+    refused_file _ _ _ (checked c.before.before) c.if-number-ne0.true _ c.refusing_file.ensures
 
-returns : tie.Need-returns
-returns c =
-    refused_file _ _ _ (checked c.before.before) c.before.if1.true _ c.refusing-file.ensures
-
-reduce-checked-requires : tie.Need-reduce-checked-requires
-reduce-checked-requires c κs =
-    let a = accepted_of c.before.before.before.before.before.before.args.input.now largest _ c.before.before.file-refusal.ensures c.before.if1.false in
+reduce_checked-requires : tie.Need-reduce_checked-requires
+reduce_checked-requires c κs =
+    let a = accepted_of c.args.input.now largest _ c.file_refusal-t.ensures c.if-number-ne0.false in
     (a.valid, a.contents.size)
 
-same_length : tie.Need-same-length
-same_length c = c.before.before.reduce-checked.auto.1.0
+shape_of-output : tie.Need-shape_of-output
+shape_of-output c = c.reduce_checked.auto.output
 
-returns-2 : tie.Need-returns-2
+returns : tie.Need-returns
 unfolding reduce_file reduce_table
-returns-2 c =
-    let s = c.before.before.before.before.before.before.before.before.before.args.input.now in
-    let output = c.before.before.before.before.before.before.before.before.before.args.output.now in
+returns c =
+    let s = c.args.input.now in
+    let output = c.args.output.now in
     let t = table_in s in
-    c.before.before.reduce-checked.ensures
+    c.reduce_checked.ensures
     ∙ ap (λ (r : Refusal). leaving r output (file_numbers t) (over (reduced_bytes t) output))
     (goes_on_lem (file_tests s true) (room_test (reduced_size t) (length output) ∷ []) refl _ (checked c.before.before.before.before.before)
-    c.before.before.before.before.if1.false)
+    c.if-number-ne0.false)
 
-pub reduce-file-spec : {M : Type 1} → statement M
-reduce-file-spec =
+pub reduce_file_spec : {M : Type 1} → statement M
+reduce_file_spec =
     tie.close
     (tie.spec
-    slice-aggregate-file-refusal
-    file-refusal-requires
-    refusing-file-requires
-    returns
-    reduce-checked-requires
-    same_length
-    returns-2)
+    file_refusal-t-requires
+    refusing_file-requires
+    returns-then-number-ne0
+    reduce_checked-requires
+    shape_of-output
+    returns)

@@ -13,56 +13,56 @@ abbrev L : tie.Start → Lts
 L a = lts a.args.table a.args.source.now a.args.label.now a.args.target.now
 
 -- where the function starts, from where the blocks are found
-abbrev start : tie.After-find-blocks → tie.Start
+abbrev start : tie.After-find_blocks-found → tie.Start
 start c = c.before.before.before.before.before.before.before
 
-cast-n : tie.Need-overflow-cast-n
-cast-n c = search rules
+overflow_cast-n : tie.Need-overflow_cast-n
+overflow_cast-n c = search rules
 
-array-borrow-prefix-block : tie.Need-array-borrow-prefix-block
-array-borrow-prefix-block c = omega (arith, c.before.before.before.before.before.requires.few_states)
+slice_bounds-block-end : tie.Need-slice_bounds-block-end
+slice_bounds-block-end c = omega (arith, c.requires.few_states)
 
-slice-aggregate-find-blocks : tie.Need-slice-aggregate-find-blocks
-slice-aggregate-find-blocks c = sym (length-take-le _ _ (omega (arith, c.before.before.before.before.before.before.requires.few_states)))
+slice_bounds-find_blocks-end : tie.Need-slice_bounds-find_blocks-end
+slice_bounds-find_blocks-end c = sym (length-take-le _ _ (omega (arith, c.requires.few_states)))
 
-find-blocks-requires : tie.Need-find-blocks-requires
-find-blocks-requires c κs =
-    let v = c.before.before.before.before.before.before.requires in
+find_blocks-found-requires : tie.Need-find_blocks-found-requires
+find_blocks-found-requires c κs =
+    let v = c.requires in
     (v, length-take-le _ _ (omega (arith, v.few_states)))
 
-array-share-prefix-block : tie.Need-array-share-prefix-block
-array-share-prefix-block c =
+slice_bounds-block-end-2 : tie.Need-slice_bounds-block-end-2
+slice_bounds-block-end-2 c =
     let found = c.before in
-    front_long (L (start found)) _ _ found.find-blocks.ensures.2
+    front_long (L (start found)) _ _ found.find_blocks-found.ensures.2
 
-slice-aggregate-put-reduced : tie.Need-slice-aggregate-put-reduced
-slice-aggregate-put-reduced c =
+slice_bounds-put_reduced-end : tie.Need-slice_bounds-put_reduced-end
+slice_bounds-put_reduced-end c =
     let found = c.before.before in
-    sym (length-take-le _ _ (front_long (L (start found)) _ _ found.find-blocks.ensures.2))
+    sym (length-take-le _ _ (front_long (L (start found)) _ _ found.find_blocks-found.ensures.2))
 
-put-reduced-requires : tie.Need-put-reduced-requires
-put-reduced-requires c κs =
+put_reduced-requires : tie.Need-put_reduced-requires
+put_reduced-requires c κs =
     let found = c.before.before.before in
     let a = start found in
-    let r = found.find-blocks.ensures in
-    (a.pre, front_blocks (L a) _ _ r.2, r.0, r.1)
+    let r = found.find_blocks-found.ensures in
+    (a.requires, front_blocks (L a) _ _ r.2, r.0, r.1)
 
-same_length : tie.Need-same-length
-same_length c = search rules
+shape_of-output : tie.Need-shape_of-output
+shape_of-output c = search rules
 
 returns : tie.Need-returns
 returns c = search rules
 
-pub reduce-table-spec : {M : Type 1} → statement M
-reduce-table-spec =
+pub reduce_table_spec : {M : Type 1} → statement M
+reduce_table_spec =
     tie.close
     (tie.spec
-    cast-n
-    array-borrow-prefix-block
-    slice-aggregate-find-blocks
-    find-blocks-requires
-    array-share-prefix-block
-    slice-aggregate-put-reduced
-    put-reduced-requires
-    same_length
+    overflow_cast-n
+    slice_bounds-block-end
+    slice_bounds-find_blocks-end
+    find_blocks-found-requires
+    slice_bounds-block-end-2
+    slice_bounds-put_reduced-end
+    put_reduced-requires
+    shape_of-output
     returns)

@@ -19,27 +19,27 @@ abbrev L : tie.Start → Lts
 L a = lts a.args.table a.args.source.now a.args.label.now a.args.target.now
 
 -- where the function starts, from where the rows are made
-abbrev start : tie.After-quotient-rows → tie.Start
+abbrev start : tie.After-quotient_rows → tie.Start
 start c =
     c.before.before.before.before.before.before.before.before.before.before.before.before.before.before.before.before
 
-slice-aggregate-quotient-rows : tie.Need-slice-aggregate-quotient-rows
-slice-aggregate-quotient-rows c = search rules
+slice_bounds-quotient_rows-end : tie.Need-slice_bounds-quotient_rows-end
+slice_bounds-quotient_rows-end c = search rules
 
-slice-aggregate-quotient-rows-2 : tie.Need-slice-aggregate-quotient-rows-2
-slice-aggregate-quotient-rows-2 c = search rules
+slice_bounds-quotient_rows-end-2 : tie.Need-slice_bounds-quotient_rows-end-2
+slice_bounds-quotient_rows-end-2 c = search rules
 
-slice-aggregate-quotient-rows-3 : tie.Need-slice-aggregate-quotient-rows-3
-slice-aggregate-quotient-rows-3 c = search rules
+slice_bounds-quotient_rows-end-3 : tie.Need-slice_bounds-quotient_rows-end-3
+slice_bounds-quotient_rows-end-3 c = search rules
 
-slice-aggregate-quotient-rows-4 : tie.Need-slice-aggregate-quotient-rows-4
-slice-aggregate-quotient-rows-4 c = search rules
+slice_bounds-quotient_rows-end-4 : tie.Need-slice_bounds-quotient_rows-end-4
+slice_bounds-quotient_rows-end-4 c = search rules
 
-slice-aggregate-quotient-rows-5 : tie.Need-slice-aggregate-quotient-rows-5
-slice-aggregate-quotient-rows-5 c = search rules
+slice_bounds-quotient_rows-end-5 : tie.Need-slice_bounds-quotient_rows-end-5
+slice_bounds-quotient_rows-end-5 c = search rules
 
-quotient-rows-requires : tie.Need-quotient-rows-requires
-quotient-rows-requires c κs =
+quotient_rows-requires : tie.Need-quotient_rows-requires
+quotient_rows-requires c κs =
     let a = c.before.before.before.before.before.before.before.before.before.before.before.before.before.before.before in
     let x = a.requires.1 in
     let m = a.requires.0.0.few_rows in (
@@ -50,39 +50,39 @@ quotient-rows-requires c κs =
       ),
     )
 
-same_length : tie.Need-same-length
-same_length c = search rules
+shape_of-result_source : tie.Need-shape_of-result_source
+shape_of-result_source c = search rules
 
-same-length-2 : tie.Need-same-length-2
-same-length-2 c = search rules
+shape_of-result_label : tie.Need-shape_of-result_label
+shape_of-result_label c = search rules
 
-same-length-3 : tie.Need-same-length-3
-same-length-3 c = search rules
+shape_of-result_target : tie.Need-shape_of-result_target
+shape_of-result_target c = search rules
 
 returns : tie.Need-returns
 returns c =
     let made = c.before.before.before.before.before.before.before.before.before.before.before in
     let a = start made in
     let g = a.args in
-    let q = made.quotient-rows.ensures.0 in
+    let q = made.quotient_rows.ensures.0 in
     let same : naive_rows false false (block_of g.block.now) (rows (L a)) ≡ strong_rows (L a)
-    = ap (λ (p : List ℕ). naive_rows false false (block_of p) (rows (L a))) a.pre.0.1 ∙ naive_plain (strong_block (L a)) (rows (L a))
+    = ap (λ (p : List ℕ). naive_rows false false (block_of p) (rows (L a))) a.requires.0.1 ∙ naive_plain (strong_block (L a)) (rows (L a))
     in (
       q.0 ∙ ap (λ (l : List Row). length l) same,
-      q.1 ∙ ap (λ (l : List Row). rows_over l (g.result-source.now, (g.result-label.now, g.result-target.now))) same,
+      q.1 ∙ ap (λ (l : List Row). rows_over l (g.result_source.now, (g.result_label.now, g.result_target.now))) same,
     )
 
-pub rows-between-spec : {M : Type 1} → statement M
-rows-between-spec =
+pub rows_between_spec : {M : Type 1} → statement M
+rows_between_spec =
     tie.close
     (tie.spec
-    slice-aggregate-quotient-rows
-    slice-aggregate-quotient-rows-2
-    slice-aggregate-quotient-rows-3
-    slice-aggregate-quotient-rows-4
-    slice-aggregate-quotient-rows-5
-    quotient-rows-requires
-    same_length
-    same-length-2
-    same-length-3
+    slice_bounds-quotient_rows-end
+    slice_bounds-quotient_rows-end-2
+    slice_bounds-quotient_rows-end-3
+    slice_bounds-quotient_rows-end-4
+    slice_bounds-quotient_rows-end-5
+    quotient_rows-requires
+    shape_of-result_source
+    shape_of-result_label
+    shape_of-result_target
     returns)
