@@ -1,6 +1,5 @@
 -- The text of cells, of which the last run is not written yet.
 use Prim.Native.Nat.{ℕ, suc, ◌+◌, ◌≤◌, ◌<◌}
-use Prim.Native.Char.{code}
 use native.Mathlib.Numerals.{add-one}
 use native.Mathlib.Omega.{arith}
 use mathlib.Core.Bool.{Bool, true, false}
@@ -69,12 +68,12 @@ unfolding run_text
 text_one r h = rw h (sym (append-nil (spelled r.first)))
 
 pub text_equal : (r : Run) → (r.count ≡ 0 → ⊥) → (r.count ≡ 1 → ⊥) → r.step ≡ 0
-    → spelled r.first ++ (code "*" ∷ digits r.count) ≡ run_text r
+    → spelled r.first ++ (42 ∷ digits r.count) ≡ run_text r
 unfolding run_text
 text_equal r g h k = rw (ne_eqb r.count 0 g, ne_eqb r.count 1 h, eq-eqb r.step 0 k)
 
 pub text_ascending : (r : Run) → (r.count ≡ 0 → ⊥) → (r.count ≡ 1 → ⊥) → (r.step ≡ 0 → ⊥)
-    → spelled r.first ++ (code "+" ∷ digits r.count) ≡ run_text r
+    → spelled r.first ++ (43 ∷ digits r.count) ≡ run_text r
 unfolding run_text
 text_ascending r g h k = rw (ne_eqb r.count 0 g, ne_eqb r.count 1 h, ne_eqb r.step 0 k)
 

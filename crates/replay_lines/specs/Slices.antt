@@ -1,7 +1,5 @@
--- The text of a slice, as bytes: cell by cell, or in runs.
+-- The text of a slice, as bytes: cell by cell, or in runs; 42 and 43 are `*` and `+`, 124 the bar before a slice.
 use Rattle.std.specs.Prelude.{ℕ, ◌+◌, ◌≤◌, Bool, true, false, cond, List, [], ◌∷◌, ◌++◌, ◌≡◌, eqb, length}
-use Prim.Native.Char.{code}
-use Rattle.spelling.specs.Texts.{text}
 use Rattle.spelling.specs.Digits.{digits}
 use Rattle.replay_lines.specs.declared.runs.Run.{Run}
 use Rattle.replay_lines.specs.declared.slices.Shown.{Shown}
@@ -14,7 +12,7 @@ unfoldable pub run_text : Run → List ℕ
 unfolding spelled
 run_text r =
     cond (eqb r.count 0) []
-    (spelled r.first ++ cond (eqb r.count 1) [] (cond (eqb r.step 0) (code "*") (code "+") ∷ digits r.count))
+    (spelled r.first ++ cond (eqb r.count 1) [] (cond (eqb r.step 0) 42 43 ∷ digits r.count))
 
 unfoldable pub runs_text : List Run → List ℕ
 unfolding run_text
@@ -41,10 +39,10 @@ pub record Showing (short : Bool) (before : Shown) (out : List ℕ) (x : ℕ) (a
 
 -- a slice at return: ` |` and its cells
 unfoldable pub column_text : Bool → List ℕ → List ℕ
-unfolding text cells_text
-column_text short cells = text " |" ++ cells_text short cells
+unfolding cells_text
+column_text short cells = 32 ∷ 124 ∷ cells_text short cells
 
 -- a part of a slice: `part`, its length and its cells
 unfoldable pub part_text : Bool → List ℕ → List ℕ
-unfolding text spelled cells_text
-part_text short cells = text "part" ++ spelled (length cells) ++ cells_text short cells
+unfolding spelled cells_text
+part_text short cells = 112 ∷ 97 ∷ 114 ∷ 116 ∷ (spelled (length cells) ++ cells_text short cells)

@@ -5,5 +5,5 @@ use Rattle.replay_lines.proofs.Putting.{puts_then}
 use Rattle.replay_lines.proofs.slices.column.Goals as goal
 
 pub returns : goal.returns
-unfolding column_text
+unfolding text column_text
 returns c = puts_then (text " |") _ _ c.word-at.ensures c.cells.ensures
