@@ -4,7 +4,7 @@ use native.Mathlib.Nat.{min-eq_left, min-eq_right}
 use native.Mathlib.Omega.{arith}
 use borrow.Author.Tests.{lt-leb, le-leb, leb-true}
 use mathlib.Core.Bool.{Bool, true, false}
-use mathlib.Core.List.{List, []}
+use mathlib.Core.List.{List}
 use mathlib.Core.Path.{◌≡◌, refl, ap, sym, ◌∙◌}
 use lib.ListN.{length, take}
 use lib.Seq.{length-take-le}
@@ -13,7 +13,7 @@ use Rattle.columns.specs.Due.{due}
 use Rattle.columns.specs.Limits.{max_rows}
 use Rattle.columns.specs.declared.answers.Refusal.{Refusal}
 use Rattle.columns.proofs.Chains.{passed_both}
-use Rattle.file.specs.Input.{header_in, file_tests, sized_tests, count_tests, file_refusal, long_refusal, held_refusal}
+use Rattle.file.specs.Input.{header_in, file_tests, sized_tests, count_tests, long_refusal, held_refusal}
 use Rattle.file.specs.Layout.{input_rows, largest_input, counted}
 use Rattle.file.proofs.Held.{held_decides}
 use Rattle.file.proofs.Inputs.{sized_end}
