@@ -2,6 +2,8 @@
 ghost use Rattle.std.specs.Prelude.{◌≡◌};
 ghost use Rattle.replay_calls.specs.Families.{family_of};
 
+use replay_slots::names::{Found, find};
+
 // The operations by name, as `replay_slots::names::find` reads them; `replay_slots::load` says what the kinds are. An operation's number is
 // its place here, from 1 on.
 pub const OPERATIONS: [u8; 1223] = *b"Block::new nn \
@@ -47,6 +49,12 @@ pub const OPERATIONS: [u8; 1223] = *b"Block::new nn \
     read_file bsss \
     write_file nnnncccnct \
     reduce_file bt ";
+
+// The operation with the name that the first cells hold, or with all of it.
+pub fn found(name: &[u8; 64], count: usize) -> Found {
+    let held = if count < 64 { count } else { 64 };
+    find(&OPERATIONS, &name[..held])
+}
 
 pub const NONE: usize = 0;
 

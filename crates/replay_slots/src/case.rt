@@ -104,7 +104,7 @@ impl Case {
         case
     }
 
-    fn start(self, k: usize) -> usize
+    pub fn start(self, k: usize) -> usize
         ensures { result ≡ start_of self k }
     {
         let starts = self.starts;
@@ -114,7 +114,7 @@ impl Case {
         0
     }
 
-    fn end(self, k: usize) -> usize
+    pub fn end(self, k: usize) -> usize
         ensures { result ≡ end_of self k }
     {
         let ends = self.ends;

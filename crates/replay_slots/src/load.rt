@@ -77,7 +77,7 @@ pub struct Reading {
 
 impl Reading {
     // Nothing but the name is read.
-    fn new(input: Input) -> Reading {
+    pub fn new(input: Input) -> Reading {
         let case = Case::new();
         Reading {
             case,
