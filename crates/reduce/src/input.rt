@@ -38,7 +38,6 @@ fn read_some(stdin: &mut Stdin, rest: &mut [u8]) -> Brought
 
 // Counts what comes behind the bytes held, until the input ends or as many are counted as matter.
 fn count_more(stdin: &mut Stdin, held: usize) -> Got
-    requires { held ≤ counted }
     ensures { (result.used ≡ held) × (held ≤ result.size) × (result.ended ≡ false → counted ≤ result.size) }
 {
     let mut spare = [0u8; 4096];
@@ -67,8 +66,8 @@ fn count_more(stdin: &mut Stdin, held: usize) -> Got
 // Reads the first bytes until the input ends or there is no more room, and counts the others. A read that fails is told, and not taken for
 // the end.
 pub fn read_input(stdin: &mut Stdin, bytes: &mut [u8]) -> Got
-    requires { length bytes.old ≡ largest_input }
-    ensures { IsPrefixLen result.used bytes.new × Enough (take result.used bytes.new) result }
+    ensures held { IsPrefixLen result.used bytes.new }
+    ensures enough { length bytes.old ≡ largest_input → Enough (take result.used bytes.new) result }
 {
     let mut used = 0;
     while used < bytes.len() {
