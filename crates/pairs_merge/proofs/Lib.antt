@@ -10,6 +10,7 @@ pub mod Advances
 pub mod Turns
 pub mod Differences
 pub mod Keeping
+pub mod KeepingOver
 pub mod Weaving
 pub mod Joins
 pub mod Examples

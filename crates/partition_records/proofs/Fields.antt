@@ -6,7 +6,7 @@ use native.Mathlib.Omega.{arith}
 use mathlib.Core.Path.{◌≡◌, refl, ap, sym, ◌∙◌}
 use mathlib.Core.List.{List, map, ◌++◌}
 use lib.ListN.{length, get_or, set, take, drop, length-map, get_or-map, length-replicate}
-use lib.Seq.{ext_get_or, length-take-le, take-suc, drop-cons, set_at, take_at, append_snoc}
+use lib.Seq.{ext_get_or, length-take-le, take-suc, drop-cons, set_at, take_at, length_front, append_snoc}
 use Rattle.columns.proofs.Maps.{map-set}
 use Rattle.columns.specs.Columns.{listed, swapped, exchanged}
 use Rattle.columns.proofs.Lists.{listed_at, length-listed, Painted, painted_done, over-all}
@@ -58,6 +58,9 @@ abbrev pub laid_records : List Block → List Block → ℕ → List Block
 laid_records xs t i = take i xs ++ drop i t
 
 module _ (xs t : List Block) (i : ℕ) where
+  pub length-laid : i ≤ length xs → i ≤ length t → length (laid_records xs t i) ≡ length t
+  length-laid h w = length_front t (take i xs) i (length-take-le i xs h ∙ sym (length-take-le i t w))
+
   pub laid_front : i ≤ length xs → take i (laid_records xs t i) ≡ take i xs
   laid_front h = take_at (take i xs) (drop i t) i (length-take-le i xs h)
 

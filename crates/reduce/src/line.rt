@@ -5,11 +5,13 @@ ghost use Rattle.file_reduction.specs.Answers.{said_file};
 ghost use Rattle.spelling.specs.Texts.{Put};
 ghost use Rattle.reduce.specs.Line.{source_text, result_text, refused_text, line_text, meaning as Line·meaning};
 
+use columns::answers::Refusal;
 use columns::limits::{
     NOT_ABOVE, WRONG_CONTENTS, WRONG_FIELD, WRONG_INITIAL, WRONG_LABELS, WRONG_ROWS, WRONG_STATES,
 };
 use file_reduction::answers::{FileAnswer, FileOutcome};
 use spelling::{put, put_count};
+use std::io::{Print, Stderr};
 
 // Room for any line.
 pub const LINE: usize = 256;
@@ -107,4 +109,39 @@ pub fn line(answer: FileAnswer, out: &mut [u8; LINE]) -> usize
             result(blocks, reduced_rows, rounds, out, at)
         }
     }
+}
+
+// Writes a line to standard error.
+pub fn say(stderr: Stderr, line: &[u8]) {
+    let _ = Print::write_all(&stderr, line);
+}
+
+// What was reduced to what.
+pub fn say_reduced(
+    stderr: Stderr,
+    states: u64,
+    rows: u64,
+    labels: u64,
+    blocks: u64,
+    reduced_rows: u64,
+    rounds: u64,
+) {
+    let mut text = [0u8; LINE];
+    let at = source(states, labels, rows, &mut text);
+    let end = result(blocks, reduced_rows, rounds, &mut text, at);
+    say(stderr, &text[..end]);
+}
+
+// Why nothing was reduced.
+pub fn say_refused(stderr: Stderr, r: Refusal) {
+    let mut text = [0u8; LINE];
+    let end = refused(r.number, r.place, &mut text);
+    say(stderr, &text[..end]);
+}
+
+// What could not be done.
+pub fn failed(stderr: Stderr, what: &[u8]) {
+    let _ = Print::write_all(&stderr, b"failed: ");
+    let _ = Print::write_all(&stderr, what);
+    let _ = Print::write_all(&stderr, b"\n");
 }

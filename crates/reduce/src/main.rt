@@ -15,17 +15,12 @@ mod input;
 mod line;
 
 use crate::input::{Got, read_input};
-use crate::line::{LINE, line};
+use crate::line::{LINE, failed, line, say};
 use file::checks::long_refusal;
 use file::layout::{LARGEST_INPUT, LARGEST_OUTPUT};
 use file_reduction::answers::{FileAnswer, FileOutcome, refusing_file};
 use file_reduction::reduce_file;
 use std::io::{Print, Stderr, Stdout};
-
-// Writes a line to standard error.
-fn say(stderr: Stderr, line: &[u8]) {
-    let _ = Print::write_all(&stderr, line);
-}
 
 // Writes the line of an answer.
 fn say_answer(stderr: Stderr, answer: FileAnswer) {
@@ -70,7 +65,7 @@ fn reduce_input(rt: &HostRuntime, held: &[u8], got: Got)
             if write_output(rt.stdout(), held, &output[..written]) {
                 say_answer(rt.stderr(), answer);
             } else {
-                say(rt.stderr(), b"failed: the output could not be written\n");
+                failed(rt.stderr(), b"the output could not be written");
             }
         }
     }
@@ -84,6 +79,6 @@ fn main(rt: HostRuntime) {
     if got.good {
         reduce_input(&rt, &bytes[..used], got);
     } else {
-        say(rt.stderr(), b"failed: the input could not be read\n");
+        failed(rt.stderr(), b"the input could not be read");
     }
 }

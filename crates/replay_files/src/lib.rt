@@ -2,10 +2,10 @@
 
 // A call for each operation on files. It holds what it changes in arrays of its own: it fills these with what the case has, lends them,
 // and writes the answer and each slice at return.
-mod answers;
-mod reading;
-mod reducing;
-mod writing;
+pub mod answers;
+pub mod reading;
+pub mod reducing;
+pub mod writing;
 
 use crate::reading::read;
 use crate::reducing::reduce;

@@ -5,7 +5,7 @@ pub use Rattle.replay_lines.proofs.Placing.{next_within, next_beyond}
 -- Bytes put into the output: one, a text after a text.
 pub use Rattle.replay_lines.proofs.Putting.{put_room, put_full, puts-append}
 -- The digits of a number are the fewest that hold it; cells in runs, spread again, are the cells.
-pub use Rattle.spelling.proofs.Theorems.{fewest_digits}
+pub use Rattle.replay_lines.proofs.Spelled.{fewest_digits}
 pub use Rattle.replay_lines.proofs.Running.{spread-runs}
 -- The text of what an answer says.
 pub use Rattle.replay_lines.proofs.Telling.{told_refused, told_done}

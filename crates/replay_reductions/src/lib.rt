@@ -2,12 +2,12 @@
 
 // A call for each operation that makes a table, or components, of a table, and changes eight slices or more: so many that a call holds
 // them in arrays of its own. It fills these with what the case has, lends them, and writes the answer and each slice at return.
-mod answers;
-mod components;
-mod cycles;
-mod quotients;
-mod redundant;
-mod strong;
+pub mod answers;
+pub mod components;
+pub mod cycles;
+pub mod quotients;
+pub mod redundant;
+pub mod strong;
 
 use crate::components::components;
 use crate::cycles::cycles;
