@@ -112,7 +112,7 @@ def part_names(items, bound):
             free += more
         elif isinstance(item, list):
             free += after_bracket(item, bound)
-        elif not item.startswith(('.', '"')) and item not in bound:
+        elif not item.startswith(('.', '"')) and item.split('.')[0] not in bound:
             free.append(item)
         place += 1
     return free

@@ -1,7 +1,7 @@
 """Builds the two programs that are timed: that of the port out of the text of bench_program, and oracle/timing.
 
-The kit compiles a program with no proof only to try it, so a clang of our own stands in for the kit's and keeps what is
-made at -O3. On Arm the module that the kit would compile for x86-64 is compiled for Arm too: so no side is emulated.
+It needs a kit that compiles a program with no proof to try it at each level, as rattle-kit-5b did: a clang of our own
+stands in for the kit's and keeps what is made at -O3. Later kits try a program only with checks built in. On Arm the module that the kit would compile for x86-64 is compiled for Arm too: so no side is emulated.
 """
 import shutil
 import subprocess
@@ -85,13 +85,16 @@ def port():
     """The command that runs the port's program, and how it was made."""
     kit, machine = needs.kit(), needs.machine()
     compilers, tools = kit / 'on' / machine / 'bin', kit / 'on' / machine / 'toolchain'
+    if not (compilers / 'rattle-cases').is_file():
+        needs.stop('this kit compiles a program with no proof only with checks built in, which no time is to be taken of: '
+                   'docs/BENCHMARKS.md says with which kit the figures there were got')
     compile_port(kit, tools, compilers)
     if machine == 'aarch64':
         for_arm(tools)
         return [FOLDER / 'port'], 'the module that the kit makes for x86-64, compiled for this Arm machine'
     run(compilers / 'rattle-link', '--target', 'x86_64-unknown-linux-gnu', '--toolchain', tools, '-o', 'port',
         'module.o', why='the program of the port could not be linked')
-    return [ROOT / 'tools' / 'run', FOLDER / 'port'], 'as the kit compiles a program, at -O3'
+    return [FOLDER / 'port'], 'as the kit compiles a program, at -O3'
 
 
 def rust():

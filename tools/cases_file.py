@@ -13,7 +13,6 @@ from faults import damaged, every_length, outside, several, shorten
 from file_cases import CONTENTS, EXAMPLE, SMALL, changed, put
 from lines import Case
 from operations import HELD_ROOM, ROOM
-from partitions import LARGEST
 from refusals import MOST_LABELS, MOST_ROWS, MOST_STATES, ROWS
 from splits import junk_cells, more
 
@@ -48,8 +47,7 @@ def reducing(rng, data):
 def writing(rng, v, states=None):
     """A table to write, with the blocks of some states, and room: mostly exact, with junk."""
     states = states or rng.choice((1, v['n'], rng.randint(1, 40)))
-    blocks = rng.choices((0, v['n'] - 1, rng.randrange(v['n'])), k=states)
-    v = {**v, 'states': states, 'state_blocks': blocks + junk_cells(rng, v['n'], more(rng))}
+    v = {**v, 'states': states, 'state_blocks': junk_cells(rng, v['n'], states + more(rng))}
     return {**v, 'bytes': junk_bytes(rng, min(plain_file.size_written(v) + more(rng), ROOM))}
 
 
@@ -152,12 +150,6 @@ def little_room(rng, v):
     del v['bytes'][rng.choice((needed - 1, 0, rng.randrange(needed))):]
 
 
-def block_outside(rng, v):
-    """8: the blocks of some source states at the first number out of range, past it, or far past it."""
-    for place in rng.sample(range(v['states']), rng.randint(1, min(v['states'], 3))):
-        v['state_blocks'][place] = rng.choice((v['n'], v['n'] + 1, LARGEST))
-
-
 def states_outside(rng, v):
     v['states'] = rng.choice((0, MOST_STATES + 1, 65535))
 
@@ -178,30 +170,17 @@ def tables_to_write(rng):
     yield from ({**v, 'states': states} for states in (0, 1, 2, 3, MOST_STATES, MOST_STATES + 1, 65535))
 
 
-def every_block(rng):
-    """Blocks around n of three source states and in a cell behind them, with room and a byte short; wrong rows too."""
-    v = writing(rng, tables.given(2, 1, [(0, 0, 1), (1, 0, 1)]), 3)
-    needed = plain_file.size_written(v)
-    for blocks, size in product(product((0, 1, 2, LARGEST), repeat=4), (needed, needed - 1)):
-        changed = {**v, 'state_blocks': list(blocks), 'bytes': junk_bytes(rng, size)}
-        yield changed
-        yield from ({**changed, 'target': [target, 1]} for target in (2, LARGEST))
-        yield {**changed, 'source': [1, 0]}
-
-
 def to_write(operation, rng, number):
     yield from tables_to_write(rng)
-    yield from every_block(rng)
     yield from large_tables(rng)
     yield from (writing(rng, v, MOST_STATES) for v in at_far_rows(rng))
-    largest = writing(rng, tables.full(rng, MOST_STATES), MOST_STATES)
-    yield from chain(far.one_short(operation, largest), far.at_blocks(largest))
+    yield from far.one_short(operation, writing(rng, tables.full(rng, MOST_STATES), MOST_STATES))
     v = writing(rng, tables.given(2, 1, [(0, 0, 1), (1, 0, 1)]), 2)
     yield from every_length(operation, v, list(operation.lengths()))
     yield from ({**v, 'bytes': junk_bytes(rng, size)} for size in range(plain_file.size_written(v) + 2))
     sound = lambda: writing(rng, tables.lengthen(rng, tables.random_table(rng, rng.randint(1, 12))))
     yield from (sound() for _ in range(number))
-    faults = [little_room, block_outside, states_outside, *cases_table.faults_of_table(operation)]
+    faults = [little_room, states_outside, *cases_table.faults_of_table(operation)]
     yield from several(sound, rng, faults, 4)
     yield from damaged(sound, rng, faults, number // 2)
 

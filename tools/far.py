@@ -37,15 +37,6 @@ def at_rows(v):
     yield again(outside(v, MIDDLE, 'label'), LAST)
 
 
-def at_blocks(v):
-    """8: the block of the first source state, of the middle one and of the last is n; two such, the first at 65,535."""
-    for places in ((0,), (N // 2,), (N - 1,), (N // 2, N - 1)):
-        blocks = list(v['state_blocks'])
-        for place, block in zip(reversed(places), (v['n'], LARGEST)):
-            blocks[place] = block
-        yield {**v, 'state_blocks': blocks}
-
-
 def at_bounds(operation, v):
     """8: each argument at the first number out of range."""
     bounded = {name: kind for name, kind in operation.parameters.items() if kind.bound}

@@ -98,11 +98,6 @@ def held(data):
     return Table(n, labels, initial, rows, blocks)
 
 
-def blocks_refusal(blocks, n):
-    """8 with the first block that is not below n, or None."""
-    return next(((8, block) for block in blocks if block >= n), None)
-
-
 def table_refusal(table):
     """1 to 6 as the table's check gives them, then 8 for the blocks of an output file; or None."""
     columns = [list(column) for column in zip(*table.rows)] or [[], [], []]
@@ -110,7 +105,8 @@ def table_refusal(table):
               **dict(zip(refusals.ROWS, columns))}
     tests = (refusals.states, refusals.labels, refusals.rows, refusals.initial, refusals.each_row)
     refused = next((found for found in (test(values) for test in tests) if found), None)
-    return refused or blocks_refusal(table.blocks or [], table.n)
+    outside = [block for block in table.blocks or [] if block >= table.n]
+    return refused or ((8, outside[0]) if outside else None)
 
 
 def read(data, output=False):

@@ -19,11 +19,6 @@ def table(v):
     return file_model.held(data(v))
 
 
-def counted(v):
-    """The blocks of the source states."""
-    return v['state_blocks'][:v['states']]
-
-
 def one_too_many(v):
     """A right file, and a byte behind it."""
     return len(data(v)) > CONTENTS and file_model.wrong_place(data(v)[:-1]) is None
@@ -75,9 +70,5 @@ SECTIONS = (
         Listed('the most source states, 4,096', 'done', lambda v: v['states'] == MOST_STATES),
         outside('states', MOST_STATES + 1, 1),
         outside('states', LARGEST, 1),
-        Listed('a block n - 1, the last', 'done', lambda v: v['n'] > 1 and max(counted(v)) == v['n'] - 1),
-        Listed('a block n, just out of range', 'refused 8', lambda v: max(counted(v)) == v['n']),
-        Listed('a block 65,535', 'refused 8', lambda v: max(counted(v)) == LARGEST),
-        Listed('65,535 behind the blocks that count', 'done', lambda v: LARGEST in v['state_blocks'][v['states']:]),
         Listed('the largest output, 57,384 bytes', 'done', lambda v: plain_file.size_written(v) == LARGEST_OUTPUT))),
 )

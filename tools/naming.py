@@ -10,11 +10,14 @@ import rattle
 
 CRATES = needs.ROOT / 'crates'
 
+# The folders below specs/ that the kit makes: a file for each declared type, and one for each function's contract.
+MADE = ('declared', 'contracts')
+
+# What stands in the name of an operator where its arguments go.
+HOLE = '◌'
+
 # The words of antt itself, and those that every file may name.
 LANGUAGE = set(': = → × _ Type record unfold in ⌜ ⌝ Unit tt ⊥ ¬ absurd'.split())
-
-# What a clause may name without a `ghost use`.
-CLAUSE = {'now': ('denote.Ref', 'now')}
 
 
 class Place(collections.namedtuple('Place', 'path kind name')):
@@ -65,14 +68,14 @@ def of_source(crate, steps):
 def within(crate, steps, name):
     """What a path in a crate leads to: a definition of a file, or the type or function that the kit made a file of."""
     file = CRATES.joinpath(crate, *steps).with_suffix('.antt')
-    return of_file(file, name) if file.is_file() else of_source(crate, steps[2 if steps[1] == 'declared' else 1:])
+    return of_file(file, name) if file.is_file() else of_source(crate, steps[2 if steps[1] in MADE else 1:])
 
 
 def lead(path, name):
     """What a name leads to that comes by this path."""
     first, *steps = path.split('.')
-    crate = first.split('·')[1] if first.startswith('Rattle·') else ''
-    return within(crate, steps, name) if crate and (CRATES / crate).is_dir() else Place(path, 'kit', name)
+    ours = first == 'Rattle' and len(steps) > 1 and (CRATES / steps[0]).is_dir()
+    return within(steps[0], steps[1:], name) if ours else Place(path, 'kit', name)
 
 
 def of_file(file, name):
@@ -89,19 +92,20 @@ def of_file(file, name):
 
 def operators(uses):
     """Each sign of an operator in scope, with the operator's name."""
-    mixed = [name for name in uses if name.startswith('_') or name.endswith('_')]
-    return {sign: name for name in mixed for sign in name.split('_') if sign}
+    mixed = [name for name in uses if name.startswith(HOLE) or name.endswith(HOLE)]
+    return {sign: name for name in mixed for sign in name.split(HOLE) if sign}
 
 
 def known(file, uses, word):
-    """What a word in a file leads to; None if nothing in the file tells."""
-    name = operators(uses).get(word, word)
-    module, dot, rest = word.partition('.')
+    """What a word in a file leads to, without the fields behind it; None if nothing in the file tells."""
+    first, *rest = word.split('.') if word[0].isalpha() else [word]
+    name = operators(uses).get(first, first)
     if file.suffix == '.antt' and (name in source(file).own or name in source(file).made):
         return of_file(file, name)
-    if name in uses:
-        return lead(*uses[name])
-    return lead(uses[module][0], rest) if dot and module in uses else None
+    path, there = uses.get(name, (None, None))
+    if path and there is None and rest:
+        return lead(path, rest[0])
+    return lead(path, there) if path and there else None
 
 
 def places(file, uses, words):
@@ -138,7 +142,7 @@ def contract_leads(file, name):
     """Where the clauses of a function lead."""
     parameters, clauses = rattle.clauses(file, name)
     words = [word for text in clauses for word in antt.names(antt.tree(antt.words(text)), parameters)]
-    return places(file, {**CLAUSE, **definitions.uses(rattle.text_of(file))}, words)
+    return places(file, definitions.uses(rattle.text_of(file)), words)
 
 
 def type_leads(file, name):

@@ -36,11 +36,18 @@ def machine():
 
 
 def kit():
-    """The folder of the Rattle kit: RATTLE_HOME, or where the rt on the PATH stands."""
-    home = os.environ.get('RATTLE_HOME') or command('rt', 'the Rattle kit').resolve().parent.parent
-    if not pathlib.Path(home, 'on', machine()).is_dir():
-        stop(f'needs a Rattle kit for this machine, {machine()}: there is none at {home}')
-    return pathlib.Path(home)
+    """The folder of the Rattle kit, where the rt on the PATH stands."""
+    return command('rt', 'the Rattle kit').resolve().parent.parent
+
+
+def crate(name):
+    """The folder of a crate."""
+    return ROOT / 'crates' / name
+
+
+def program(name):
+    """Where rt leaves the program of a crate."""
+    return crate(name) / 'out' / name
 
 
 def described():
@@ -55,19 +62,19 @@ def sources(name):
     """The sources of a crate and of those that it depends on."""
     import repository  # not above: that needs this module
     crates = repository.in_order(repository.crates(), [name])
-    return [source for crate in crates for source in (ROOT / 'crates' / crate / 'src').rglob('*.rt')]
+    return [source for name in crates for source in (crate(name) / 'src').rglob('*.rt')]
 
 
-def built(program):
-    """Ends if there is no such program. If it is ours and a source of it is newer, `rt check` is asked first."""
-    if not program.is_file():
-        stop(f'there is no program {program}: rt check builds those of this repository')
-    made, ours = program.stat().st_mtime, program.resolve().parent == ROOT / 'target' / 'bin'
-    if ours and any(source.stat().st_mtime > made for source in sources(program.name)):
-        rt = command('rt', 'the Rattle kit')
-        asked = subprocess.run([rt, 'check', program.name], cwd=ROOT, stdout=subprocess.DEVNULL)
+def built(path):
+    """Ends if there is no such program. If it is ours and a source of it is newer, `rt run` proves and builds it first."""
+    if not path.is_file():
+        stop(f'there is no program {path}: rt run builds those of this repository')
+    made, ours = path.stat().st_mtime, path.resolve() == program(path.name)
+    if ours and any(source.stat().st_mtime > made for source in sources(path.name)):
+        asked = subprocess.run([command('rt', 'the Rattle kit'), 'run'], cwd=crate(path.name), stdin=subprocess.DEVNULL,
+                               capture_output=True)
         if asked.returncode:
-            stop(f'rt check {program.name} does not prove the sources as they are')
+            stop(f'rt run, in crates/{path.name}, does not prove the sources as they are')
 
 
 def run(main):

@@ -293,7 +293,7 @@ ALL = (
             ROWS, plain_file.read_file, 'to_read', FILE_ROWS),
     on_file('write_file', TABLE | {'states': NUMBER, 'state_blocks': CELLS, 'bytes': BYTES},
             (gives(1)(plain_file.source_states), *plain_file.HEADER, refusals.short(WRITTEN), refusals.each_row,
-             gives(8)(plain_file.source_blocks), bytes_room('bytes', plain_file.size_written)),
+             bytes_room('bytes', plain_file.size_written)),
             ('bytes',), plain_file.write_file, 'to_write', WRITTEN, {'bytes': plain_file.size_written}),
     on_file('reduce_file', all_of(BYTES, 'input', 'output'),
             (contents('input'), in_file('input', *plain_file.HEADER, refusals.each_row),

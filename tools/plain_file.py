@@ -44,11 +44,6 @@ def a_source_state(v):
     return v['states']
 
 
-def source_blocks(v):
-    """8: the block of a source state is not below n; the place is the first such block."""
-    return file_model.blocks_refusal(v['state_blocks'][:v['states']], v['n'])
-
-
 def written(v):
     """The output file of a table and the blocks of the source states."""
     blocks = v['state_blocks'][:v['states']]

@@ -6,7 +6,7 @@ import tempfile
 import needs
 from needs import ROOT
 
-REPLAY = ROOT / 'target' / 'bin' / 'replay'
+REPLAY = needs.program('replay')
 ORACLE = ROOT / 'oracle' / 'target' / 'release' / 'oracle'
 
 

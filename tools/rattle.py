@@ -24,7 +24,7 @@ def braced(text, start):
 
 
 def clauses(path, name):
-    """The parameters of a function, and its `requires` and `ensures` without their braces."""
+    """The parameters of a function and its `result`, and its `requires` and `ensures` without their braces."""
     text = text_of(path)
     head = re.search(rf'\bfn {name}\((.*?)\)', text, re.DOTALL) or needs.stop(f'{path.name} has no function {name}')
     parameters = re.findall(r'(\w+)\s*:|\b(self)\b', head[1])
@@ -33,7 +33,7 @@ def clauses(path, name):
         inner = braced(text, place)
         found.append(inner[1:-1])
         place = text.index(inner, place) + len(inner)
-    return {name for both in parameters for name in both if name}, found
+    return {'result', *(name for both in parameters for name in both if name)}, found
 
 
 def declared(path, name):

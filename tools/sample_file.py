@@ -20,8 +20,6 @@ SOUND = (
     ('a self-loop with the last label', Table(2, MOST_LABELS, 1, [(1, MOST_LABELS - 1, 1)])),
     ('numbers above a byte', Table(258, 257, 257, [(0, 256, 257), (256, 1, 255), (257, 256, 0)])),
 )
-# The blocks of three source states, where n is 3.
-BLOCKS = ([2, 2, 2], [3, 0, 0], [0, 3, 0], [0, 0, 3], [0, 4, 65535], [65535, 3, 0], [0, 1, 2, 65535], [65535, 3])
 
 
 def reading(data, cells=None, in_runs=False):
@@ -38,7 +36,7 @@ def reducing(data, room, in_runs=False):
 def writing(table, in_runs=False, **others):
     """A table to write, with two source states more than it has, and room as needed; and what is otherwise."""
     values = {**tables.given(table.n, table.labels, table.rows, table.initial), 'states': table.n + 2,
-              'state_blocks': [*range(table.n), 0, table.n - 1]}
+              'state_blocks': [*range(table.n), 0, 65535]}
     values['bytes'] = [9] * plain_file.size_written(values)
     return Case(BY_NAME['write_file'], {**values, **others}, in_runs=in_runs)
 
@@ -120,11 +118,9 @@ def of_write():
     yield writing(table, **dict.fromkeys(ROWS, []))
     yield '# write_file: rows'
     yield from (writing(file_model.held(data)) for data in row_faults())
-    yield '# write_file: block numbers around n, of each source state, of several, behind the last, too few'
-    yield from (writing(table, states=3, state_blocks=blocks) for blocks in BLOCKS)
     yield '# write_file: several faults at once'
-    faults = [{'states': 0}, {'labels': 0}, {'m': MOST_ROWS + 1}, {'initial': 3}, {'source': [0]}, {'target': [3, 2]},
-              {'label': [1, 0]}, {'state_blocks': [0, 2, 4, 3, 1]}, {'bytes': []}]
+    faults = [{'states': 0}, {'labels': 0}, {'m': MOST_ROWS + 1}, {'initial': 3}, {'state_blocks': []},
+              {'target': [3, 2]}, {'label': [1, 0]}, {'bytes': []}]
     for first in range(len(faults)):
         yield writing(table, **{name: value for fault in faults[first:] for name, value in fault.items()})
 

@@ -3,6 +3,7 @@ import os
 import pathlib
 import re
 import resource
+import shutil
 import signal
 import subprocess
 import tempfile
@@ -55,8 +56,8 @@ WRONG_OUTPUTS = (
 )
 
 
-def run(*words, **settings):
-    return subprocess.run([HEGRASTOL, *words], capture_output=True, **settings)
+def run(*words, program=HEGRASTOL, **settings):
+    return subprocess.run([program, *words], capture_output=True, **settings)
 
 
 def in_folder(test):
@@ -150,12 +151,23 @@ def unreadable(folder, *words):
     return compared(f'{words[0]} of a file that cannot be read', got, (2, True, {'in': file_cases.EXAMPLE}))
 
 
-@in_folder
-def without_python(folder, words):
-    """Only the few commands that are needed to find Python are on the PATH."""
+def few_commands(folder):
+    """An environment with a PATH of the few commands that are needed to find out what is missing."""
     for name in ('dirname', 'readlink'):
         folder.joinpath(name).symlink_to(needs.command(name, name))
-    return stopped(words, 'needs Python 3.9', env={'PATH': str(folder)})
+    return {'PATH': str(folder)}
+
+
+@in_folder
+def without_python(folder, words):
+    return stopped(words, 'needs Python 3.9', env=few_commands(folder))
+
+
+@in_folder
+def without_kit(folder):
+    """Nothing is built, and no rt is on the PATH."""
+    copy = shutil.copy(HEGRASTOL, folder)
+    return stopped(['reduce', 'in', 'out'], 'Rattle kit', program=copy, env=few_commands(folder))
 
 
 def stops():
@@ -167,7 +179,7 @@ def stops():
             stopped(['reduce', 'in', '/dev/full'], UNWRITTEN),
             stopped(['reduce', 'in'], 'reduce IN OUT'),
             stopped(['reduce', 'in', 'out', 'more'], 'reduce IN OUT'),
-            stopped(['reduce', 'in', 'out'], 'Rattle kit', env={**os.environ, 'RATTLE_HOME': '/nowhere'}),
+            without_kit(),
             stopped(['other'], 'there is no command other'),
             stopped(['show'], 'required'),
             stopped(['show', 'none'], 'none cannot be read'),
