@@ -24,9 +24,10 @@ RESULT_COLUMNS = tuple(f'result_{place}' for place in range(3))
 LENT = {**dict.fromkeys(WORK_SLICES, 'n + m + 1'), **dict.fromkeys(RESULT_COLUMNS, 'm')}
 # Where a core needs fewer cells than 01 asks of a work slice.
 CORE = {'marks': 'n', 'stack': 'm + 1'}
-NUMBERS = {'n': 'n', 'm': 'm', 'table': 'table', 'b': '0', 'block': '0', 'block_index': '0', 'l': '0', 'r': '1',
+NUMBERS = {'n': 'n', 'm': 'm', 'b': '0', 'block': '0', 'block_index': '0', 'l': '0', 'r': '1',
            'left_index': '0', 'right_index': '1', 'from': '0', 'hidden': 'true', 'reversed': 'true', 'room': 'true'}
 STATE = ('state', 's', 'element', 'u')
+TABLE = {'table': 'table', 'system': 'Lts { table, source: &source[..m], label: &label[..m], target: &target[..m] }'}
 
 
 class Line(NamedTuple):
@@ -50,12 +51,14 @@ def slices(lengths):
 def values_of(line):
     """The value of every parameter by its name."""
     lengths = {**GIVEN, 'starts': 'n + 1', **WORK, **RESULTS, **(CORE if line.side == 'core' else {})}
-    values = {**NUMBERS, **slices(lengths), **dict.fromkeys(STATE, 'each' if line.each else 'state')}
+    values = {**NUMBERS, **TABLE, **slices(lengths), **dict.fromkeys(STATE, 'each' if line.each else 'state')}
     if line.partition:
         count = COUNTS.get(line.partition, '1')
         header = f'BlockPartition {{ n: n as u16, count: {count} as u16 }}'
         columns = {column: f'{line.partition}_{column}[..n]' for column in SIX}
-        values |= {**columns, 'count': count, 'partition': header, 'self': f'({header})'}
+        lent = ', '.join(f'{column}: &{cells}' for column, cells in columns.items())
+        values |= {**columns, 'columns': f'PartitionColumns {{ {lent} }}', 'count': count, 'partition': header,
+                   'self': header}
     return {**values, **{name: name for name, _ in line.calls if name}, **line.values}
 
 

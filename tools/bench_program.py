@@ -2,6 +2,8 @@
 
 Nothing of it is proved, and it is no part of the port.
 """
+import re
+
 import bench_signatures
 import needs
 from bench_files import FILE_IN
@@ -11,41 +13,40 @@ from bench_lines import LINES
 
 # What a block of a reduction counts for; a round counts for 1.
 BLOCK = 10_000
-# For each kind of answer: where it stands, its outcome, the pattern of what is done, and the number that it counts for.
+# For each type of data that a call answers: where it stands, and the number that it counts for.
 ANSWERS = {
-    'Answer': ('columns::answers', 'Outcome', 'Done', '0'),
-    'NumberAnswer': ('columns::answers', 'NumberOutcome', 'Done(k)', 'k'),
-    'FlagAnswer': ('columns::answers', 'FlagOutcome', 'Done(k)', 'k as u64'),
-    'PartitionAnswer': ('partition_calls', 'PartitionOutcome', 'Done(k)', 'k.count as u64 - 1'),
-    'BlockAnswer': ('partition::block', 'BlockOutcome', 'Done(k)', 'k.end as u64'),
-    'StretchAnswer': ('table::transitions', 'StretchOutcome', 'Done { first, end }', 'end - first'),
-    'DivisionAnswer': ('partition_division', 'DivisionOutcome', 'Done { index, first, count }',
-                       'count + 0 * index + 0 * first'),
-    'TableAnswer': ('table::answers', 'TableOutcome', 'Done { n, labels, m, initial }',
-                    'm + 0 * n + 0 * labels + 0 * initial'),
-    'ReorderedAnswer': ('quotient_cycles', 'ReorderedOutcome', 'Done { n, labels, m, initial, state }',
-                        'm + 0 * n + 0 * labels + 0 * initial + 0 * state'),
-    'ReductionAnswer': ('reduction::answers', 'ReductionOutcome', 'Done { n, labels, m, initial, rounds }',
-                        f'{BLOCK} * n + rounds + 0 * labels + 0 * m + 0 * initial'),
-    'FileAnswer': ('file_reduction::answers', 'FileOutcome',
-                   'Done { bytes, states, labels, rows, blocks, reduced_rows, rounds }',
-                   f'{BLOCK} * blocks + rounds + 0 * bytes + 0 * states + 0 * labels + 0 * rows + 0 * reduced_rows'),
+    '()': ('', '0'),
+    'u64': ('', 'done'),
+    'bool': ('', 'done as u64'),
+    'BlockPartition': ('partition_calls', 'done.count as u64 - 1'),
+    'Block': ('partition::block', 'done.end as u64'),
+    'Stretch': ('table::cores', '(done.end - done.first) as u64'),
+    'Division': ('partition_division', 'done.count'),
+    'Table': ('table', 'done.m as u64'),
+    'Reordered': ('quotient_cycles', 'done.table.m as u64'),
+    'Reduced': ('reduction::answers', f'{BLOCK} * done.table.n as u64 + done.rounds'),
+    'Written': ('file_reduction::answers', f'{BLOCK} * done.blocks + done.rounds'),
 }
+ANSWER = re.compile(r'Answer<(.+)>')
 REFUSED = 1_000_000_000
 # Room for columns of n, m and n + m + 1 cells, for results and for given lists, at the greatest n and m.
 ROOMS = {'n': 4200, 'm': 8400, 'given': 16400, 'n + 1': 4200, 'n + m + 1': 12600, 'given + m + 1': 30000,
          'self_pairs': 8400, 'other_pairs': 8400}
 
 
+def said(kind):
+    """The name of the function that turns an answer with data of this type into a number."""
+    return f'said_{"nothing" if kind == "()" else kind.lower()}'
+
+
 def saying(kind):
-    """The function that turns an answer into a number."""
-    _, outcome, done, number = ANSWERS[kind]
+    """That function."""
+    number = ANSWERS[kind][1]
     return f'''
-fn said_{kind.lower()}(answer: {kind}) -> u64 {{
-    let outcome = answer.outcome;
-    match outcome {{
-        {outcome}::{done} => {number},
-        {outcome}::Refused(r) => {REFUSED} + r.number,
+fn {said(kind)}(answer: Answer<{kind}>) -> u64 {{
+    match answer.outcome {{
+        Ok({'done' if 'done' in number else '_'}) => {number},
+        Err(refusal) => {REFUSED} + refusal.number(),
     }}
 }}
 '''
@@ -55,13 +56,15 @@ def counted(function, text, besides):
     """Statements that make the call and add its answer to the sum; where something else is counted, `true` is due."""
     if function.answer == 'bool' and besides:
         return f'if !{text} {{ sum += {REFUSED}; }}\n'
-    if function.answer in ANSWERS:
-        return f'sum += said_{function.answer.lower()}({text});\n'
+    data = ANSWER.fullmatch(function.answer)
+    if data and data[1] in ANSWERS:
+        return f'sum += {said(data[1])}({text});\n'
     forms = {'': '{};\n', 'usize': 'sum += {} as u64;\n', 'bool': 'if {} {{ sum += 1; }}\n',
-             'Refusal': 'sum += {}.number;\n', 'Stretch': 'let rows = {};\nsum += (rows.end - rows.first) as u64;\n',
+             'Result<(), Refusal>': 'if let Err(refusal) = {} {{\nsum += refusal.number();\n}}\n',
+             'Stretch': 'let rows = {};\nsum += (rows.end - rows.first) as u64;\n',
              "&'a [u16]": 'let part = {};\nsum += part.len() as u64;\n',
              'Block': 'let block = {};\nsum += block.end as u64;\n',
-             'Reordered': 'let made = {};\nsum += made.m as u64;\n',
+             'Reordered': 'let made = {};\nsum += made.table.m as u64;\n',
              'Reduction': f'let made = {{}};\nsum += {BLOCK} * made.count as u64 + made.rounds as u64;\n'}
     if function.answer not in forms:
         needs.stop(f'tools/bench_program.py has no count for {function.answer}, the answer of {function.path}')
@@ -87,9 +90,9 @@ def arm(number, line):
 
 
 def uses():
-    named = [f'use {place}::{name};\n' for kind, (place, outcome, *_) in ANSWERS.items() for name in (kind, outcome)]
-    more = ('columns::cells::copy', 'partition::block::Block', 'partition_calls::BlockPartition', 'table::Table')
-    return ''.join(sorted([*named, *(f'use {path};\n' for path in more)]))
+    named = [f'{place}::{kind}' for kind, (place, _) in ANSWERS.items() if place]
+    more = ('columns::answers::Answer', 'columns::cells::copy', 'partition::PartitionColumns', 'table::Lts')
+    return ''.join(f'use {path};\n' for path in sorted([*named, *more]))
 
 
 def arrays():

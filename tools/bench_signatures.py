@@ -5,7 +5,10 @@ from typing import NamedTuple
 import needs
 
 HEAD = re.compile(r'^( *)pub fn (\w+)(?:<[^>]*>)?\(([^)]*)\)(?: -> ([^\n{]+))?', re.MULTILINE)
-OWNER = re.compile(r'^impl (\w+)', re.MULTILINE)
+OWNER = re.compile(r'^impl(?:<[^>]*>)? (\w+)', re.MULTILINE)
+# What a method takes first, and whose methods are called on another value than that of `self`.
+RECEIVERS = (('self',), ('&self',))
+NAMED = {'Lts': 'system', 'PartitionColumns': 'columns'}
 
 
 class Function(NamedTuple):
@@ -45,14 +48,14 @@ def argument(kind, value):
 def called(given, values):
     """What a call names: a function by its path, one of a type by the type, or by the value that it is called on."""
     name = given.path.split('::')[-1]
-    if ('self',) in given.parameters:
-        return f'{values["self"]}.{name}'
+    if given.parameters[:1] and given.parameters[0] in RECEIVERS:
+        return f'({values[NAMED.get(given.owner, "self")]}).{name}'
     return f'{given.owner}::{name}' if given.owner else given.path
 
 
 def call(given, values):
     """The call of a function, each parameter given the value of its name."""
-    missing = [name for name, *_ in given.parameters if name not in values]
+    missing = [name for name, *kind in given.parameters if kind and name not in values]
     if missing:
         needs.stop(f'no value is known for the parameter {missing[0]} of {given.path}')
     arguments = [argument(kind[0], values[name]) for name, *kind in given.parameters if kind]

@@ -1,4 +1,4 @@
-"""Whether the program's list of operations fits: each name and its kinds, its number, and its family.
+"""Whether the program's list of operations fits: each name and its kinds, its case, and its family.
 
 The kinds that are wanted are those of the parameters in `operations`, which docs/REPLAY.md lists.
 """
@@ -9,11 +9,11 @@ from programs import ROOT
 
 SOURCE = ROOT / 'crates' / 'replay_calls' / 'src' / 'operations.rt'
 # How many slices of u16 the operations of a family may change; none in the families that are not named.
-SLOTS = {'FEW': 3, 'RECORDS': 2, 'SIX': 6, 'DIVIDING': 9, 'SIGNING': 6, 'WALKING': 9}
+SLOTS = {'Few': 3, 'Records': 2, 'Six': 6, 'Dividing': 9, 'Signing': 6, 'Walking': 9}
 # The families whose operations hold what they change for themselves, and how many places there are for that.
-HOLDING, PLACES = ('REDUCING', 'FILING'), 16
+HOLDING, PLACES = ('Reducing', 'Filing'), 16
 # The families whose operations may change bytes, one slice of them.
-CHANGING_BYTES = ('TEXTS', 'FILING')
+CHANGING_BYTES = ('Texts', 'Filing')
 
 
 def kind(operation, parameter):
@@ -29,38 +29,38 @@ def kinds(operation):
 
 
 def listed(text):
-    """The names and kinds of the program's list, in order."""
-    words = re.search(r'b"([^"]*)"', text)[1].replace('\\\n', ' ').split()
-    return list(zip(words[::2], words[1::2]))
+    """The names, kinds and cases of the program's list, in order."""
+    return re.findall(r'\(\s*b"([^"]*)",\s*b"([^"]*)",\s*Operation::(\w+),?\s*\)', text)
 
 
-def constant(name):
-    """What the program calls an operation's number."""
-    return name.upper().replace('::', '_')
+def case(name):
+    """What the program calls an operation: the case of its enum."""
+    return ''.join(word[:1].upper() + word[1:] for word in re.split('::|_', name))
 
 
-def family(text, number, numbers):
-    """The family of an operation, by the runs of the function `family`."""
+def families(text):
+    """The family of each case, by the arms of the function `family`."""
     body = text[text.index('pub fn family'):]
-    for first, last, name in re.findall(r'(\w+)(?:\.\.=(\w+))? => (\w+)', body):
-        if first == '_' or numbers[first] <= number <= numbers[last or first]:
-            return name
+    arms = re.findall(r'((?:\|?\s*Operation::\w+\s*)+)=>\s*{?\s*Family::(\w+)', body)
+    return {name: group for arm, group in arms for name in re.findall(r'Operation::(\w+)', arm)}
 
 
 def faults():
     """What does not fit, in words."""
     text = SOURCE.read_text()
-    numbers = {name: int(value) for name, value in re.findall(r'pub const (\w+): usize = (\d+);', text)}
+    group_of = families(text)
     found = listed(text)
-    names = [name for name, _ in found]
+    names = [name for name, _, _ in found]
     yield from (f'{name} is not listed once' for name in BY_NAME if names.count(name) != 1)
     yield from (f'{name} is no operation' for name in names if name not in BY_NAME)
-    for number, (name, letters) in enumerate(found, 1):
+    for name, letters, called in found:
         if name in BY_NAME and letters != kinds(BY_NAME[name]):
             yield f'{name} has the kinds {letters}, and not {kinds(BY_NAME[name])}'
-        if numbers.get(constant(name)) != number:
-            yield f'{constant(name)} is not {number}'
-        group = family(text, number, numbers)
+        if called != case(name):
+            yield f'{name} is {called}, and not {case(name)}'
+        group = group_of.get(called)
+        if group is None:
+            yield f'{name} has no family'
         slots = SLOTS.get(group, 0)
         if sum(letters.count(letter) for letter in 'mr') > slots:
             yield f'{name} changes more than the {slots} slices of its family'

@@ -26,7 +26,8 @@ def braced(text, start):
 def clauses(path, name):
     """The parameters of a function and its `result`, and its `requires` and `ensures` without their braces."""
     text = text_of(path)
-    head = re.search(rf'\bfn {name}\((.*?)\)', text, re.DOTALL) or needs.stop(f'{path.name} has no function {name}')
+    head = (re.search(rf'\bfn {name}(?:<[^>]*>)?\((.*?)\)', text, re.DOTALL)
+            or needs.stop(f'{path.name} has no function {name}'))
     parameters = re.findall(r'(\w+)\s*:|\b(self)\b', head[1])
     found, place = [], head.end()
     while re.match(r'[^{;]*\b(?:requires|ensures)\b', text[place:]):
@@ -45,8 +46,9 @@ def declared(path, name):
 
 def imported(path):
     """Each name that a file takes from another one, with the path to that."""
-    paths = re.findall(r'^(?:pub )?use ([\w:]+);', text_of(path), re.MULTILINE)
-    return {steps[-1]: steps[:-1] for steps in (path.split('::') for path in paths)}
+    found = re.findall(r'^(?:pub )?use ([\w:]+?)(?:::\{([^}]*)\})?;', text_of(path), re.MULTILINE)
+    paths = [f'{path}::{name.strip()}' if listed else path for path, listed in found for name in listed.split(',')]
+    return {steps[-1]: steps[:-1] for steps in (path.split('::') for path in paths) if steps[-1]}
 
 
 def types_in(path, name):

@@ -5,10 +5,14 @@ use mathlib.Core.Bool.{Bool, true, false, not, cond, ◌&&◌}
 use mathlib.Core.List.{List, [], ◌∷◌, ◌++◌}
 use mathlib.Core.Path.{◌≡◌, refl, ap, sym, ◌∙◌}
 use lib.Dec.{eqb}
-use Rattle.columns.specs.declared.answers.Refusal.{Refusal}
-use Rattle.columns.specs.Answers.{none}
+use Rattle.std.specs.Prelude.{Result, Ok, Err, IsErrAnd}
+use Rattle.std.specs.Result.{result_and}
+use Rattle.columns.specs.declared.answers.Refusal as code
+use Rattle.columns.specs.Answers.{Refusal}
+use Rattle.columns.specs.Answers.{none, refusal_of, checked}
 use Rattle.columns.specs.Due.{Test, due, or_else}
 use Rattle.columns.proofs.Bools.{contra, and_left, and_right}
+use Rattle.columns.proofs.Saying.{numbered}
 
 -- the refusal of a test has number 0, and so is none
 abbrev unnumbered : Test → Bool
@@ -81,3 +85,21 @@ module _ (l k : List Test) (n : all_numbered l ≡ true) (r : Refusal) (e : r �
   pub ends : (r.number ≡ 0 → ⊥) → r ≡ due (l ++ k)
   unfolding or_else
   ends f = ap (λ (b : Bool). cond b (due k) r) (sym (ne_eqb r.number 0 f)) ∙ chained (due k) refl
+
+-- the first check of two answers by `?`: it refuses with x, and so does the call, or the second decides
+err_checked : (r : Result (Unit {0}) code.Refusal) (x : code.Refusal) → IsErrAnd r (λ e. e ≡ x) → checked r ≡ refusal_of x
+err_checked (Ok u) x h = absurd h
+err_checked (Err e) x h = ap refusal_of h
+
+module _ (l k : List Test) (n : all_numbered l ≡ true) (r : Result (Unit {0}) code.Refusal) where
+  pub refused_first : (x : code.Refusal) → refusal_of x ≡ due l → IsErrAnd r (λ e. e ≡ x) → checked r ≡ due (l ++ k)
+  refused_first x e h = err_checked r x h ∙ ends l k n (refusal_of x) e (numbered x)
+
+  pub refused_second : none ≡ due l → checked r ≡ due k → checked r ≡ due (l ++ k)
+  refused_second e f = f ∙ goes_on_lem l k n none e refl
+
+-- two checks put together by `and`
+pub both_checked : (l k : List Test) → all_numbered l ≡ true → (r s : Result (Unit {0}) code.Refusal) → checked r ≡ due l → checked s ≡ due k
+    → checked (result_and r s) ≡ due (l ++ k)
+both_checked l k n (Ok u) s e f = f ∙ goes_on_lem l k n none e refl
+both_checked l k n (Err x) s e f = ends l k n (refusal_of x) e (numbered x)

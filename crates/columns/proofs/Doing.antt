@@ -6,7 +6,7 @@ use mathlib.Core.List.{List, [], ◌∷◌}
 use mathlib.Core.Logic.{◌⊎◌, inl, inr, ◌↔◌}
 use borrow.Author.Tests.{eqb-true}
 use lib.Dec.{eqb}
-use Rattle.columns.specs.declared.answers.Refusal.{Refusal}
+use Rattle.columns.specs.Answers.{Refusal}
 use Rattle.columns.specs.Answers.{Said, done, refused, answering, unless, leaving}
 use Rattle.columns.specs.Counting.{bit}
 use Rattle.columns.proofs.Saying.{apart}

@@ -6,6 +6,7 @@ pub mod Chains
 pub mod Bools
 pub mod Rooms
 pub mod All
+pub mod Ranges
 pub mod Orders
 pub mod Sets
 pub mod Unions

@@ -1,45 +1,19 @@
--- Rows in three columns: their order, test by test, and the set of the rows.
+-- Rows in three columns: the set of the rows.
 use mathlib.Core.Path.{◌≡◌, refl, sym, ap, ◌∙◌}
-use mathlib.Core.Bool.{Bool, true, false}
+use mathlib.Core.Bool.{Bool, true}
 use mathlib.Core.List.{List, [], ◌∷◌, ◌++◌, map, map-map}
 use Prim.Native.Nat.{ℕ, ◌≤◌, ◌<◌}
-use borrow.Author.Tests.{lt-ltb, le-ltb}
 use native.Mathlib.Omega.{arith}
-use lib.Dec.{ltb}
 use lib.ListN.{length, get_or, take, drop, length-map, length-append}
 use lib.Seq.{take-append-le, length-take-le, drop_at}
-use Rattle.columns.specs.Sets.{insert, collect, lex, pair_lt, row_lt, Row}
+use Rattle.columns.specs.Sets.{insert, collect, row_lt, Row}
 use Rattle.columns.specs.Sort.{sort}
-use Rattle.columns.specs.Columns.{listed, cell, key_of, comes_before, sort_by}
+use Rattle.columns.specs.Columns.{listed, cell, key_of, sort_by}
 use Rattle.columns.specs.Rows.{firsts_by, pick_rows, picked, rows_of, row_set, first_of, second_of, third_of}
 use Rattle.columns.proofs.Orders.{row_order}
 use Rattle.columns.proofs.Parts.{length_fronted}
 use Rattle.columns.proofs.Sorts.{firsts_sort, firsts_length, length_sort}
 use Rattle.columns.proofs.Lists.{get_d_any, listed_cong, map-listed, length-listed, take-over}
-
--- ---- one test after the other
-module _ (a b c : List ℕ) (i j x y : ℕ) (ex : x ≡ cell a i) (ey : y ≡ cell a j) where
-  pub first_less : x < y → true ≡ comes_before a b c i j
-  unfolding comes_before row_lt lex key_of
-  first_less h = rw (← ex, ← ey, lt-ltb x y h)
-
-  pub first_more : y < x → false ≡ comes_before a b c i j
-  unfolding comes_before row_lt lex key_of
-  first_more h = rw (← ex, ← ey, le-ltb x y (omega arith), lt-ltb y x h)
-
-  module _ (le : y ≤ x) (ge : x ≤ y) (x₂ y₂ : ℕ) (ex₂ : x₂ ≡ cell b i) (ey₂ : y₂ ≡ cell b j) where
-    pub second_less : x₂ < y₂ → true ≡ comes_before a b c i j
-    unfolding comes_before row_lt pair_lt lex key_of
-    second_less h = rw (← ex, ← ey, le-ltb x y le, le-ltb y x ge, ← ex₂, ← ey₂, lt-ltb x₂ y₂ h)
-
-    pub second_more : y₂ < x₂ → false ≡ comes_before a b c i j
-    unfolding comes_before row_lt pair_lt lex key_of
-    second_more h = rw (← ex, ← ey, le-ltb x y le, le-ltb y x ge, ← ex₂, ← ey₂, le-ltb x₂ y₂ (omega arith), lt-ltb y₂ x₂ h)
-
-    module _ (le₂ : y₂ ≤ x₂) (ge₂ : x₂ ≤ y₂) (x₃ y₃ : ℕ) (ex₃ : x₃ ≡ cell c i) (ey₃ : y₃ ≡ cell c j) where
-      pub third_less : ltb x₃ y₃ ≡ comes_before a b c i j
-      unfolding comes_before row_lt pair_lt lex key_of
-      third_less = rw (← ex, ← ey, le-ltb x y le, le-ltb y x ge, ← ex₂, ← ey₂, le-ltb x₂ y₂ le₂, le-ltb y₂ x₂ ge₂, ex₃, ey₃)
 
 -- ---- the set of the rows
 pub key_row : (a b c : List ℕ) (i : ℕ) → i < length a → i < length b → i < length c → key_of a b c i ≡ (get_or a i 0, (get_or b i 0, get_or c i 0))

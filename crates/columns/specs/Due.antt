@@ -1,6 +1,6 @@
 -- A chain of tests, each with its refusal, in the order in which they are made: the first that fails decides.
 use Rattle.std.specs.Prelude.{ℕ, ◌≤◌, Bool, true, cond, ◌&&◌, List, [], ◌∷◌, ltb, leb, eqb}
-use Rattle.columns.specs.declared.answers.Refusal.{Refusal}
+use Rattle.columns.specs.Answers.{Refusal}
 use Rattle.columns.specs.Answers.{refusal, none}
 use Rattle.columns.specs.Limits.{max_labels, max_states, out_of_range, wrong_labels, wrong_states, no_room}
 

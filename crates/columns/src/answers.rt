@@ -1,115 +1,112 @@
 // Answers: what was asked for, or a refusal with its number and place.
-ghost use Rattle.std.specs.Prelude.{◌≡◌, [], ◌∷◌};
-ghost use Rattle.columns.specs.Answers.{said, said_number, said_flag, done, refused, refusal};
-ghost use Rattle.columns.specs.Counting.{bit};
+ghost use Rattle.std.specs.Prelude.{◌≡◌, Ok, Err};
+ghost use Rattle.columns.specs.Answers.{answer, refusal_of};
 
-// A refusal: its number and its place. As the result of a check, number 0 stands for none.
-#[derive(Clone, Copy)]
-pub struct Refusal {
-    pub number: u64,
-    pub place: u64,
+// Why a call is refused. `refusal_of` (specs/Answers) gives each case its number in document 01 and its place: the value that
+// the case holds, and 0 where it holds none.
+#[derive(Clone, Copy, PartialEq, Eq, Debug)]
+pub enum Refusal {
+    // The number of states, of labels, of rows is outside its range; the initial state is no state.
+    WrongStates,
+    WrongLabels,
+    WrongRows,
+    WrongInitial,
+
+    // A field of a row is out of range; a row is not above the one before.
+    WrongField { row: u64 },
+    NotAbove { row: u64 },
+
+    // A lent slice is too short.
+    TooShort,
+
+    // A state, block or position argument is out of range.
+    OutOfRange { argument: u64 },
+
+    // Nothing of the block is marked; the numbers of the marked states are not dense.
+    NothingMarked { block: u64 },
+    NotDense { missing: u64 },
+
+    // The accepted transitions hold a cycle longer than a self-loop.
+    Cyclic,
+
+    // The search for a bottom state comes back to a state.
+    NoBottom { block: u64 },
+
+    // A field of a file's contents, or the length of a body, is not as it must be.
+    WrongContents { offset: u64 },
+
+    // The lent partition or block is not consistent.
+    Inconsistent,
+
+    // List starts fall or run past the end, or a signature is not strictly ascending.
+    WrongList { index: u64 },
+
+    // The result has less room than is needed.
+    NoRoom { needed: u64 },
 }
 
-// The outcome of a call that hands back nothing but its columns.
-#[derive(Clone, Copy)]
-pub enum Outcome {
-    Done,
-    Refused(Refusal),
-}
+impl Refusal {
+    // Its number in document 01.
+    pub fn number(self) -> u64
+        ensures { result ≡ (refusal_of self).number }
+    {
+        match self {
+            Refusal::WrongStates => 1,
+            Refusal::WrongLabels => 2,
+            Refusal::WrongRows => 3,
+            Refusal::WrongInitial => 4,
+            Refusal::WrongField { .. } => 5,
+            Refusal::NotAbove { .. } => 6,
+            Refusal::TooShort => 7,
+            Refusal::OutOfRange { .. } => 8,
+            Refusal::NothingMarked { .. } => 9,
+            Refusal::NotDense { .. } => 10,
+            Refusal::Cyclic => 11,
+            Refusal::NoBottom { .. } => 12,
+            Refusal::WrongContents { .. } => 13,
+            Refusal::Inconsistent => 14,
+            Refusal::WrongList { .. } => 15,
+            Refusal::NoRoom { .. } => 16,
+        }
+    }
 
-#[derive(Clone, Copy)]
-pub struct Answer {
-    pub outcome: Outcome,
-}
-
-// The outcome of a call that asks for a number.
-#[derive(Clone, Copy)]
-pub enum NumberOutcome {
-    Done(u64),
-    Refused(Refusal),
-}
-
-#[derive(Clone, Copy)]
-pub struct NumberAnswer {
-    pub outcome: NumberOutcome,
-}
-
-// The outcome of a call that asks whether something is so.
-#[derive(Clone, Copy)]
-pub enum FlagOutcome {
-    Done(bool),
-    Refused(Refusal),
-}
-
-#[derive(Clone, Copy)]
-pub struct FlagAnswer {
-    pub outcome: FlagOutcome,
-}
-
-// A call that was refused.
-pub fn refusing(r: Refusal) -> Answer
-    ensures { said result ≡ refused r.number r.place }
-{
-    Answer {
-        outcome: Outcome::Refused(r),
+    // Its place.
+    pub fn place(self) -> u64
+        ensures { result ≡ (refusal_of self).place }
+    {
+        match self {
+            Refusal::WrongField { row } | Refusal::NotAbove { row } => row,
+            Refusal::OutOfRange { argument } => argument,
+            Refusal::NothingMarked { block } | Refusal::NoBottom { block } => block,
+            Refusal::NotDense { missing } => missing,
+            Refusal::WrongContents { offset } => offset,
+            Refusal::WrongList { index } => index,
+            Refusal::NoRoom { needed } => needed,
+            _ => 0,
+        }
     }
 }
 
-// A call that was done.
-pub fn finished() -> Answer
-    ensures { said result ≡ done [] }
-{
-    Answer {
-        outcome: Outcome::Done,
+// What a call answers: done with its data, or refused.
+#[derive(Clone, Copy, PartialEq, Eq, Debug)]
+pub struct Answer<T> {
+    pub outcome: Result<T, Refusal>,
+}
+
+impl<T> Answer<T> {
+    // A call that was done.
+    pub fn done(value: T) -> Self
+        ensures { result ≡ answer (Ok value) }
+    {
+        Answer { outcome: Ok(value) }
     }
-}
 
-// A call for a number that was refused.
-pub fn refusing_number(r: Refusal) -> NumberAnswer
-    ensures { said_number result ≡ refused r.number r.place }
-{
-    NumberAnswer {
-        outcome: NumberOutcome::Refused(r),
+    // A call that was refused.
+    pub fn refused(refusal: Refusal) -> Self
+        ensures { result ≡ answer (Err refusal) }
+    {
+        Answer {
+            outcome: Err(refusal),
+        }
     }
-}
-
-// A call for a number that was done.
-pub fn number(n: u64) -> NumberAnswer
-    ensures { said_number result ≡ done (n ∷ []) }
-{
-    NumberAnswer {
-        outcome: NumberOutcome::Done(n),
-    }
-}
-
-// A question that was refused.
-pub fn refusing_flag(r: Refusal) -> FlagAnswer
-    ensures { said_flag result ≡ refused r.number r.place }
-{
-    FlagAnswer {
-        outcome: FlagOutcome::Refused(r),
-    }
-}
-
-// A question that was answered.
-pub fn flag(b: bool) -> FlagAnswer
-    ensures { said_flag result ≡ done (bit b ∷ []) }
-{
-    FlagAnswer {
-        outcome: FlagOutcome::Done(b),
-    }
-}
-
-// The refusal with this number at this place; number 0 is none.
-pub fn refuse(number: u64, place: u64) -> Refusal
-    ensures { result ≡ refusal number place }
-{
-    Refusal { number, place }
-}
-
-// A number of u16's range as an answer.
-pub fn number_of(n: u16) -> NumberAnswer
-    ensures { said_number result ≡ done (n ∷ []) }
-{
-    number(n as u64)
 }

@@ -15,11 +15,7 @@ pub fn at(a: &[u16], i: usize) -> usize
 pub fn clear(a: &mut [u16])
     ensures { Cleared a.old a.new }
 {
-    let mut i = 0;
-    while i < a.len() {
-        a[i] = 0;
-        i += 1;
-    }
+    a.fill(0);
 }
 
 // The cells of `from` over the first ones of `to`.
@@ -27,11 +23,7 @@ pub fn copy(from: &[u16], to: &mut [u16])
     requires { length from.now ≤ length to.old }
     ensures { to.new ≡ over from.now to.old }
 {
-    let mut i = 0;
-    while i < from.len() {
-        to[i] = from[i];
-        i += 1;
-    }
+    to[..from.len()].copy_from_slice(from);
 }
 
 // 0, 1, 2, and so on.
@@ -39,10 +31,8 @@ pub fn count_up(a: &mut [u16])
     requires { length a.old ≤ 65536 }
     ensures { a.new ≡ listed (length a.old) (λ k. k) }
 {
-    let mut i = 0;
-    while i < a.len() {
-        a[i] = i as u16;
-        i += 1;
+    for (i, cell) in a.iter_mut().enumerate() {
+        *cell = i as u16;
     }
 }
 
@@ -51,10 +41,7 @@ pub fn swap_cells(a: &mut [u16], i: usize, j: usize)
     requires { (i < length a.old) × (j < length a.old) }
     ensures { a.new ≡ swapped i j a.old }
 {
-    let x = a[i];
-    let y = a[j];
-    a[i] = y;
-    a[j] = x;
+    a.swap(i, j);
 }
 
 // The cell that a number names, or the number itself where the column is too short.

@@ -5,7 +5,6 @@
 pub mod answers;
 pub mod cells;
 pub mod checks;
-pub mod clearing;
 pub mod limits;
 pub mod rows;
 pub mod sorting;

@@ -1,11 +1,13 @@
 -- Laws of numbers in bytes: reading from the highest byte down, writing from the lowest up, and how large and how long they are.
-use Rattle.std.specs.Prelude.{◌≡◌, ℕ, suc, ◌+◌, ◌-◌, ◌*◌, ◌/◌, ◌%◌, ◌^◌, ◌<◌, ◌≤◌, List, length, get_or, set}
+use Rattle.std.specs.Prelude.{◌≡◌, ℕ, suc, ◌+◌, ◌-◌, ◌*◌, ◌/◌, ◌%◌, ◌^◌, ◌<◌, ◌≤◌, List, [], ◌∷◌, ◌++◌, length, get_or, set, take, drop}
 use native.Mathlib.Nat.{pow-zero, pow-succ', pow-le-pow_right}
-use native.Mathlib.Numerals.{add-one}
 use native.Mathlib.Omega.{arith}
-use mathlib.Core.Path.{refl, ap, ap₂, sym, ◌∙◌}
-use lib.ListN.{length-set}
-use lib.Seq.{sets}
+use mathlib.Core.Path.{ap, sym, ◌∙◌}
+use mathlib.Core.List.{append-nil, append_assoc}
+use borrow.Rule.Slice.PartMut.{put_mid}
+use lib.Seq.{sets, sets-eq, take_all}
+use Rattle.std.proofs.lemmas.List.{drop-drop, take_more_set}
+use Rattle.file.proofs.Stores.{length-bytes}
 use Rattle.file.specs.Bytes.{little, bytes_of}
 
 -- ---- reading: the bytes from i on are read
@@ -34,43 +36,42 @@ module _ (s : List ℕ) (at width : ℕ) where
         omega (arith, p.3, small, larger),
       )
 
-  pub read_done : (i x : ℕ) → Read s at width i x → i ≤ at → (x ≡ little width s at) × (x < 256 ^ width)
-  read_done i x p h =
-      let e : i ≡ at = omega (arith, p.0) in
-      let f : at + width - i ≡ width = omega (arith, p.0) in
-      (p.2 ∙ ap₂ (λ (k j : ℕ). little k s j) f e, omega (arith, p.3, ap (λ (k : ℕ). 256 ^ k) f))
-
   -- of four bytes: with one to come, what is read fits in three
   pub read_few : (i x : ℕ) → Read s at width i x → at < i → width ≤ 4 → x < 16777216
   read_few i x p h w =
       let most : 256 ^ (at + width - i) ≤ 16777216 = pow-le-pow_right {n = 256} (omega arith) {i = at + width - i} {j = 3} (omega arith) in
       omega (arith, p.3, most)
 
--- ---- writing: what is left of x, written from i on, makes up the whole
-abbrev pub Put : List ℕ → ℕ → ℕ → ℕ → ℕ → ℕ → List ℕ → Type 0
-Put b at width x i rest now =
-    (i ≤ at + width) × (length now ≡ length b) × (sets now i (bytes_of (at + width - i) rest) ≡ sets b at (bytes_of width x))
+-- ---- writing: the first i bytes are written, and what is left of x makes up the others
+abbrev pub Put : ℕ → ℕ → ℕ → ℕ → List ℕ → Type 0
+Put width x i rest now = take i now ++ bytes_of (width - i) rest ≡ bytes_of width x
 
-module _ (b : List ℕ) (at width x : ℕ) where
-  pub put_none : Put b at width x at x b
-  put_none =
-      let e : at + width - at ≡ width = omega arith in
-      (omega arith, refl, ap (λ (k : ℕ). sets b at (bytes_of k x)) e)
+module _ (width x : ℕ) (now : List ℕ) where
+  pub put_none : Put width x 0 x now
+  put_none = let e : width - 0 ≡ width = omega arith in ap (λ (k : ℕ). bytes_of k x) e
 
-  pub put_more : (i rest : ℕ) (now : List ℕ) → Put b at width x i rest now → i < at + width
-      → Put b at width x (i + 1) (rest / 256) (set now i (rest % 256))
+  pub put_more :
+      (i rest : ℕ) → i < width → i < length now → Put width x i rest now → Put width x (i + 1) (rest / 256) (set now i (rest % 256))
   unfolding bytes_of
-  put_more i rest now p h =
-      let left : at + width - i ≡ suc (at + width - (i + 1)) = omega (arith, h) in (
-        omega (arith, h),
-        length-set now i (rest % 256) ∙ p.1,
-        ap (λ (k : ℕ). sets (set now i (rest % 256)) k (bytes_of (at + width - (i + 1)) (rest / 256))) (add-one i)
-            ∙ sym (ap (λ (k : ℕ). sets now i (bytes_of k rest)) left)
-            ∙ p.2,
-      )
+  put_more i rest h l p =
+      let left : width - i ≡ suc (width - (i + 1)) = omega arith in
+      ap (λ (t : List ℕ). t ++ bytes_of (width - (i + 1)) (rest / 256)) (take_more_set now i (rest % 256) l)
+      ∙ append_assoc (take i now) (rest % 256 ∷ []) (bytes_of (width - (i + 1)) (rest / 256))
+      ∙ sym (ap (λ (k : ℕ). take i now ++ bytes_of k rest) left) ∙ p
 
-  pub put_done : (i rest : ℕ) (now : List ℕ) → Put b at width x i rest now → at + width ≤ i → now ≡ sets b at (bytes_of width x)
+  -- all of them, in the place that they have in b
+  pub put_done :
+      (i rest : ℕ) (b : List ℕ) (at k : ℕ) → length now ≡ width → i ≡ width → k ≡ width → at + width ≤ length b → Put width x i rest now
+      → put_mid at k b now ≡ sets b at (bytes_of width x)
   unfolding bytes_of
-  put_done i rest now p h =
-      let e : 0 ≡ at + width - i = omega (arith, h) in
-      ap (λ (k : ℕ). sets now i (bytes_of k rest)) e ∙ p.2
+  put_done i rest b at k l e f h p =
+      let none : width - i ≡ 0 = omega arith in
+      let all : now ≡ bytes_of width x
+      = sym (append-nil now) ∙ ap (λ (t : List ℕ). t ++ []) (sym (take_all i now (omega arith)))
+      ∙ sym (ap (λ (j : ℕ). take i now ++ bytes_of j rest) none) ∙ p in
+      let most : length (bytes_of width x) ≡ width = length-bytes width x in
+      rw (all, f)
+      (ap (λ (t : List ℕ). take at b ++ (bytes_of width x ++ t)) (drop-drop width at b)
+      ∙ ap (λ (j : ℕ). take at b ++ (bytes_of width x ++ drop (at + j) b)) (sym most)
+      ∙ sym (append_assoc (take at b) (bytes_of width x) (drop (at + length (bytes_of width x)) b))
+      ∙ sym (sets-eq (bytes_of width x) b at (omega arith)))

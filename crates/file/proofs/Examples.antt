@@ -1,7 +1,7 @@
 -- Document 01's files, the input cut at each field, and one byte too many; files longer than the longest.
 use Rattle.std.specs.Prelude.{◌≡◌, ℕ, List, [], ◌∷◌, ◌++◌, map, take}
 use mathlib.Core.Path.{refl}
-use Rattle.columns.specs.declared.answers.Refusal.{Refusal}
+use Rattle.columns.specs.Answers.{Refusal}
 use Rattle.columns.specs.Answers.{done, refused, refusal, none}
 use Rattle.columns.specs.Columns.{zeros}
 use Rattle.columns.specs.Limits.{no_room, too_short, wrong_contents, wrong_rows}

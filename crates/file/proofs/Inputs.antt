@@ -3,8 +3,8 @@ use Rattle.std.specs.Prelude.{◌≡◌, ℕ, ◌+◌, ◌*◌, ◌<◌, ◌≤�
 use native.Mathlib.Omega.{arith}
 use borrow.Author.Tests.{eqb-true, leb-true, lt-leb, le-leb, eq-eqb}
 use mathlib.Core.Path.{refl, ap, sym, ◌∙◌}
-use Rattle.columns.specs.declared.answers.Refusal.{Refusal}
-use Rattle.columns.specs.Answers.{refusal, none}
+use Rattle.columns.specs.Answers.{Refusal}
+use Rattle.columns.specs.Answers.{none}
 use Rattle.columns.specs.Columns.{over}
 use Rattle.columns.specs.Due.{Test, test, due, all_long, Roomy}
 use Rattle.columns.specs.Limits.{max_rows, wrong_contents}
@@ -23,7 +23,6 @@ use Rattle.file.specs.Input.{
   column,
   with_rows,
   table_in,
-  field_test,
   field_tests,
   rows_length,
   named_end,
@@ -36,24 +35,8 @@ use Rattle.file.specs.Input.{
   count_tests,
 }
 
--- ---- a field: cut off, or read
-module _ (width : ℕ) (s : List ℕ) (at value : ℕ) where
-  pub field_cut : length s < at + width → refusal wrong_contents at ≡ due (field_test width s at value ∷ [])
-  unfolding due
-  field_cut h = rw (lt-leb (at + width) (length s) h)
-
-  pub field_read :
-      at + width ≤ length s → (x : ℕ) → x ≡ little width s at
-      → due (test (eqb x value) wrong_contents at ∷ []) ≡ due (field_test width s at value ∷ [])
-  unfolding due
-  field_read h x e = rw (← e, le-leb (at + width) (length s) h)
-
 -- ---- the lengths, of a file of `size` bytes of which s are all or the first
 module _ (s : List ℕ) (size : ℕ) where
-  pub sized_no_header : size < input_rows → refusal wrong_contents size ≡ due (sized_length_tests s size)
-  unfolding due
-  sized_no_header h = rw (lt-leb input_rows size h)
-
   -- the tests with the numbers that were read
   abbrev pub sized_read_tests : ℕ → ℕ → List Test
   sized_read_tests m named =
@@ -67,24 +50,6 @@ module _ (s : List ℕ) (size : ℕ) where
       → due (sized_read_tests m named) ≡ due (sized_length_tests s size)
   unfolding due header_in
   sized_lengths_read h m named e f = rw (← e, ← f, le-leb input_rows size h)
-
--- of a file that is held whole
-module _ (s : List ℕ) where
-  pub no_header : length s < input_rows → refusal wrong_contents (length s) ≡ due (length_tests s)
-  no_header = sized_no_header s (length s)
-
-  -- the tests with the numbers that were read
-  abbrev pub read_tests : ℕ → ℕ → List Test
-  read_tests m named =
-      test (eqb named (row_size * m)) wrong_contents rows_length_at
-      ∷ test (leb (input_rows + row_size * m) (length s)) wrong_contents (length s)
-      ∷ test (leb (length s) (input_rows + row_size * m)) wrong_contents (input_rows + row_size * m)
-      ∷ []
-
-  pub lengths_read :
-      input_rows ≤ length s → (m named : ℕ) → m ≡ little 2 s row_count_at → named ≡ little 4 s rows_length_at
-      → due (read_tests m named) ≡ due (length_tests s)
-  lengths_read = sized_lengths_read s (length s)
 
 -- ---- rows
 module _ (s : List ℕ) (from m : ℕ) where
@@ -108,12 +73,6 @@ rows_front t s out x y z e =
     λ i. lts t (a i) (b i) (c i)
 
 -- a table with too many rows is refused before they are looked at
-pub many-rows :
-    (t : Table) (s a b c : List ℕ) (room : Bool) → max_rows < t.m
-    → due (table_tests (lts t a b c) room) ≡ due (table_tests (with_rows t s) room)
-unfolding due with_rows
-many-rows t s a b c room h = rw (lt-leb t.m max_rows h)
-
 pub many-counted : (t : Table) (a b c : List ℕ) (room : Bool) → max_rows < t.m → due (table_tests (lts t a b c) room) ≡ due (count_tests t)
 unfolding due
 many-counted t a b c room h = rw (lt-leb t.m max_rows h)

@@ -14,4 +14,4 @@ read_file_lem κs a r q x y = determined same_table (λ c. skip 1 (c.0, (c.1.0, 
 
 -- the bytes
 pub write_file_lem : OneResult writing_said.write_file.ended writing.write_file.Reads.Learnt
-write_file_lem κs a r q x y = determined same_number (λ c. skip 6 (c, tt)) r q
+write_file_lem κs a r q x y = determined same_number (λ c. skip 3 (c, tt)) r q

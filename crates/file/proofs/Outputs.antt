@@ -6,7 +6,7 @@ use mathlib.Core.Path.{refl, ap, sym, ◌∙◌}
 use mathlib.Core.List.{append_assoc}
 use lib.ListN.{length-append}
 use lib.Seq.{sets}
-use Rattle.columns.specs.declared.answers.Refusal.{Refusal}
+use Rattle.columns.specs.Answers.{Refusal}
 use Rattle.columns.specs.Columns.{over}
 use Rattle.columns.specs.Due.{states_test, room_test}
 use Rattle.columns.specs.Limits.{max_states}

@@ -18,7 +18,7 @@ use Rattle.columns.proofs.Laid.{laid_at, length_even}
 use Rattle.columns.proofs.Lists.{listed_cong, listed_cells}
 use Rattle.columns.proofs.Saying.{left_done}
 use Rattle.table.specs.Lts.{Lts, Valid, row_at}
-use Rattle.table.specs.Tables.{Three, lengths_of, columns_in, columns_over, table_of}
+use Rattle.table.specs.Tables.{Three, lengths_of, header_values, columns_in, columns_over, table_of}
 use Rattle.file.specs.Bytes.{little, bytes_of, words}
 use Rattle.file.specs.Layout.{
   rows_length_at,
@@ -35,7 +35,7 @@ use Rattle.file.specs.Layout.{
   first_label,
   first_target,
 }
-use Rattle.file.specs.Input.{header_in, column, table_in, field_tests, file_refusal, header_numbers, read_file}
+use Rattle.file.specs.Input.{header_in, column, table_in, field_tests, file_refusal, read_file}
 use Rattle.file.specs.Output.{table_bytes, input_contents, input_bytes, output_blocks, output_contents, output_bytes}
 use Rattle.file.specs.Decoded.{table_out, blocks_out}
 use Rattle.file.proofs.Behind.{little_at, ReadBack, reads_back}
@@ -154,7 +154,7 @@ module _ (t : Lts) (v : Valid t) where
   unfolding read_file
   read_back out room =
       sym (left_done (file_refusal s (lengths_of out)) none (sym (of_accepted s (lengths_of out) (accepted_input (lengths_of out) room))) out
-      (columns_over (columns_in (table_in s)) out) (header_numbers (header_in s)) (done (header_numbers (header_in s))) _ refl refl refl)
+      (columns_over (columns_in (table_in s)) out) (header_values (header_in s)) (done (header_values (header_in s))) _ refl refl refl)
       ∙ ap (λ (u : Lts). (done (u.n ∷ u.labels ∷ u.m ∷ u.initial ∷ []), columns_over (columns_in u) out)) table_back
 
 -- ---- an output file: the number in the place of a block is the block

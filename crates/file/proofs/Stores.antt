@@ -1,8 +1,8 @@
 -- Bytes stored one run behind the other, and how long the runs are.
-use Rattle.std.specs.Prelude.{◌≡◌, ℕ, zero, suc, ◌+◌, ◌*◌, ◌/◌, ◌<◌, ◌≤◌, List, [], ◌∷◌, ◌++◌, length, get_or, drop, set}
+use Rattle.std.specs.Prelude.{◌≡◌, ℕ, zero, suc, ◌+◌, ◌*◌, ◌/◌, ◌≤◌, List, [], ◌∷◌, ◌++◌, length, get_or, drop, set}
 use native.Mathlib.Omega.{arith}
 use mathlib.Core.Path.{refl, ap, sym, ◌∙◌}
-use lib.Seq.{sets, sets-eq, length-sets}
+use lib.Seq.{sets, sets-eq}
 use Rattle.columns.specs.Columns.{laid, over}
 use Rattle.columns.proofs.Laid.{laid_more, length_even}
 use Rattle.file.specs.Bytes.{bytes_of, words}
@@ -35,27 +35,11 @@ unfolding words
 length-words l = length_even (λ i. bytes_of 2 (get_or l i 0)) 2 (length l) (λ i. length-bytes 2 (get_or l i 0))
 
 -- ---- a loop that stores runs of the same length: i of them are stored
-pub record Stored (h : ℕ → List ℕ) (from m : ℕ) (b : List ℕ) (i : ℕ) (x : List ℕ) : Type 0 where
-  pub bound : i ≤ m
-  pub bytes : x ≡ sets b from (laid h i)
-  pub size : length x ≡ length b
+abbrev pub Stored : (ℕ → List ℕ) → ℕ → List ℕ → ℕ → List ℕ → Type 0
+Stored h from b i x = x ≡ sets b from (laid h i)
 
-module _ (h : ℕ → List ℕ) (from m : ℕ) (b : List ℕ) where
-  pub stored_none : Stored h from m b 0 b
-  unfolding laid
-  stored_none = record { bound = omega arith; bytes = refl; size = refl }
-
-  pub stored_more :
-      (w i j : ℕ) (x y : List ℕ) → ((k : ℕ) → length (h k) ≡ w) → i < m → j ≡ from + w * i → y ≡ sets x j (h i)
-      → Stored h from m b i x → Stored h from m b (i + 1) y
-  stored_more w i j x y e l q f p = record {
-    bound = omega arith;
-    bytes = sets_then b x y from j (laid h i) (h i) p.bytes f (omega (arith, q, length_even h w i e))
-        ∙ ap (sets b from) (sym (laid_more h i));
-    size = ap length f ∙ length-sets x j (h i) ∙ p.size;
-  }
-
-  pub stored_done : (i : ℕ) (x : List ℕ) → Stored h from m b i x → m ≤ i → x ≡ sets b from (laid h m)
-  stored_done i x p l =
-      let e : i ≡ m = omega (arith, p.bound) in
-      p.bytes ∙ ap (λ (k : ℕ). sets b from (laid h k)) e
+pub stored_more :
+    (h : ℕ → List ℕ) (from : ℕ) (b : List ℕ) (w i j : ℕ) (x y : List ℕ) → ((k : ℕ) → length (h k) ≡ w) → j ≡ from + w * i
+    → y ≡ sets x j (h i) → Stored h from b i x → Stored h from b (i + 1) y
+stored_more h from b w i j x y e q f p =
+    sets_then b x y from j (laid h i) (h i) p f (omega (arith, q, length_even h w i e)) ∙ ap (sets b from) (sym (laid_more h i))

@@ -1,6 +1,6 @@
 -- An input file: the table that stands in it, its refusal, and what reading it leaves.
 use Rattle.std.specs.Prelude.{ℕ, ◌+◌, ◌*◌, Bool, cond, ◌&&◌, List, [], ◌∷◌, ◌++◌, length, ◌==◌, nat_le}
-use Rattle.columns.specs.declared.answers.Refusal.{Refusal}
+use Rattle.columns.specs.Answers.{Refusal}
 use Rattle.columns.specs.Answers.{Said, leaving}
 use Rattle.columns.specs.Columns.{listed}
 use Rattle.columns.specs.Due.{Test, test, due, all_long, states_test, labels_test}
@@ -8,7 +8,7 @@ use Rattle.columns.specs.Limits.{max_rows, wrong_rows, wrong_contents}
 use Rattle.table.specs.declared.Table.{Table}
 use Rattle.table.specs.Lts.{Lts, lts}
 use Rattle.table.specs.Checks.{rows_long, bad_row, table_tests}
-use Rattle.table.specs.Tables.{Three, lengths_of, columns_in, columns_over}
+use Rattle.table.specs.Tables.{Three, lengths_of, columns_in, columns_over, header_values}
 use Rattle.file.specs.Bytes.{little}
 use Rattle.file.specs.Layout.{
   header_kind,
@@ -128,9 +128,6 @@ unfolding file_refusal long_refusal
 held_refusal front size columns = cond (nat_le size largest_input) (file_refusal front columns) (long_refusal front size)
 
 -- ---- reading: the header is said, and the rows go over the first cells of three columns
-abbrev pub header_numbers : Table → List ℕ
-header_numbers t = t.n ∷ t.labels ∷ t.m ∷ t.initial ∷ []
-
 unfoldable pub read_file : List ℕ → Three → Said × Three
 unfolding leaving file_refusal header_in columns_over table_in
-read_file s out = leaving (file_refusal s (lengths_of out)) out (header_numbers (header_in s)) (columns_over (columns_in (table_in s)) out)
+read_file s out = leaving (file_refusal s (lengths_of out)) out (header_values (header_in s)) (columns_over (columns_in (table_in s)) out)

@@ -1,6 +1,6 @@
 -- The bytes of a file: an input file with kinds 1 and 2, an output file with kinds 1, 2 and 3, and what writing one leaves.
 use Rattle.std.specs.Prelude.{◌≡◌, ℕ, ◌+◌, ◌*◌, List, [], ◌∷◌, ◌++◌, length, take, nat_le, slice_index}
-use Rattle.columns.specs.declared.answers.Refusal.{Refusal}
+use Rattle.columns.specs.Answers.{Refusal}
 use Rattle.columns.specs.Answers.{Said, leaving}
 use Rattle.columns.specs.Columns.{laid, over}
 use Rattle.columns.specs.Due.{due, states_test, Roomy, room_test}

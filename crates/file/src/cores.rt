@@ -2,7 +2,7 @@
 ghost use Rattle.std.specs.Prelude.{◌≡◌, ◌+◌, ◌*◌, ◌<◌, ◌≤◌, length};
 ghost use Rattle.std.proofs.lemmas.List.Edits.{sets};
 ghost use Rattle.columns.specs.Columns.{over};
-ghost use Rattle.table.specs.Lts.{RowsLong, lts};
+ghost use Rattle.table.specs.Lts.{RowsLong, lts_of};
 ghost use Rattle.table.specs.Tables.{Three, columns_in, columns_over};
 ghost use Rattle.file.specs.Input.{header_in, column, with_rows};
 ghost use Rattle.file.specs.Layout.{row_size, input_rows, output_header, output_rows};
@@ -14,7 +14,7 @@ use crate::layout::{
     OUTPUT_ROWS, ROW_COUNT_AT, ROW_SIZE, ROWS_ENTRY, ROWS_KIND, STATES_AT,
 };
 use crate::numbers::{number_at, put_number, put_words};
-use table::Table;
+use table::{Lts, Table};
 
 // The header in a file.
 pub fn header(bytes: &[u8]) -> Table
@@ -38,10 +38,8 @@ fn read_column(bytes: &[u8], from: usize, m: usize, to: &mut [u16])
     requires { (m ≤ length to.old) × (m < 65536) × (from + row_size * m ≤ length bytes.now + 4) × (from < 65536) }
     ensures { to.new ≡ over (column bytes.now from m) to.old }
 {
-    let mut i = 0;
-    while i < m {
+    for i in 0..m {
         to[i] = number_at(bytes, from + ROW_SIZE * i, 2) as u16;
-        i += 1;
     }
 }
 
@@ -99,19 +97,16 @@ fn put_contents(m: usize, k: usize, bytes: &mut [u8])
 }
 
 // The rows, behind the header.
-fn put_rows(table: Table, source: &[u16], label: &[u16], target: &[u16], bytes: &mut [u8])
-    requires { RowsLong (lts table source.now label.now target.now) × (output_blocks table.m ≤ length bytes.old) }
-    ensures { bytes.new ≡ sets bytes.old output_rows (rows_bytes (lts table source.now label.now target.now)) }
+fn put_rows(system: &Lts<'_>, bytes: &mut [u8])
+    requires { RowsLong (lts_of system.now) × (output_blocks system.now.table.m ≤ length bytes.old) }
+    ensures { bytes.new ≡ sets bytes.old output_rows (rows_bytes (lts_of system.now)) }
 {
-    let m = table.m as usize;
-    let mut i = 0;
-    while i < m {
+    for i in 0..system.table.m as usize {
         put_words(
-            &[source[i], label[i], target[i]],
-            &mut *bytes,
+            &[system.source[i], system.label[i], system.target[i]],
+            bytes,
             OUTPUT_ROWS + ROW_SIZE * i,
         );
-        i += 1;
     }
 }
 
@@ -124,26 +119,19 @@ pub fn output_size(m: usize, k: usize) -> usize
 }
 
 // The table, and a block for each state of another, over the first bytes.
-pub fn write(
-    table: Table,
-    source: &[u16],
-    label: &[u16],
-    target: &[u16],
-    blocks: &[u16],
-    bytes: &mut [u8],
-)
-    requires rows_long { RowsLong (lts table source.now label.now target.now) × (length blocks.now < 65536) }
-    requires blocks_in_bounds { output_size table.m (length blocks.now) ≤ length bytes.old }
-    ensures { bytes.new ≡ over (output_bytes (lts table source.now label.now target.now) blocks.now) bytes.old }
+pub fn write(system: &Lts<'_>, blocks: &[u16], bytes: &mut [u8])
+    requires rows_long { RowsLong (lts_of system.now) × (length blocks.now < 65536) }
+    requires blocks_in_bounds { output_size system.now.table.m (length blocks.now) ≤ length bytes.old }
+    ensures { bytes.new ≡ over (output_bytes (lts_of system.now) blocks.now) bytes.old }
 {
+    let table = system.table;
     let m = table.m as usize;
-    let end = OUTPUT_ROWS + ROW_SIZE * m;
     put_contents(m, blocks.len(), &mut *bytes);
     put_words(
         &[table.n, table.labels, table.m, table.initial],
         &mut *bytes,
         OUTPUT_HEADER,
     );
-    put_rows(table, source, label, target, &mut *bytes);
-    put_words(blocks, &mut *bytes, end);
+    put_rows(system, &mut *bytes);
+    put_words(blocks, bytes, OUTPUT_ROWS + ROW_SIZE * m);
 }

@@ -9,9 +9,7 @@ pub fn number_at(bytes: &[u8], at: usize, width: usize) -> usize
     ensures { (result ≡ little width bytes.now at) × (result < 256 ^ width) }
 {
     let mut x = 0;
-    let mut i = at + width;
-    while at < i {
-        i -= 1;
+    for i in (at..at + width).rev() {
         x = bytes[i] as usize + 256 * x;
     }
     x
@@ -23,11 +21,9 @@ pub fn put_number(x: usize, width: usize, bytes: &mut [u8], at: usize)
     ensures { bytes.new ≡ sets bytes.old at (bytes_of width x) }
 {
     let mut rest = x;
-    let mut i = at;
-    while i < at + width {
-        bytes[i] = (rest % 256) as u8;
+    for byte in &mut bytes[at..at + width] {
+        *byte = (rest % 256) as u8;
         rest /= 256;
-        i += 1;
     }
 }
 
@@ -36,9 +32,7 @@ pub fn put_words(cells: &[u16], bytes: &mut [u8], at: usize)
     requires { at + 2 * length cells.now ≤ length bytes.old }
     ensures { bytes.new ≡ sets bytes.old at (words cells.now) }
 {
-    let mut i = 0;
-    while i < cells.len() {
-        put_number(cells[i] as usize, 2, &mut *bytes, at + 2 * i);
-        i += 1;
+    for (i, &cell) in cells.iter().enumerate() {
+        put_number(cell as usize, 2, bytes, at + 2 * i);
     }
 }

@@ -3,9 +3,10 @@ ghost use Rattle.std.specs.Prelude.{◌≡◌};
 ghost use Rattle.table.specs.Tables.{Three, said_table};
 ghost use Rattle.file.specs.Input.{read_file};
 
-use crate::checks::file_refusal;
+use crate::checks::check_file;
 use crate::cores::{header, read_rows};
-use table::answers::{TableAnswer, refusing_table, table_of};
+use columns::answers::Answer;
+use table::Table;
 
 // Reads an input file: its rows over the first m cells of the columns. Answers its header.
 pub fn read_file(
@@ -13,22 +14,15 @@ pub fn read_file(
     source: &mut [u16],
     label: &mut [u16],
     target: &mut [u16],
-) -> TableAnswer
+) -> Answer<Table>
     ensures { let given : Three = (source.old, (label.old, target.old)) in
         let left : Three = (source.new, (label.new, target.new)) in
         (said_table result, left) ≡ read_file bytes.now given }
 {
-    let t = file_refusal(bytes, &[source.len(), label.len(), target.len()]);
-    let number = t.number;
-    if number != 0 {
-        return refusing_table(t);
+    if let Err(refusal) = check_file(bytes, &[source.len(), label.len(), target.len()]) {
+        return Answer::refused(refusal);
     }
     let table = header(bytes);
     read_rows(table, bytes, source, label, target);
-    table_of(
-        table.n as u64,
-        table.labels as u64,
-        table.m as u64,
-        table.initial as u64,
-    )
+    Answer::done(table)
 }

@@ -6,7 +6,7 @@ use lib.ListN.{length-append}
 use Rattle.columns.specs.Answers.{Said, done, refused, none}
 use Rattle.columns.specs.Columns.{over}
 use Rattle.columns.specs.Due.{due, room_test}
-use Rattle.columns.specs.declared.answers.Refusal.{Refusal}
+use Rattle.columns.specs.Answers.{Refusal}
 use Rattle.columns.proofs.Chains.{Holds, parted, passed_both, goes_on_lem, ends}
 use Rattle.columns.proofs.Doing.{leaving_done}
 use Rattle.columns.proofs.Lists.{take-over}
@@ -18,8 +18,8 @@ use Rattle.file.proofs.Inputs.{accepted_of}
 use Rattle.file.proofs.Outputs.{length_output}
 use Rattle.file.proofs.Theorems.{of_file}
 use Rattle.file_reduction.specs.Reducing.{reduced_bytes, reduced_size, file_numbers, reduce_tests, reduce_file}
-use Rattle.file_reduction.proofs.Ties.{few_rows, room_left}
-use Rattle.reduction.proofs.Entries.{length-blocks}
+use Rattle.file_reduction.proofs.Ties.{room_left}
+use Rattle.reduction.proofs.Entries.{length-blocks, few_rows}
 use Rattle.refinement_strong.specs.Reduction.{strong_blocks, quotient_of, strong_reduced}
 use Rattle.table.specs.Checks.{table_tests}
 use Rattle.table.specs.Lts.{Lts, Valid}

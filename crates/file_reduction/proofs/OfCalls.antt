@@ -1,5 +1,5 @@
 -- What the contract of `reduce_file` allows, sentence by sentence: demand 3 for the bytes of the two files.
-use Rattle.std.specs.Prelude.{◌≡◌, ℕ, ◌<◌, ◌≤◌, ◌↔◌, List, [], length, get_or}
+use Rattle.std.specs.Prelude.{◌≡◌, ℕ, ◌<◌, ◌≤◌, ◌↔◌, List, [], length}
 use mathlib.Core.Path.{sym, ap, subst, ◌∙◌}
 use native.Mathlib.Omega.{arith}
 use contract.Lifetimes.{Lfts}
@@ -14,22 +14,22 @@ use Rattle.file.specs.Decoded.{table_out, blocks_out}
 use Rattle.file.specs.Input.{table_in}
 use Rattle.file.specs.Layout.{largest_output}
 use Rattle.file.specs.Output.{FileOf}
-use Rattle.file.proofs.RoundTrip.{Exact, exact_rows, output_back}
+use Rattle.file.proofs.RoundTrip.{exact_rows, output_back}
 use Rattle.file_reduction.specs.Answers.{said_file}
 use Rattle.file_reduction.specs.Reducing.{reduced_bytes, file_numbers, reduce_file}
-use Rattle.file_reduction.specs.declared.answers.FileAnswer.{FileAnswer}
+use Rattle.columns.specs.declared.answers.Answer.{Answer}
+use Rattle.file_reduction.specs.declared.answers.Written.{Written}
 use Rattle.file_reduction.proofs.Done as D
-use Rattle.file_reduction.proofs.Ties.{few_blocks}
 use Rattle.file_reduction.specs.contracts.reduce_file.{signature, ended}
 use Rattle.file_reduction.proofs.reduce_file.Reads.{Post}
-use Rattle.reduction.proofs.Entries.{length-blocks}
+use Rattle.reduction.proofs.Entries.{length-blocks, few_blocks}
 use Rattle.refinement_strong.specs.Reduction.{strong_blocks, strong_block, strong_count, strong_rows, quotient_of, strong_reduced}
 use Rattle.refinement_strong.proofs.Reductions.{block_below, reduced_valid}
 use Rattle.refinement_strong.proofs.Theorems as T
 use Rattle.table.specs.Lts.{Lts, rows, Step, Valid}
 
 -- a call of `reduce_file`: its parameters on entry, its answer, and its parameters at return, as its contract allows them
-module _ (κs : Lfts 2) (entry : Args signature κs) (answer : FileAnswer) (exit : AtExit ended κs) (met : Post κs entry answer exit) where
+module _ (κs : Lfts 2) (entry : Args signature κs) (answer : Answer Written) (exit : AtExit ended κs) (met : Post κs entry answer exit) where
   -- the bytes that are given, those that are lent for the output, and what these are at return
   abbrev pub input : List ℕ
   input = entry.0.now

@@ -1,24 +1,27 @@
 -- Any two results that the contract of `reduce_file` allows are equal.
 use Rattle.std.specs.Prelude.{◌≡◌}
-use mathlib.Core.Path.{sym, ap}
 use Rattle.columns.specs.OneResult.{OneResult}
+use Rattle.columns.specs.declared.answers.Answer.{Answer}
 use Rattle.columns.proofs.OneResult.{skip, determined}
-use Rattle.columns.proofs.Saying.{same-refusal, apart}
-use Rattle.file_reduction.specs.Answers.{said_file_outcome, said_file}
-use Rattle.file_reduction.specs.declared.answers.FileAnswer.{FileAnswer}
-use Rattle.file_reduction.specs.declared.answers.FileOutcome.{FileOutcome}
-use Rattle.file_reduction.specs.declared.answers.FileOutcome.TheVariants as F
+use Rattle.columns.proofs.Saying.{same_said}
+use Rattle.file_reduction.specs.Answers.{file_values, said_file}
+use Rattle.file_reduction.specs.declared.answers.Written.{Written}
 use Rattle.file_reduction.specs.contracts.reduce_file as call_said
 use Rattle.file_reduction.proofs.reduce_file as call
 
-same_outcome : (a b : FileOutcome) → said_file_outcome a ≡ said_file_outcome b → a ≡ b
-same_outcome (F.Done b n l m k r i) (F.Done b₁ n₁ l₁ m₁ k₁ r₁ i₁) e = cc
-same_outcome (F.Done b n l m k r i) (F.Refused q) e = absurd (apart _ _ _ e)
-same_outcome (F.Refused q) (F.Done b n l m k r i) e = absurd (apart _ _ _ (sym e))
-same_outcome (F.Refused r) (F.Refused q) e = ap F.Refused (same-refusal r q e)
+same_values : (a b : Written) → file_values a ≡ file_values b → a ≡ b
+same_values a b e =
+    let w : a.bytes ≡ b.bytes = cc in
+    let n : a.states ≡ b.states = cc in
+    let l : a.labels ≡ b.labels = cc in
+    let m : a.rows ≡ b.rows = cc in
+    let k : a.blocks ≡ b.blocks = cc in
+    let r : a.reduced_rows ≡ b.reduced_rows = cc in
+    let t : a.rounds ≡ b.rounds = cc in
+    λ i. record { bytes = w i; states = n i; labels = l i; rows = m i; blocks = k i; reduced_rows = r i; rounds = t i }
 
-pub same_file : (a b : FileAnswer) → said_file a ≡ said_file b → a ≡ b
-same_file a b e = λ i. record { outcome = same_outcome a.outcome b.outcome e i }
+pub same_file : (a b : Answer Written) → said_file a ≡ said_file b → a ≡ b
+same_file = same_said file_values same_values
 
 -- the bytes of the output
 pub reduce_file_lem : OneResult call_said.ended call.Reads.Learnt

@@ -8,7 +8,7 @@ use Rattle.bisimulation.specs.Quotient.{Belongs}
 use Rattle.columns.specs.Answers.{done, none}
 use Rattle.columns.specs.Columns.{over}
 use Rattle.columns.specs.Due.{due, room_test}
-use Rattle.columns.specs.declared.answers.Refusal.{Refusal}
+use Rattle.columns.specs.Answers.{Refusal}
 use Rattle.columns.proofs.Chains.{Holds, parted, passed_both, goes_on_lem}
 use Rattle.columns.proofs.Doing.{leaving_done}
 use Rattle.columns.proofs.Saying.{left_done}
@@ -21,8 +21,8 @@ use Rattle.file.proofs.Outputs.{length_output}
 use Rattle.file.proofs.RoundTrip.{block_back}
 use Rattle.file.proofs.Theorems.{of_file}
 use Rattle.file_reduction.specs.Reducing.{reduced_bytes, reduced_size, file_numbers, reduce_tests, reduce_file}
-use Rattle.file_reduction.proofs.Ties.{few_blocks, few_rows, room_left}
-use Rattle.reduction.proofs.Entries.{length-blocks}
+use Rattle.file_reduction.proofs.Ties.{room_left}
+use Rattle.reduction.proofs.Entries.{length-blocks, few_blocks, few_rows}
 use Rattle.refinement_strong.specs.Reduction.{strong_blocks, strong_block, strong_rows, quotient_of, strong_reduced}
 use Rattle.refinement_strong.proofs.Bisimulations.{valid_range}
 use Rattle.refinement_strong.proofs.Reductions.{block_below}

@@ -23,9 +23,8 @@ use Rattle.file.proofs.Held.{due-after}
 use Rattle.file_reduction.specs.Reducing.{reduced_bytes, reduce_table, put_file}
 use Rattle.reduction.proofs.Entries.{length-blocks}
 use Rattle.refinement_strong.specs.Reduction.{strong_blocks, strong_block, strong_rounds, strong_count, strong_rows, quotient_of, strong_reduced}
-use Rattle.refinement_strong.proofs.Reductions.{reduced_valid}
 use Rattle.table.specs.Checks.{table_tests}
-use Rattle.table.specs.Lts.{Lts, lts, Valid}
+use Rattle.table.specs.Lts.{Lts, lts}
 use Rattle.table.specs.Tables.{Three, table_of}
 use Rattle.table.specs.declared.Table.{Table}
 use Rattle.table.proofs.Tables.{laid_table}
@@ -93,16 +92,6 @@ put_reduced h source label target out rounds u blocks output p q r =
     leaving (due (room_test (output_size rows (length-blocks t i)) (length output) ∷ [])) output
     (output_size rows (length-blocks t i) ∷ t.n ∷ t.labels ∷ t.m ∷ strong_count t ∷ rows ∷ strong_rounds t ∷ [])
     (over (reduced_bytes_lem t out i) output))
-
--- the reduced table fits its columns
-module _ (t : Lts) (v : Valid t) where
-  pub few_blocks : strong_count t ≤ max_states
-  unfolding strong_reduced quotient_of table_of
-  few_blocks = (reduced_valid t v).few_states
-
-  pub few_rows : length (strong_rows t) ≤ max_rows
-  unfolding strong_reduced quotient_of table_of
-  few_rows = (reduced_valid t v).few_rows
 
 -- ---- the block column: its first n cells lent and come back
 module _ (t : Lts) (column p : List ℕ) (e : p ≡ strong_blocks t) where

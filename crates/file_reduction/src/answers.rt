@@ -1,36 +1,13 @@
 // The answer of a reduction from file to file.
-ghost use Rattle.std.specs.Prelude.{◌≡◌};
-ghost use Rattle.columns.specs.Answers.{refused};
-ghost use Rattle.file_reduction.specs.Answers.{said_file};
 
-use columns::answers::Refusal;
-
-// The outcome: how many bytes are written; states, labels and rows of the source; blocks and rows of the result; and how many rounds
-// split something.
-#[derive(Clone, Copy)]
-pub enum FileOutcome {
-    Done {
-        bytes: u64,
-        states: u64,
-        labels: u64,
-        rows: u64,
-        blocks: u64,
-        reduced_rows: u64,
-        rounds: u64,
-    },
-    Refused(Refusal),
-}
-
-#[derive(Clone, Copy)]
-pub struct FileAnswer {
-    pub outcome: FileOutcome,
-}
-
-// A call that was refused.
-pub fn refusing_file(r: Refusal) -> FileAnswer
-    ensures { said_file result ≡ refused r.number r.place }
-{
-    FileAnswer {
-        outcome: FileOutcome::Refused(r),
-    }
+// How many bytes are written; states, labels and rows of the source; blocks and rows of the result; and how many rounds split something.
+#[derive(Clone, Copy, PartialEq, Eq, Debug)]
+pub struct Written {
+    pub bytes: u64,
+    pub states: u64,
+    pub labels: u64,
+    pub rows: u64,
+    pub blocks: u64,
+    pub reduced_rows: u64,
+    pub rounds: u64,
 }

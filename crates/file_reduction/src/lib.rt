@@ -8,37 +8,30 @@ ghost use Rattle.file.specs.Input.{table_in, named_end};
 ghost use Rattle.file_reduction.specs.Answers.{said_file};
 ghost use Rattle.file_reduction.specs.Reducing.{put_file, reduce_table, reduce_file};
 ghost use Rattle.refinement_strong.specs.Reduction.{strong_blocks, strong_rounds, strong_count, strong_rows};
-ghost use Rattle.table.specs.Lts.{RowsLong, Valid, lts};
+ghost use Rattle.table.specs.Lts.{RowsLong, Valid, lts_of};
 ghost use Rattle.table.specs.Tables.{Three, rows_over};
 
 pub mod answers;
 
-use crate::answers::{FileAnswer, FileOutcome, refusing_file};
-use columns::answers::refuse;
-use columns::cells::at;
-use columns::limits::{MAX_ROWS, MAX_STATES, NO_ROOM};
-use file::checks::file_refusal;
+use crate::answers::Written;
+use columns::answers::{Answer, Refusal};
+use columns::limits::{MAX_ROWS, MAX_STATES};
+use file::checks::check_file;
 use file::cores::{header, output_size, read_rows, write};
 use quotient::cores::quotient_rows;
 use reduction::cores::strong_blocks;
 use refinement_rounds::running::RunEnd;
-use table::Table;
+use table::{Lts, Table};
 
 // How many cells a work slice has for the largest table: n + m + 1.
 const WORK: usize = MAX_STATES + MAX_ROWS + 1;
 
 // The number of each state's final block in `block`, which has n cells. Answers how many rounds split something, and how many blocks there
 // are. The work slices are the call's own.
-fn find_blocks(
-    table: Table,
-    source: &[u16],
-    label: &[u16],
-    target: &[u16],
-    block: &mut [u16],
-) -> RunEnd
-    requires { Valid (lts table source.now label.now target.now) × (length block.old ≡ table.n) }
-    ensures { let system = lts table source.now label.now target.now in
-        (result.rounds ≡ strong_rounds system) × (result.count ≡ strong_count system) × (block.new ≡ strong_blocks system) }
+fn find_blocks(system: &Lts<'_>, block: &mut [u16]) -> RunEnd
+    requires { Valid (lts_of system.now) × (length block.old ≡ system.now.table.n) }
+    ensures { let t = lts_of system.now in
+        (result.rounds ≡ strong_rounds t) × (result.count ≡ strong_count t) × (block.new ≡ strong_blocks t) }
 {
     let mut elements = [0u16; WORK];
     let mut element_offset = [0u16; WORK];
@@ -51,10 +44,7 @@ fn find_blocks(
     let mut blocks = [0u16; WORK];
     let mut spare = [0u16; WORK];
     strong_blocks(
-        table,
-        source,
-        label,
-        target,
+        system,
         block,
         &mut elements,
         &mut element_offset,
@@ -72,19 +62,16 @@ fn find_blocks(
 // The rows between the final blocks over the first cells of the result columns. Answers how many they are. The work slices are the call's
 // own.
 fn rows_between(
-    table: Table,
-    source: &[u16],
-    label: &[u16],
-    target: &[u16],
+    system: &Lts<'_>,
     block: &[u16],
     result_source: &mut [u16],
     result_label: &mut [u16],
     result_target: &mut [u16],
 ) -> usize
-    requires fact { let system = lts table source.now label.now target.now in
-        Valid system × (block.now ≡ strong_blocks system) }
-    requires each_long { EachLong table.m (result_source.old ∷ result_label.old ∷ result_target.old ∷ []) }
-    ensures { let between = strong_rows (lts table source.now label.now target.now) in
+    requires fact { let t = lts_of system.now in
+        Valid t × (block.now ≡ strong_blocks t) }
+    requires each_long { EachLong system.now.table.m (result_source.old ∷ result_label.old ∷ result_target.old ∷ []) }
+    ensures { let between = strong_rows (lts_of system.now) in
         let out : Three = (result_source.old, (result_label.old, result_target.old)) in
         let out_left : Three = (result_source.new, (result_label.new, result_target.new)) in
         (result ≡ length between) × (out_left ≡ rows_over between out) }
@@ -95,10 +82,7 @@ fn rows_between(
     let mut order = [0u16; MAX_ROWS];
     let mut spare = [0u16; MAX_ROWS];
     quotient_rows(
-        table,
-        source,
-        label,
-        target,
+        system,
         block,
         false,
         false,
@@ -117,99 +101,68 @@ fn rows_between(
 fn put_file(
     table: Table,
     rounds: usize,
-    reduced: Table,
-    source: &[u16],
-    label: &[u16],
-    target: &[u16],
+    reduced: &Lts<'_>,
     blocks: &[u16],
     output: &mut [u8],
-) -> FileAnswer
-    requires { RowsLong (lts reduced source.now label.now target.now) × (length blocks.now < 65536) }
-    ensures { let between = lts reduced source.now label.now target.now in
-        (said_file result, output.new) ≡ put_file table rounds between blocks.now output.old }
+) -> Answer<Written>
+    requires { RowsLong (lts_of reduced.now) × (length blocks.now < 65536) }
+    ensures { (said_file result, output.new) ≡ put_file table rounds (lts_of reduced.now) blocks.now output.old }
 {
-    let needed = output_size(reduced.m as usize, blocks.len());
-    if output.len() < needed {
-        return refusing_file(refuse(NO_ROOM, needed as u64));
+    let size = output_size(reduced.table.m as usize, blocks.len());
+    if output.len() < size {
+        let needed = size as u64;
+        return Answer::refused(Refusal::NoRoom { needed });
     }
-    write(reduced, source, label, target, blocks, output);
-    FileAnswer {
-        outcome: FileOutcome::Done {
-            bytes: needed as u64,
-            states: table.n as u64,
-            labels: table.labels as u64,
-            rows: table.m as u64,
-            blocks: reduced.n as u64,
-            reduced_rows: reduced.m as u64,
-            rounds: rounds as u64,
-        },
-    }
+    write(reduced, blocks, output);
+    Answer::done(Written {
+        bytes: size as u64,
+        states: table.n as u64,
+        labels: table.labels as u64,
+        rows: table.m as u64,
+        blocks: reduced.table.n as u64,
+        reduced_rows: reduced.table.m as u64,
+        rounds: rounds as u64,
+    })
 }
 
 // Writes the reduced table of one whose blocks are found, in so many rounds and so many blocks.
-fn put_reduced(
-    table: Table,
-    source: &[u16],
-    label: &[u16],
-    target: &[u16],
-    block: &[u16],
-    found: RunEnd,
-    output: &mut [u8],
-) -> FileAnswer
-    requires { let system = lts table source.now label.now target.now in
-        Valid system × (block.now ≡ strong_blocks system) × (found.rounds ≡ strong_rounds system) × (found.count ≡ strong_count system) }
-    ensures { (said_file result, output.new) ≡ reduce_table (lts table source.now label.now target.now) output.old }
+fn put_reduced(system: &Lts<'_>, block: &[u16], found: RunEnd, output: &mut [u8]) -> Answer<Written>
+    requires { let t = lts_of system.now in
+        Valid t × (block.now ≡ strong_blocks t) × (found.rounds ≡ strong_rounds t) × (found.count ≡ strong_count t) }
+    ensures { (said_file result, output.new) ≡ reduce_table (lts_of system.now) output.old }
 {
-    let mut result_source = [0u16; MAX_ROWS];
-    let mut result_label = [0u16; MAX_ROWS];
-    let mut result_target = [0u16; MAX_ROWS];
-    let rows = rows_between(
-        table,
-        source,
-        label,
-        target,
-        block,
-        &mut result_source,
-        &mut result_label,
-        &mut result_target,
-    );
-    let reduced = Table {
+    let mut source = [0u16; MAX_ROWS];
+    let mut label = [0u16; MAX_ROWS];
+    let mut target = [0u16; MAX_ROWS];
+    let rows = rows_between(system, block, &mut source, &mut label, &mut target);
+    let table = Table {
         n: found.count as u16,
-        labels: table.labels,
+        labels: system.table.labels,
         m: rows as u16,
-        initial: at(block, table.initial as usize) as u16,
+        initial: block[system.table.initial as usize],
     };
-    put_file(
+    let reduced = Lts {
         table,
-        found.rounds,
-        reduced,
-        &result_source,
-        &result_label,
-        &result_target,
-        block,
-        output,
-    )
+        source: &source,
+        label: &label,
+        target: &target,
+    };
+    put_file(system.table, found.rounds, &reduced, block, output)
 }
 
 // Reduces a table that is checked, and writes the result.
-fn reduce_table(
-    table: Table,
-    source: &[u16],
-    label: &[u16],
-    target: &[u16],
-    output: &mut [u8],
-) -> FileAnswer
-    requires { Valid (lts table source.now label.now target.now) }
-    ensures { (said_file result, output.new) ≡ reduce_table (lts table source.now label.now target.now) output.old }
+fn reduce_table(system: &Lts<'_>, output: &mut [u8]) -> Answer<Written>
+    requires { Valid (lts_of system.now) }
+    ensures { (said_file result, output.new) ≡ reduce_table (lts_of system.now) output.old }
 {
     let mut block = [0u16; MAX_STATES];
-    let n = table.n as usize;
-    let found = find_blocks(table, source, label, target, &mut block[..n]);
-    put_reduced(table, source, label, target, &block[..n], found, output)
+    let n = system.table.n as usize;
+    let found = find_blocks(system, &mut block[..n]);
+    put_reduced(system, &block[..n], found, output)
 }
 
 // Reads the rows of a file that is checked, and reduces its table.
-fn reduce_checked(input: &[u8], output: &mut [u8]) -> FileAnswer
+fn reduce_checked(input: &[u8], output: &mut [u8]) -> Answer<Written>
     requires { Valid (table_in input.now) × (length input.now ≡ named_end input.now) }
     ensures { (said_file result, output.new) ≡ reduce_table (table_in input.now) output.old }
 {
@@ -219,18 +172,22 @@ fn reduce_checked(input: &[u8], output: &mut [u8]) -> FileAnswer
     let table = header(input);
     let m = table.m as usize;
     read_rows(table, input, &mut source, &mut label, &mut target);
-    reduce_table(table, &source[..m], &label[..m], &target[..m], output)
+    let system = Lts {
+        table,
+        source: &source[..m],
+        label: &label[..m],
+        target: &target[..m],
+    };
+    reduce_table(&system, output)
 }
 
 // The strong reduction of an input file, as an output file over the first bytes. Answers how many bytes are written, and what was reduced
 // to what. A refusal writes nothing.
-pub fn reduce_file(input: &[u8], output: &mut [u8]) -> FileAnswer
+pub fn reduce_file(input: &[u8], output: &mut [u8]) -> Answer<Written>
     ensures { (said_file result, output.new) ≡ reduce_file input.now output.old }
 {
-    let t = file_refusal(input, &[MAX_ROWS, MAX_ROWS, MAX_ROWS]);
-    let number = t.number;
-    if number != 0 {
-        return refusing_file(t);
+    if let Err(refusal) = check_file(input, &[MAX_ROWS, MAX_ROWS, MAX_ROWS]) {
+        return Answer::refused(refusal);
     }
     reduce_checked(input, output)
 }

@@ -6,3 +6,4 @@ pub mod Theorems
 pub mod Examples
 pub mod Determined
 pub mod OneResult
+pub mod Found

@@ -2,25 +2,25 @@
 use Rattle.std.specs.Prelude.{◌≡◌, ℕ, zero, suc, ◌+◌, ◌-◌, ◌<◌, ◌≤◌, Bool, true, false, ◌&&◌, ltb, leb, List, [], ◌∷◌}
 use native.Mathlib.Omega.{arith}
 use native.Mathlib.Nat.{eq-or-lt_of_le}
-use borrow.Author.Tests.{ltb-true, lt-ltb, le-ltb, le-leb, lt-leb}
+use borrow.Author.Tests.{ltb-true, lt-ltb, le-ltb}
 use mathlib.Core.Path.{refl, ap, ap₂, sym, ◌∙◌}
 use mathlib.Core.Logic.{⊎_elim}
 use Rattle.columns.specs.Columns.{NeverFalls}
 use Rattle.columns.specs.Limits.{wrong_list}
-use Rattle.columns.specs.Answers.{refusal, none}
+use Rattle.columns.specs.Answers.{none}
 use Rattle.columns.specs.Counting.{first}
-use Rattle.columns.specs.Due.{test, due}
+use Rattle.columns.specs.Due.{Test, test, due}
 use Rattle.columns.specs.Sets.{Pair, pair_lt, Ascending}
 use Rattle.columns.proofs.All.{top_or-below, lt-or-le, not-below}
 use Rattle.columns.proofs.Bools.{contra, fails, cases, and_both, and_no_left, and_no_right, or_left, or_right}
-use Rattle.columns.proofs.Chains.{Holds, none-due, goes_on_lem}
+use Rattle.columns.proofs.Chains.{Holds, passed}
 use Rattle.columns.proofs.Counting.{first_law}
 use Rattle.columns.proofs.Firsts.{NoneBelow, first_hit, first-none, none_of, some_in, some-none}
 use Rattle.columns.proofs.Orders.{pair_order}
 use Rattle.columns.proofs.Risings.{rising_of, ascending_of, of_ascending}
 use Rattle.columns.specs.Rows.{pair_at}
 use Rattle.pairs.specs.Pairs.{end_of, bad_pair, least_test}
-use Rattle.pairs.specs.Lists.{start_at, list_at, bad_start, bad_in_lists, lists_tests, lists_refusal, Starts, Lists}
+use Rattle.pairs.specs.Lists.{start_at, list_at, bad_start, bad_in_lists, lists_tests, Starts, Lists}
 use Rattle.pairs.proofs.Refusals.{least_of, of_least, pair_before, pair_above, above_pair}
 
 -- ---- starts
@@ -36,10 +36,6 @@ module _ (starts : List ℕ) (end : ℕ) where
       sym
       (or_left (ltb 0 u && ltb (start_at starts u) (start_at starts (u - 1))) (ltb end (start_at starts u))
       (and_both (lt-ltb 0 u (omega arith)) (lt-ltb (start_at starts u) (start_at starts (u - 1)) h)))
-
-  pub start_first : (u : ℕ) → start_at starts u ≤ end → u ≡ 0 → false ≡ bad_start starts end u
-  unfolding bad_start
-  start_first u h e = sym (rw (le-ltb 0 u (omega arith)) (le-ltb end (start_at starts u) h))
 
   pub start_right : (u : ℕ) → start_at starts u ≤ end → start_at starts (u - 1) ≤ start_at starts u → false ≡ bad_start starts end u
   unfolding bad_start
@@ -80,9 +76,6 @@ module _ (starts labels blocks : List ℕ) where
   -- pair j lies in list u and is bad there
   abbrev pub bad_in : ℕ → ℕ → Bool
   bad_in j u = ltb j (start_at starts (u + 1)) && bad_pair labels blocks (start_at starts u) j
-
-  pub clean_none : Clean 0
-  clean_none v h = absurd (omega (arith, h))
 
   pub clean_more : (u bad to : ℕ) → to ≡ start_at starts (u + 1) → bad ≡ first to (bad_pair labels blocks (start_at starts u)) → to ≤ bad →
       Clean u → Clean (u + 1)
@@ -189,24 +182,27 @@ module _ (starts : List ℕ) (n : ℕ) (labels blocks : List ℕ) where
     ),
   )
 
-  -- ---- the two places of a refusal, as they are found
+  -- ---- the two tests, as they are made: which start is bad, and which pair
+  abbrev pub starts_test : Test
+  starts_test = least_test (n + 1) (bad_start starts (end_of labels blocks))
+
+  abbrev pub pairs_test : Test
+  pairs_test = least_test (end_of labels blocks) (bad_in_lists starts n labels blocks)
+
   module _ (end bad : ℕ) (ends : end ≡ end_of labels blocks) (found : bad ≡ first (n + 1) (bad_start starts end)) where
-    found_in : bad ≡ first (n + 1) (bad_start starts (end_of labels blocks))
-    found_in = found ∙ ap (λ (e : ℕ). first (n + 1) (bad_start starts e)) ends
+    pub starts_asked : due (test (ltb n bad) wrong_list bad ∷ []) ≡ due (starts_test ∷ [])
+    starts_asked =
+        let more : suc n ≡ n + 1 = omega arith in
+        ap (λ (m : ℕ). due (test (leb m bad) wrong_list bad ∷ [])) more
+        ∙ ap (λ (k : ℕ). due (test (leb (n + 1) k) wrong_list k ∷ [])) (found ∙ ap (λ (e : ℕ). first (n + 1) (bad_start starts e)) ends)
 
-    pub bad_start_found : bad ≤ n → refusal wrong_list bad ≡ lists_refusal starts n labels blocks
-    unfolding lists_refusal due
-    bad_start_found h = rw (← found_in, lt-leb (n + 1) bad (omega arith))
+    pub starts_found : none ≡ due (test (ltb n bad) wrong_list bad ∷ []) → Starts starts n end
+    starts_found e =
+        let h : n < bad = ltb-true n bad (passed (test (ltb n bad) wrong_list bad ∷ []) refl none e refl).0 in
+        starts_of starts end n (none_of (n + 1) (bad_start starts end) (omega (arith, found)))
 
-    pub starts_found : n < bad → Starts starts n end
-    starts_found h = starts_of starts end n (none_of (n + 1) (bad_start starts end) (omega (arith, found)))
-
-    pub bad_pair_found : (i : ℕ) → n < bad → i ≡ first end (bad_in_lists starts n labels blocks)
-        → due (test (leb end i) wrong_list i ∷ []) ≡ lists_refusal starts n labels blocks
-    unfolding lists_refusal
-    bad_pair_found i h e =
-        let first-test = least_test (n + 1) (bad_start starts (end_of labels blocks)) in
+    pub pairs_asked : (i : ℕ) → i ≡ first end (bad_in_lists starts n labels blocks)
+        → due (test (leb end i) wrong_list i ∷ []) ≡ due (pairs_test ∷ [])
+    pairs_asked i e =
         ap (λ (k : ℕ). due (test (leb end k) wrong_list k ∷ [])) e
         ∙ ap (λ (k : ℕ). due (least_test k (bad_in_lists starts n labels blocks) ∷ [])) ends
-        ∙ goes_on_lem (first-test ∷ []) (least_test (end_of labels blocks) (bad_in_lists starts n labels blocks) ∷ []) refl none
-        (sym (none-due (first-test ∷ []) (le-leb (n + 1) _ (omega (arith, found_in)), tt))) refl

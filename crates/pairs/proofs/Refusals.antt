@@ -29,6 +29,14 @@ shorter_right a b = go (ltb a b) refl
     go true e = let h = ltb-true a b e in omega arith
     go false e = omega arith
 
+pub below_shorter : (a b j : ℕ) → j < a → j < b → j < shorter a b
+unfolding shorter
+below_shorter a b j h k = go (ltb a b)
+  where
+    go : (t : Bool) → j < cond t a b
+    go true = h
+    go false = k
+
 -- ---- 15 at the least index that is bad
 module _ (n : ℕ) (bad : ℕ → Bool) where
   pub least_of : leb n (first n bad) ≡ true → NoneBelow bad n

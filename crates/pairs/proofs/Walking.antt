@@ -53,10 +53,6 @@ module _ (f : ℕ → Pair) (i : ℕ) (x : Pair) where
         (eq-or-lt_of_le a))
         (lt-or-le k r)
 
--- an index that was found to stand for a pair is below the end
-pub stands_below : (r n : ℕ) (found p : Bool) → found ≡ (ltb r n && p) → not found ≡ false → r < n
-stands_below r n found p e h = ltb-true r n (and_left (ltb r n) p (sym e ∙ not-false found h))
-
 -- pair j of g is the excluded one, or in f
 abbrev pub kept : ℕ → (ℕ → Pair) → (ℕ → Pair) → Pair → ℕ → Bool
 kept n f g x j = pair_eq (g j) x || some n (λ i. pair_eq (f i) (g j))

@@ -1,7 +1,7 @@
 -- Lists of pairs that lie flat in two columns, with n + 1 starts: list u is the pairs from start u to before start u + 1.
 use Rattle.std.specs.Prelude.{ℕ, ◌+◌, ◌-◌, ◌<◌, ◌≤◌, Bool, ◌&&◌, ◌||◌, List, [], ◌∷◌, nat_lt, slice_index}
 use Rattle.columns.specs.Columns.{NeverFalls}
-use Rattle.columns.specs.declared.answers.Refusal.{Refusal}
+use Rattle.columns.specs.Answers.{Refusal}
 use Rattle.columns.specs.Counting.{first, some}
 use Rattle.columns.specs.Due.{Test, due}
 use Rattle.columns.specs.Sets.{Pair, pair_lt, Ascending}

@@ -1,6 +1,6 @@
 -- Whether every pair of one list, apart from the excluded one, is in another.
 use Rattle.std.specs.Prelude.{ℕ, Bool, not, ◌&&◌, ◌||◌, List, [], ◌∷◌, nat_le}
-use Rattle.columns.specs.declared.answers.Refusal.{Refusal}
+use Rattle.columns.specs.Answers.{Refusal}
 use Rattle.columns.specs.Answers.{Said, answering}
 use Rattle.columns.specs.Counting.{bit, first, all}
 use Rattle.columns.specs.Due.{due}

@@ -19,14 +19,9 @@ pub fn pass_below(
     requires { (i ≤ n) × (n ≤ length labels.now) × (n ≤ length blocks.now) }
     ensures { result ≡ not_below labels.now blocks.now n i (label, block) }
 {
-    let mut k = i;
-    while k < n {
-        if !below(labels[k], blocks[k], label, block) {
-            return k;
-        }
-        k += 1;
-    }
-    k
+    (i..n)
+        .find(|&k| !below(labels[k], blocks[k], label, block))
+        .unwrap_or(n)
 }
 
 // Whether k is below n and pair k is (label, block).
@@ -54,21 +49,14 @@ pub fn subset(
     ensures { result ≡ subsetb self_labels.now self_blocks.now other_labels.now other_blocks.now (label, block) }
 {
     let n = shorter(self_labels.len(), self_blocks.len());
-    let m = shorter(other_labels.len(), other_blocks.len());
     let mut i = 0;
-    let mut j = 0;
-    while j < m {
-        let l = other_labels[j];
-        let b = other_blocks[j];
-        if equal(l, b, label, block) {
-            j += 1;
-        } else {
+    for (&l, &b) in other_labels.iter().zip(other_blocks) {
+        if !equal(l, b, label, block) {
             let k = pass_below(self_labels, self_blocks, n, i, l, b);
             if !stands(self_labels, self_blocks, n, k, l, b) {
                 return false;
             }
             i = k + 1;
-            j += 1;
         }
     }
     true

@@ -10,9 +10,9 @@ ghost use Rattle.std.specs.Prelude.{◌≡◌};
 ghost use Rattle.columns.specs.Answers.{said_flag};
 ghost use Rattle.pairs.specs.Subset.{is_subset_of};
 
-use crate::checks::subset_refusal;
+use crate::checks::check_subset;
 use crate::cores::subset;
-use columns::answers::{FlagAnswer, flag, refusing_flag};
+use columns::answers::Answer;
 
 // Whether every pair of other, apart from (label, block), is in self. Each list lies in two columns and ends with the
 // shorter of them.
@@ -23,13 +23,11 @@ pub fn is_subset_of(
     other_blocks: &[u16],
     label: u16,
     block: u16,
-) -> FlagAnswer
+) -> Answer<bool>
     ensures { said_flag result ≡ is_subset_of self_labels.now self_blocks.now other_labels.now other_blocks.now (label, block) }
 {
-    let t = subset_refusal(self_labels, self_blocks, other_labels, other_blocks);
-    let refused = t.number;
-    if refused != 0 {
-        return refusing_flag(t);
+    if let Err(refusal) = check_subset(self_labels, self_blocks, other_labels, other_blocks) {
+        return Answer::refused(refusal);
     }
     let found = subset(
         self_labels,
@@ -39,5 +37,5 @@ pub fn is_subset_of(
         label,
         block,
     );
-    flag(found)
+    Answer::done(found)
 }

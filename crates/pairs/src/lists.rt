@@ -1,15 +1,15 @@
 // Given lists of pairs: flat in two columns, with n + 1 starts; list u is the pairs from start u to before start u + 1.
 // No entry points: what a call that is lent such lists tests.
 ghost use Rattle.std.specs.Prelude.{◌≡◌, ◌+◌, ◌<◌, ◌≤◌, length, slice_index};
+ghost use Rattle.columns.specs.Answers.{checked};
 ghost use Rattle.columns.specs.Counting.{first};
 ghost use Rattle.pairs.specs.Pairs.{end_of};
 ghost use Rattle.pairs.specs.Lists.{bad_start, bad_in_lists, Starts, lists_refusal};
 ghost use Rattle.columns.specs.Limits.{max_states};
 
 use crate::pairs::{first_bad, shorter};
-use columns::answers::{Refusal, refuse};
+use columns::answers::Refusal;
 use columns::checks::refuse_unless;
-use columns::limits::WRONG_LIST;
 
 // Start u, as an index.
 pub fn start(starts: &[u32], u: usize) -> usize
@@ -31,11 +31,7 @@ fn bad_start(starts: &[u32], end: usize, u: usize) -> bool
     if u == 0 {
         return false;
     }
-    if x < start(starts, u - 1) {
-        true
-    } else {
-        false
-    }
+    x < start(starts, u - 1)
 }
 
 // The first of the first n starts that is bad; n if there is none.
@@ -43,14 +39,7 @@ fn first_bad_start(n: usize, starts: &[u32], end: usize) -> usize
     requires { n ≤ length starts.now }
     ensures { result ≡ first n (bad_start starts.now end) }
 {
-    let mut u = 0;
-    while u < n {
-        if bad_start(starts, end, u) {
-            return u;
-        }
-        u += 1;
-    }
-    u
+    (0..n).find(|&u| bad_start(starts, end, u)).unwrap_or(n)
 }
 
 // The first pair that is not above the one before it in its list; the end if there is none.
@@ -59,29 +48,27 @@ fn first_bad_in(n: usize, starts: &[u32], labels: &[u16], blocks: &[u16], end: u
     requires starts { Starts starts.now n end }
     ensures { result ≡ first end (bad_in_lists starts.now n labels.now blocks.now) }
 {
-    let mut u = 0;
-    while u < n {
+    for u in 0..n {
         let to = start(starts, u + 1);
         let bad = first_bad(labels, blocks, start(starts, u), to);
         if bad < to {
             return bad;
         }
-        u += 1;
     }
     end
 }
 
 // 15 at the first start that lies below the one before or past the end; else at the first pair that is not above the one
 // before it in its list.
-pub fn lists_refusal(n: usize, starts: &[u32], labels: &[u16], blocks: &[u16]) -> Refusal
+pub fn check_lists(n: usize, starts: &[u32], labels: &[u16], blocks: &[u16]) -> Result<(), Refusal>
     requires { (n + 1 ≤ length starts.now) × (n ≤ max_states) }
-    ensures { result ≡ lists_refusal starts.now n labels.now blocks.now }
+    ensures { checked result ≡ lists_refusal starts.now n labels.now blocks.now }
 {
     let end = shorter(labels.len(), blocks.len());
     let bad = first_bad_start(n + 1, starts, end);
-    if bad <= n {
-        return refuse(WRONG_LIST, bad as u64);
-    }
+    let index = bad as u64;
+    refuse_unless(n < bad, Refusal::WrongList { index })?;
     let bad = first_bad_in(n, starts, labels, blocks, end);
-    refuse_unless(end <= bad, WRONG_LIST, bad as u64)
+    let index = bad as u64;
+    refuse_unless(end <= bad, Refusal::WrongList { index })
 }

@@ -8,23 +8,14 @@ ghost use Rattle.pairs.specs.Pairs.{shorter, bad_pair};
 pub fn below(a: u16, b: u16, c: u16, d: u16) -> bool
     ensures { result ≡ pair_lt (a, b) (c, d) }
 {
-    if a < c {
-        return true;
-    }
-    if c < a {
-        return false;
-    }
-    if b < d { true } else { false }
+    (a, b) < (c, d)
 }
 
 // Whether the pairs (a, b) and (c, d) are equal.
 pub fn equal(a: u16, b: u16, c: u16, d: u16) -> bool
     ensures { result ≡ pair_eq (a, b) (c, d) }
 {
-    if a != c {
-        return false;
-    }
-    if b == d { true } else { false }
+    (a, b) == (c, d)
 }
 
 // The shorter of two lengths.
@@ -50,12 +41,7 @@ pub fn first_bad(labels: &[u16], blocks: &[u16], from: usize, to: usize) -> usiz
     requires { (from ≤ to) × (to ≤ length labels.now) × (to ≤ length blocks.now) }
     ensures { result ≡ first to (bad_pair labels.now blocks.now from) }
 {
-    let mut j = from;
-    while j < to {
-        if bad_pair(labels, blocks, from, j) {
-            return j;
-        }
-        j += 1;
-    }
-    j
+    (from..to)
+        .find(|&j| bad_pair(labels, blocks, from, j))
+        .unwrap_or(to)
 }

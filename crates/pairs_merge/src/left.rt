@@ -24,11 +24,7 @@ pub fn left_in(high: &[u16], low: &[u16], end_high: &[u16], end_low: &[u16], k: 
         × (k ≤ 16384) }
     ensures { (result ≡ left_in (heads [] [] high.now low.now end_high.now end_low.now) k) × (result ≤ k * 4294967296) }
 {
-    let mut j = 0;
-    let mut sum = 0;
-    while j < k {
-        sum += left_of(high, low, end_high, end_low, j);
-        j += 1;
-    }
-    sum
+    (0..k)
+        .map(|j| left_of(high, low, end_high, end_low, j))
+        .sum()
 }

@@ -5,7 +5,7 @@ use mathlib.Core.Bool.{Bool, true}
 use mathlib.Core.List.{[], ◌∷◌}
 use mathlib.Core.Path.{◌≡◌, refl}
 use Rattle.columns.specs.Limits.{max_states}
-use Rattle.columns.specs.declared.answers.Refusal.{Refusal}
+use Rattle.columns.specs.Answers.{Refusal}
 use Rattle.columns.specs.Due.{index_test}
 use Rattle.columns.proofs.Bools.{and_left, and_right}
 use Rattle.columns.proofs.Chains.{Holds, passed, passed_both}

@@ -7,7 +7,7 @@ use mathlib.Core.Path.{◌≡◌, refl, sym}
 use mathlib.Core.List.{[]}
 use lib.ListN.{length, get_or, take, drop, length-drop}
 use lib.Seq.{length-take-le}
-use Rattle.columns.specs.declared.answers.Refusal.{Refusal}
+use Rattle.columns.specs.Answers.{Refusal}
 use Rattle.partition.specs.Partition.{Partition}
 use Rattle.partition.specs.Checks.{block_refusal}
 use Rattle.partition.specs.Readers.{stretch, iter_block, iter_begin}

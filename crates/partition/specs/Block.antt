@@ -1,15 +1,12 @@
 -- One block given alone, and what a call says that answers one.
 use Rattle.std.specs.Prelude.{ℕ, ◌-◌, Bool, List, [], ◌∷◌, get_or, ltb}
 use Rattle.columns.specs.Limits.{inconsistent, max_states, out_of_range}
-use Rattle.columns.specs.declared.answers.Refusal.{Refusal}
-use Rattle.columns.specs.Answers.{Said, done, refused, answering}
+use Rattle.columns.specs.declared.answers.Answer.{Answer}
+use Rattle.columns.specs.Answers.{Refusal, Said, answering, said_by}
 use Rattle.columns.specs.Counting.{bit}
 use Rattle.columns.specs.Due.{test, due}
 use Rattle.partition.specs.Partition.{withinb}
 use Rattle.partition.specs.declared.block.Block.{Block}
-use Rattle.partition.specs.declared.block.BlockAnswer.{BlockAnswer}
-use Rattle.partition.specs.declared.block.BlockOutcome.{BlockOutcome}
-use Rattle.partition.specs.declared.block.BlockOutcome.TheVariants as B
 
 -- entry b of the block table
 abbrev pub entry : List ℕ → List ℕ → List ℕ → ℕ → Block
@@ -18,12 +15,8 @@ entry begin split end b = record { begin = get_or begin b 0; marked_split = get_
 abbrev pub block_values : Block → List ℕ
 block_values b = b.begin ∷ b.marked_split ∷ b.end ∷ []
 
-abbrev pub said_block_outcome : BlockOutcome → Said
-said_block_outcome (B.Done b) = done (block_values b)
-said_block_outcome (B.Refused r) = refused r.number r.place
-
-abbrev pub said_block : BlockAnswer → Said
-said_block a = said_block_outcome a.outcome
+abbrev pub said_block : Answer Block → Said
+said_block a = said_by block_values a
 
 -- a new block from begin to end with this split; 8 at end where the bounds are broken
 unfoldable pub new_block : ℕ → ℕ → ℕ → Said

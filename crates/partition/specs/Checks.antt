@@ -1,7 +1,7 @@
 -- The refusals of the calls that take a partition, in document 01's order.
 use Rattle.std.specs.Prelude.{ℕ, Bool, true, ◌&&◌, List, [], ◌∷◌, ◌++◌}
 use Rattle.columns.specs.Limits.{inconsistent, too_short}
-use Rattle.columns.specs.declared.answers.Refusal.{Refusal}
+use Rattle.columns.specs.Answers.{Refusal}
 use Rattle.columns.specs.Due.{Test, test, due, states_test, index_test}
 use Rattle.partition.specs.Partition.{Partition, consistentb, longb}
 

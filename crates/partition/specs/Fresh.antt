@@ -1,6 +1,6 @@
 -- What `BlockPartition::new` says and leaves: one block 0 of all states, order 0..n-1, all marked.
 use Rattle.std.specs.Prelude.{true, [], ◌∷◌, set}
-use Rattle.columns.specs.declared.answers.Refusal.{Refusal}
+use Rattle.columns.specs.Answers.{Refusal}
 use Rattle.columns.specs.Answers.{Said, leaving}
 use Rattle.columns.specs.Due.{due}
 use Rattle.columns.specs.Columns.{written, wiped}

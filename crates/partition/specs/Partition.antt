@@ -1,6 +1,7 @@
 -- When six columns hold a partition of n states into count blocks.
 use Rattle.std.specs.Prelude.{ℕ, ◌≤◌, ◌<◌, Bool, ◌&&◌, List, [], ◌∷◌, ◌≡◌, length, get_or, set, ltb, leb, eqb}
 use Rattle.columns.specs.Blocks.{block_of}
+use Rattle.partition.specs.declared.PartitionColumns.{PartitionColumns}
 use Rattle.columns.specs.Limits.{max_states}
 use Rattle.columns.specs.Due.{all_long}
 use Rattle.columns.specs.Inverse.{Inverse, inverseb}
@@ -21,6 +22,11 @@ pub record Partition : Type 0 where
 abbrev pub parts : List ℕ → List ℕ → List ℕ → List ℕ → List ℕ → List ℕ → ℕ → ℕ → Partition
 parts e o b x m z n count =
     record { elements = e; element_offset = o; element_to_block = b; begin = x; marked_split = m; end = z; n = n; count = count }
+
+-- the partition of n states into count blocks that columns hold which are lent to be read
+abbrev pub parts_of : PartitionColumns → ℕ → ℕ → Partition
+parts_of c n count =
+    parts c.elements.now c.element_offset.now c.element_to_block.now c.begin.now c.marked_split.now c.end.now n count
 
 -- the same blocks over another order
 abbrev pub reordered : Partition → List ℕ → List ℕ → Partition

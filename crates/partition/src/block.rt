@@ -4,32 +4,19 @@ ghost use Rattle.columns.specs.Answers.{said_number, said_flag};
 ghost use Rattle.partition.specs.Block.{said_block, new_block, boundedb, len, len_marked, has_marked, has_unmarked};
 
 use crate::checks::within;
-use columns::answers::{
-    FlagAnswer, NumberAnswer, Refusal, flag, number, refusing_flag, refusing_number,
-};
-use columns::limits::{INCONSISTENT, MAX_STATES, OUT_OF_RANGE};
+use columns::answers::{Answer, Refusal};
+use columns::limits::MAX_STATES;
 
-#[derive(Clone, Copy)]
+#[derive(Clone, Copy, PartialEq, Eq, Debug)]
 pub struct Block {
     pub begin: u16,
     pub marked_split: u16,
     pub end: u16,
 }
 
-// The outcome of a call that asks for a block.
-#[derive(Clone, Copy)]
-pub enum BlockOutcome {
-    Done(Block),
-    Refused(Refusal),
-}
-
-#[derive(Clone, Copy)]
-pub struct BlockAnswer {
-    pub outcome: BlockOutcome,
-}
-
 // The block from begin to end with this split; 8 at end where the bounds are broken.
-fn bounded(begin: u16, marked_split: u16, end: u16) -> BlockAnswer
+#[tactic(auto, unfolding(crate::specs::Block::new_block))]
+fn bounded(begin: u16, marked_split: u16, end: u16) -> Answer<Block>
     ensures { said_block result ≡ new_block begin marked_split end }
 {
     if !within(
@@ -38,38 +25,33 @@ fn bounded(begin: u16, marked_split: u16, end: u16) -> BlockAnswer
         end as usize,
         MAX_STATES,
     ) {
-        return BlockAnswer {
-            outcome: BlockOutcome::Refused(Refusal {
-                number: OUT_OF_RANGE,
-                place: end as u64,
-            }),
-        };
+        let argument = end as u64;
+        return Answer::refused(Refusal::OutOfRange { argument });
     }
-    BlockAnswer {
-        outcome: BlockOutcome::Done(Block {
-            begin,
-            marked_split,
-            end,
-        }),
-    }
+    Answer::done(Block {
+        begin,
+        marked_split,
+        end,
+    })
 }
 
 impl Block {
     // Every element marked.
-    pub fn new(begin: u16, end: u16) -> BlockAnswer
+    pub fn new(begin: u16, end: u16) -> Answer<Block>
         ensures { said_block result ≡ new_block begin begin end }
     {
         bounded(begin, begin, end)
     }
 
     // No element marked.
-    pub fn new_unmarked(begin: u16, end: u16) -> BlockAnswer
+    pub fn new_unmarked(begin: u16, end: u16) -> Answer<Block>
         ensures { said_block result ≡ new_block begin end end }
     {
         bounded(begin, end, end)
     }
 
     // Whether the bounds hold.
+    #[tactic(auto, unfolding(crate::specs::Block::boundedb))]
     fn sound(self) -> bool
         ensures { result ≡ boundedb self }
     {
@@ -82,58 +64,46 @@ impl Block {
     }
 
     // How many elements it has.
-    pub fn len(self) -> NumberAnswer
+    #[tactic(auto, unfolding(crate::specs::Block::len))]
+    pub fn len(self) -> Answer<u64>
         ensures { said_number result ≡ len self }
     {
         if !self.sound() {
-            return refusing_number(Refusal {
-                number: INCONSISTENT,
-                place: 0,
-            });
+            return Answer::refused(Refusal::Inconsistent);
         }
-        let b = self.begin as u64;
-        let e = self.end as u64;
-        number(e - b)
+        Answer::done((self.end - self.begin) as u64)
     }
 
     // How many of them are marked.
-    pub fn len_marked(self) -> NumberAnswer
+    #[tactic(auto, unfolding(crate::specs::Block::len_marked))]
+    pub fn len_marked(self) -> Answer<u64>
         ensures { said_number result ≡ len_marked self }
     {
         if !self.sound() {
-            return refusing_number(Refusal {
-                number: INCONSISTENT,
-                place: 0,
-            });
+            return Answer::refused(Refusal::Inconsistent);
         }
-        let m = self.marked_split as u64;
-        let e = self.end as u64;
-        number(e - m)
+        Answer::done((self.end - self.marked_split) as u64)
     }
 
     // Whether one is marked.
-    pub fn has_marked(self) -> FlagAnswer
+    #[tactic(auto, unfolding(crate::specs::Block::has_marked))]
+    pub fn has_marked(self) -> Answer<bool>
         ensures { said_flag result ≡ has_marked self }
     {
         if !self.sound() {
-            return refusing_flag(Refusal {
-                number: INCONSISTENT,
-                place: 0,
-            });
+            return Answer::refused(Refusal::Inconsistent);
         }
-        flag(self.marked_split < self.end)
+        Answer::done(self.marked_split < self.end)
     }
 
     // Whether one is not.
-    pub fn has_unmarked(self) -> FlagAnswer
+    #[tactic(auto, unfolding(crate::specs::Block::has_unmarked))]
+    pub fn has_unmarked(self) -> Answer<bool>
         ensures { said_flag result ≡ has_unmarked self }
     {
         if !self.sound() {
-            return refusing_flag(Refusal {
-                number: INCONSISTENT,
-                place: 0,
-            });
+            return Answer::refused(Refusal::Inconsistent);
         }
-        flag(self.begin < self.marked_split)
+        Answer::done(self.begin < self.marked_split)
     }
 }

@@ -91,11 +91,8 @@ pub fn renumber(elements: &[u16], element_to_block: &mut [u16], x: usize, z: usi
     requires by_index { (k : ℕ) → k < z → get_or elements.now k 0 < length element_to_block.old }
     ensures { element_to_block.new ≡ renumbered elements.now x z v element_to_block.old }
 {
-    let mut k = x;
-    while k < z {
-        let s = at(elements, k);
-        element_to_block[s] = v as u16;
-        k += 1;
+    for &s in &elements[x..z] {
+        element_to_block[s as usize] = v as u16;
     }
 }
 

@@ -1,16 +1,14 @@
 -- What an answer says that holds a partition: n and the block count. And the block count after an answer that says it.
-use Rattle.std.specs.Prelude.{ℕ, ◌-◌, [], ◌∷◌, length, slice_index_or}
-use Rattle.columns.specs.Answers.{Said, done, refused}
-use Rattle.partition_calls.specs.declared.PartitionAnswer.{PartitionAnswer}
-use Rattle.partition_calls.specs.declared.PartitionOutcome.{PartitionOutcome}
-use Rattle.partition_calls.specs.declared.PartitionOutcome.TheVariants as P
+use Rattle.std.specs.Prelude.{ℕ, ◌-◌, List, [], ◌∷◌, length, slice_index_or}
+use Rattle.columns.specs.Answers.{Said, done, refused, said_by}
+use Rattle.columns.specs.declared.answers.Answer.{Answer}
+use Rattle.partition_calls.specs.declared.BlockPartition.{BlockPartition}
 
-abbrev pub said_partition_outcome : PartitionOutcome → Said
-said_partition_outcome (P.Done p) = done (p.n ∷ p.count ∷ [])
-said_partition_outcome (P.Refused r) = refused r.number r.place
+abbrev pub partition_values : BlockPartition → List ℕ
+partition_values p = p.n ∷ p.count ∷ []
 
-abbrev pub said_partition : PartitionAnswer → Said
-said_partition a = said_partition_outcome a.outcome
+abbrev pub said_partition : Answer BlockPartition → Said
+said_partition a = said_by partition_values a
 
 -- the block count after a call that may change it: the last number that it says, and the old count where it is refused
 abbrev pub count_said : Said → ℕ → ℕ

@@ -7,10 +7,9 @@ ghost use Rattle.partition.specs.Mark.{mark_element};
 ghost use Rattle.partition.specs.SwapBlocks.{swap_blocks};
 ghost use Rattle.partition.specs.Partition.{parts};
 
-use crate::{BlockPartition, PartitionAnswer, PartitionOutcome};
-use columns::answers::{Answer, finished, refusing};
-use partition::checks::{argument_refusal, blocks_refusal, size_refusal};
-use partition::cores;
+use crate::BlockPartition;
+use columns::answers::Answer;
+use partition::{PartitionColumns, cores};
 
 impl BlockPartition {
     // One block 0 of all n states, in order, all marked.
@@ -22,40 +21,32 @@ impl BlockPartition {
         begin: &mut [u16],
         marked_split: &mut [u16],
         end: &mut [u16],
-    ) -> PartitionAnswer
+    ) -> Answer<BlockPartition>
         ensures { let given = parts elements.old element_offset.old element_to_block.old begin.old marked_split.old end.old n 1 in
             let left = parts elements.new element_offset.new element_to_block.new begin.new marked_split.new end.new n 1 in
             (said_partition result, left) ≡ new_partition given }
     {
-        let k = n as usize;
-        let t = size_refusal(
-            k,
-            &*elements,
-            &*element_offset,
-            &*element_to_block,
-            &*begin,
-            &*marked_split,
-            &*end,
-            true,
-        );
-        let number = t.number;
-        if number != 0 {
-            return PartitionAnswer {
-                outcome: PartitionOutcome::Refused(t),
-            };
+        let columns = PartitionColumns {
+            elements: &*elements,
+            element_offset: &*element_offset,
+            element_to_block: &*element_to_block,
+            begin: &*begin,
+            marked_split: &*marked_split,
+            end: &*end,
+        };
+        if let Err(refusal) = columns.check_size(n as usize, true) {
+            return Answer::refused(refusal);
         }
         cores::new(
-            k,
-            &mut *elements,
-            &mut *element_offset,
-            &mut *element_to_block,
-            &mut *begin,
-            &mut *marked_split,
-            &mut *end,
+            n as usize,
+            elements,
+            element_offset,
+            element_to_block,
+            begin,
+            marked_split,
+            end,
         );
-        PartitionAnswer {
-            outcome: PartitionOutcome::Done(BlockPartition { n, count: 1 }),
-        }
+        Answer::done(BlockPartition { n, count: 1 })
     }
 
     // Marks a state: it swaps places with the last unmarked one of its block. A marked one: no change.
@@ -68,40 +59,27 @@ impl BlockPartition {
         marked_split: &mut [u16],
         end: &[u16],
         element: u16,
-    ) -> Answer
+    ) -> Answer<()>
         ensures { let given = parts elements.old element_offset.old element_to_block.now begin.now marked_split.old end.now self.n
             self.count in
             let left = parts elements.new element_offset.new element_to_block.now begin.now marked_split.new end.now self.n self.count in
             (said result, left) ≡ mark_element given element }
     {
         let n = self.n as usize;
-        let count = self.count as usize;
         let s = element as usize;
-        let t = argument_refusal(
-            n,
-            count,
-            &*elements,
-            &*element_offset,
+        let columns = PartitionColumns {
+            elements: &*elements,
+            element_offset: &*element_offset,
             element_to_block,
             begin,
-            &*marked_split,
+            marked_split: &*marked_split,
             end,
-            s,
-            n,
-            true,
-        );
-        let number = t.number;
-        if number != 0 {
-            return refusing(t);
+        };
+        if let Err(refusal) = columns.check_argument(n, self.count as usize, s, n, true) {
+            return Answer::refused(refusal);
         }
-        cores::mark_element(
-            &mut *elements,
-            &mut *element_offset,
-            element_to_block,
-            &mut *marked_split,
-            s,
-        );
-        finished()
+        cores::mark_element(elements, element_offset, element_to_block, marked_split, s);
+        Answer::done(())
     }
 
     // Exchanges two blocks: their table entries, and the numbers of their states.
@@ -115,41 +93,26 @@ impl BlockPartition {
         end: &mut [u16],
         left_index: u16,
         right_index: u16,
-    ) -> Answer
+    ) -> Answer<()>
         ensures { let given = parts elements.now element_offset.now element_to_block.old begin.old marked_split.old end.old self.n
             self.count in
             let left = parts elements.now element_offset.now element_to_block.new begin.new marked_split.new end.new self.n self.count in
             (said result, left) ≡ swap_blocks given left_index right_index }
     {
-        let n = self.n as usize;
-        let count = self.count as usize;
         let l = left_index as usize;
         let r = right_index as usize;
-        let t = blocks_refusal(
-            n,
-            count,
+        let columns = PartitionColumns {
             elements,
             element_offset,
-            &*element_to_block,
-            &*begin,
-            &*marked_split,
-            &*end,
-            l,
-            r,
-        );
-        let number = t.number;
-        if number != 0 {
-            return refusing(t);
+            element_to_block: &*element_to_block,
+            begin: &*begin,
+            marked_split: &*marked_split,
+            end: &*end,
+        };
+        if let Err(refusal) = columns.check_blocks(self.n as usize, self.count as usize, l, r) {
+            return Answer::refused(refusal);
         }
-        cores::swap_blocks(
-            elements,
-            &mut *element_to_block,
-            &mut *begin,
-            &mut *marked_split,
-            &mut *end,
-            l,
-            r,
-        );
-        finished()
+        cores::swap_blocks(elements, element_to_block, begin, marked_split, end, l, r);
+        Answer::done(())
     }
 }

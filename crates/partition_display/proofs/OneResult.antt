@@ -7,4 +7,4 @@ use Rattle.partition_display.proofs.display as call
 
 -- the text
 pub display : OneResult call_said.ended call.Reads.Learnt
-display κs a r q x y = determined same_number (λ c. skip 7 (c, tt)) r q
+display κs a r q x y = determined same_number (λ c. skip 2 (c, tt)) r q

@@ -1,11 +1,11 @@
--- Laws of writing: nothing, one byte, one text behind another, and a text that fits.
+-- Laws of writing: nothing, one text behind another, and a text that fits.
 use Prim.Native.Nat.{ℕ, suc, ◌+◌, ◌*◌, ◌≤◌}
 use native.Mathlib.Numerals.{add-one}
 use native.Mathlib.Omega.{arith}
-use mathlib.Core.Path.{◌≡◌, refl, sym, ap, ◌∙◌}
+use mathlib.Core.Path.{◌≡◌, refl, ap, ◌∙◌}
 use mathlib.Core.List.{List, [], ◌∷◌, ◌++◌}
 use lib.ListN.{length, set, drop, length-append}
-use lib.Seq.{sets, sets-eq, set_out, length-sets}
+use lib.Seq.{sets, sets-eq}
 use Rattle.columns.specs.Columns.{over}
 use Rattle.partition_display.specs.Display.{separator, separated}
 use Rattle.partition_display.specs.Writing.{Wrote}
@@ -18,13 +18,6 @@ sets_append (a ∷ s) t l i =
 
 pub wrote_none : (l : List ℕ) (i : ℕ) → Wrote l i [] l i
 wrote_none l i = record { text = refl; place = omega arith }
-
-pub wrote_byte : (l : List ℕ) (i b : ℕ) → Wrote l i (b ∷ []) (set l i b) (i + 1)
-wrote_byte l i b = record { text = refl; place = omega arith }
-
--- a byte for which there is no room
-pub wrote_out : (l : List ℕ) (i b : ℕ) → length l ≤ i → Wrote l i (b ∷ []) l (i + 1)
-wrote_out l i b h = record { text = sym (set_out l i b h); place = omega arith }
 
 -- one text, and another behind it
 pub wrote_then : {l m n s t : List ℕ} {i j k : ℕ} → Wrote l i s m j → Wrote m j t n k → Wrote l i (s ++ t) n k
@@ -44,15 +37,11 @@ wrote_over {l} {m} {s} {j} w h =
     let e : 0 + length s ≡ length s = omega arith in
     w.text ∙ sets-eq s l 0 (rw e h) ∙ ap (λ (k : ℕ). s ++ drop k l) e
 
--- the length stays
-pub wrote_length : {l m s : List ℕ} {i j : ℕ} → Wrote l i s m j → length m ≡ length l
-wrote_length {l} {m} {s} {i} w = ap length w.text ∙ length-sets l i s
-
 -- ---- the loop that writes the texts f 0, f 1, .. with their separators
 module _ (f : ℕ → List ℕ) where
-  -- its invariant: k of n texts are written, each with its separator at most `most` bytes
-  abbrev pub Joining : ℕ → ℕ → List ℕ → ℕ → List ℕ → ℕ → ℕ → Type 0
-  Joining most n l i m j k = (k ≤ n) × ((j ≤ i + most * k) × Wrote l i (separated k f) m j)
+  -- its invariant: k texts are written, each with its separator at most `most` bytes
+  abbrev pub Joining : ℕ → List ℕ → ℕ → List ℕ → ℕ → ℕ → Type 0
+  Joining most l i m j k = record { short : j ≤ i + most * k; so_far : Wrote l i (separated k f) m j }
 
   pub separated-none : (l : List ℕ) (i : ℕ) → Wrote l i (separated 0 f) l i
   unfolding separated

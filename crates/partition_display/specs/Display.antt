@@ -1,7 +1,7 @@
 -- The text of a partition, as document 01 writes it: `{{2, 3, 0*}, {1}}`. A text is a list of bytes; 32 is a space, 42 a star,
 -- 44 a comma, 48 the digit 0, 123 and 125 the braces.
 use Rattle.std.specs.Prelude.{ℕ, zero, suc, ◌+◌, ◌-◌, ◌/◌, ◌%◌, cond, true, List, [], ◌∷◌, ◌++◌, length, get_or, ltb, leb, eqb}
-use Rattle.columns.specs.declared.answers.Refusal.{Refusal}
+use Rattle.columns.specs.Answers.{Refusal}
 use Rattle.columns.specs.Due.{due, room_test}
 use Rattle.columns.specs.Answers.{Said, leaving}
 use Rattle.columns.specs.Columns.{over}

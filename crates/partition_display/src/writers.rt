@@ -4,6 +4,7 @@ ghost use Rattle.partition_display.specs.Display.{digit, decimal, separator, ele
 ghost use Rattle.partition_display.specs.Writing.{Wrote, Readable};
 
 use columns::cells::at as cell;
+use partition::PartitionColumns;
 
 // One byte.
 fn write_byte(byte: u8, text: &mut [u8], at: usize) -> usize
@@ -11,10 +12,9 @@ fn write_byte(byte: u8, text: &mut [u8], at: usize) -> usize
     ensures wrote { Wrote text.old at (byte ∷ []) text.new result }
     ensures value { result ≡ at + 1 }
 {
-    if text.len() <= at {
-        return at + 1;
+    if at < text.len() {
+        text[at] = byte;
     }
-    text[at] = byte;
     at + 1
 }
 
@@ -36,10 +36,10 @@ fn write_number(x: usize, text: &mut [u8], at: usize) -> usize
     ensures wrote { Wrote text.old at (decimal x) text.new result }
     ensures upper_bound { result ≤ at + 4 }
 {
-    let a = write_digit(x, 1000, &mut *text, at);
-    let b = write_digit(x, 100, &mut *text, a);
-    let c = write_digit(x, 10, &mut *text, b);
-    write_byte(b'0' + (x % 10) as u8, &mut *text, c)
+    let a = write_digit(x, 1000, text, at);
+    let b = write_digit(x, 100, text, a);
+    let c = write_digit(x, 10, text, b);
+    write_byte(b'0' + (x % 10) as u8, text, c)
 }
 
 // The element at place k, with a star from `split` on.
@@ -49,11 +49,11 @@ fn write_element(elements: &[u16], split: usize, k: usize, text: &mut [u8], at: 
     ensures upper_bound { result ≤ at + 5 }
 {
     let x = cell(elements, k);
-    let next = write_number(x, &mut *text, at);
+    let next = write_number(x, text, at);
     if k < split {
         return next;
     }
-    write_byte(b'*', &mut *text, next)
+    write_byte(b'*', text, next)
 }
 
 // What stands before text k of a list: a comma and a space, and nothing before the first.
@@ -65,8 +65,8 @@ fn write_separator(k: usize, text: &mut [u8], at: usize) -> usize
     if k == 0 {
         return at;
     }
-    let next = write_byte(b',', &mut *text, at);
-    write_byte(b' ', &mut *text, next)
+    let next = write_byte(b',', text, at);
+    write_byte(b' ', text, next)
 }
 
 // The block of the places from `from` to `to`.
@@ -83,38 +83,27 @@ fn write_block(
     ensures wrote { Wrote text.old at (block_text elements.now from split to) text.new result }
     ensures upper_bound { result ≤ at + 7 * (to - from) + 2 }
 {
-    let size = to - from;
-    let mut next = write_byte(b'{', &mut *text, at);
-    let mut i = 0;
-    while i < size {
-        next = write_separator(i, &mut *text, next);
-        next = write_element(elements, split, from + i, &mut *text, next);
-        i += 1;
+    let mut next = write_byte(b'{', text, at);
+    for i in 0..to - from {
+        next = write_separator(i, text, next);
+        next = write_element(elements, split, from + i, text, next);
     }
-    write_byte(b'}', &mut *text, next)
+    write_byte(b'}', text, next)
 }
 
 // The blocks of the table, in order, from the first byte on.
-pub fn write_blocks(
-    count: usize,
-    elements: &[u16],
-    begin: &[u16],
-    marked_split: &[u16],
-    end: &[u16],
-    text: &mut [u8],
-) -> usize
-    requires { Readable elements.now begin.now marked_split.now end.now count }
-    ensures { Wrote text.old 0 (blocks_text elements.now begin.now marked_split.now end.now count) text.new result }
+pub fn write_blocks(count: usize, columns: &PartitionColumns<'_>, text: &mut [u8]) -> usize
+    requires { Readable columns.now.elements.now columns.now.begin.now columns.now.marked_split.now columns.now.end.now count }
+    ensures { let words = blocks_text columns.now.elements.now columns.now.begin.now columns.now.marked_split.now columns.now.end.now count in
+        Wrote text.old 0 words text.new result }
 {
-    let mut next = write_byte(b'{', &mut *text, 0);
-    let mut b = 0;
-    while b < count {
-        let from = cell(begin, b);
-        let split = cell(marked_split, b);
-        let to = cell(end, b);
-        next = write_separator(b, &mut *text, next);
-        next = write_block(elements, from, split, to, &mut *text, next);
-        b += 1;
+    let mut next = write_byte(b'{', text, 0);
+    for b in 0..count {
+        let from = cell(columns.begin, b);
+        let split = cell(columns.marked_split, b);
+        let to = cell(columns.end, b);
+        next = write_separator(b, text, next);
+        next = write_block(columns.elements, from, split, to, text, next);
     }
-    write_byte(b'}', &mut *text, next)
+    write_byte(b'}', text, next)
 }

@@ -1,25 +1,23 @@
 -- What `partition_marked_with` refuses, says and leaves.
 use Rattle.std.specs.Prelude.{ℕ, ◌+◌, Bool, ◌&&◌, ◌||◌, List, [], ◌∷◌, ◌++◌, length, ◌==◌, nat_le, nat_lt, slice_index}
 use Rattle.columns.specs.Limits.{not_dense, nothing_marked}
-use Rattle.columns.specs.declared.answers.Refusal.{Refusal}
-use Rattle.columns.specs.Answers.{Said, done, refused, leaving}
+use Rattle.columns.specs.Answers.{Refusal}
+use Rattle.columns.specs.Answers.{Said, said_by, leaving}
+use Rattle.columns.specs.declared.answers.Answer.{Answer}
 use Rattle.columns.specs.Due.{Test, test, due, index_test, all_long}
 use Rattle.columns.specs.Columns.{cleared}
 use Rattle.partition.specs.Partition.{Partition}
 use Rattle.partition.specs.Checks.{partition_tests}
 use Rattle.partition_division.specs.Marked.{missing, denseb, len_at}
 use Rattle.partition_division.specs.Divide.{partition_marked}
-use Rattle.partition_division.specs.declared.DivisionAnswer.{DivisionAnswer}
-use Rattle.partition_division.specs.declared.DivisionOutcome.{DivisionOutcome}
-use Rattle.partition_division.specs.declared.DivisionOutcome.TheVariants as D
+use Rattle.partition_division.specs.declared.Division.{Division}
 
 -- the old index, the first of the run of new ones, and the block count, which is its end
-abbrev pub said_division_outcome : DivisionOutcome → Said
-said_division_outcome (D.Done index first count) = done (index ∷ first ∷ count ∷ [])
-said_division_outcome (D.Refused r) = refused r.number r.place
+abbrev pub division_values : Division → List ℕ
+division_values d = d.index ∷ d.first ∷ d.count ∷ []
 
-abbrev pub said_division : DivisionAnswer → Said
-said_division a = said_division_outcome a.outcome
+abbrev pub said_division : Answer Division → Said
+said_division a = said_by division_values a
 
 -- 9 with nothing marked; 10 with numbers that are not dense, which a block of one state is not asked
 abbrev pub unfit_tests : Partition → ℕ → List ℕ → List Test

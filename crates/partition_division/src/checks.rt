@@ -1,32 +1,26 @@
 // What `partition_marked_with` refuses. No work memory is touched: numbers are noted in a local array.
-ghost use Rattle.std.specs.Prelude.{◌≡◌, ℕ, ◌<◌, ◌≤◌, true, ltb, List, [], ◌∷◌, length, if◌then◌else◌, ◌==◌, nat_eq, nat_lt, slice_index, slice_set};
+ghost use Rattle.std.specs.Prelude.{◌≡◌, ℕ, ◌<◌, ◌≤◌, true, ltb, [], ◌∷◌, length, if◌then◌else◌, ◌==◌, nat_eq, nat_lt, slice_index, slice_set};
+ghost use Rattle.columns.specs.Answers.{checked};
 ghost use Rattle.columns.specs.Due.{due};
 ghost use Rattle.columns.specs.Counting.{first, all};
 ghost use Rattle.partition.specs.Marked.{marked_from};
 ghost use Rattle.partition_passes.specs.Invariants.{tallied};
 ghost use Rattle.partition_division.specs.Division.{unfit_tests, refusal_for};
-ghost use Rattle.partition.specs.Partition.{parts};
+ghost use Rattle.partition.specs.Partition.{parts_of};
 ghost use Rattle.columns.specs.Limits.{max_states};
 
-use columns::answers::{Refusal, refuse};
+use columns::answers::Refusal;
 use columns::cells::at;
-use columns::checks::long;
-use columns::limits::{MAX_STATES, NONE, NOT_DENSE, NOTHING_MARKED};
-use partition::checks::argument_refusal;
+use columns::checks::{long, refuse_unless};
+use columns::limits::MAX_STATES;
+use partition::PartitionColumns;
 
 // Whether state s is a marked one of block b, whose marks begin at place m.
 fn is_marked(element_offset: &[u16], element_to_block: &[u16], b: usize, m: usize, s: usize) -> bool
     requires { (s < length element_offset.now) × (s < length element_to_block.now) }
     ensures { result ≡ marked_from element_offset.now element_to_block.now b m s }
 {
-    if at(element_to_block, s) != b {
-        return false;
-    }
-    if at(element_offset, s) < m {
-        false
-    } else {
-        true
-    }
+    at(element_to_block, s) == b && m <= at(element_offset, s)
 }
 
 // Cell k, if it is below n, becomes 1.
@@ -55,12 +49,10 @@ fn note(
     ensures { (k : ℕ) → k < n → (slice_index seen.new k == 0)
         ≡ (tallied (marked_from element_offset.now element_to_block.now b m) (λ s. slice_index numbers.now s) n k == 0) }
 {
-    let mut s = 0;
-    while s < n {
+    for s in 0..n {
         if is_marked(element_offset, element_to_block, b, m, s) {
-            note_one(n, at(numbers, s), &mut *seen);
+            note_one(n, at(numbers, s), seen);
         }
-        s += 1;
     }
 }
 
@@ -69,14 +61,7 @@ fn first_zero(n: usize, a: &[u16]) -> usize
     requires { n ≤ length a.now }
     ensures { result ≡ first n (λ k. nat_eq (slice_index a.now k) 0) }
 {
-    let mut k = 0;
-    while k < n {
-        if at(a, k) == 0 {
-            return k;
-        }
-        k += 1;
-    }
-    k
+    a[..n].iter().position(|&x| x == 0).unwrap_or(n)
 }
 
 // The least number that no marked state has. It takes no work memory.
@@ -119,10 +104,7 @@ fn below_at(
     requires { (s < length element_offset.now) × (s < length element_to_block.now) × (s < length numbers.now) }
     ensures { result ≡ (if marked_from element_offset.now element_to_block.now b m s then nat_lt (slice_index numbers.now s) k else true) }
 {
-    if !is_marked(element_offset, element_to_block, b, m, s) {
-        return true;
-    }
-    if at(numbers, s) < k { true } else { false }
+    !is_marked(element_offset, element_to_block, b, m, s) || at(numbers, s) < k
 }
 
 // Whether every marked state has a number below k.
@@ -139,98 +121,66 @@ fn all_below(
     ensures { result ≡ all n (λ s. (if marked_from element_offset.now element_to_block.now b m s then nat_lt (slice_index numbers.now s) k
         else true)) }
 {
-    let mut s = 0;
-    while s < n {
-        if !below_at(element_offset, element_to_block, b, m, k, s, numbers) {
-            return false;
-        }
-        s += 1;
-    }
-    true
+    (0..n).all(|s| below_at(element_offset, element_to_block, b, m, k, s, numbers))
 }
 
-// 9 or 10, the first that is due, for block b of columns that are checked, whatever the elements are.
-fn unfit_refusal(
+// 9 or 10, the first that is due, for block b of columns that are checked, whatever the block count is.
+fn check_unfit(
     n: usize,
-    element_offset: &[u16],
-    element_to_block: &[u16],
-    begin: &[u16],
-    marked_split: &[u16],
-    end: &[u16],
+    columns: &PartitionColumns<'_>,
     b: usize,
     numbers: &[u16],
-) -> Refusal
-    requires b_in_bounds { (b < length begin.now) × (b < length marked_split.now) × (b < length end.now)
-        × (slice_index begin.now b ≤ slice_index end.now b) }
-    requires n_in_bounds { (n ≤ length element_offset.now) × (n ≤ length element_to_block.now) × (n ≤ length numbers.now)
-        × (n ≤ max_states) }
-    ensures { (elements : List ℕ) (count : ℕ)
-        → result ≡ due (unfit_tests
-        (parts elements element_offset.now element_to_block.now begin.now marked_split.now end.now n count) b
-        numbers.now) }
+) -> Result<(), Refusal>
+    requires b_in_bounds { (b < length columns.now.begin.now) × (b < length columns.now.marked_split.now) × (b < length columns.now.end.now)
+        × (slice_index columns.now.begin.now b ≤ slice_index columns.now.end.now b) }
+    requires n_in_bounds { (n ≤ length columns.now.element_offset.now) × (n ≤ length columns.now.element_to_block.now)
+        × (n ≤ length numbers.now) × (n ≤ max_states) }
+    ensures { (count : ℕ) → checked result ≡ due (unfit_tests (parts_of columns.now n count) b numbers.now) }
 {
-    let m = at(marked_split, b);
-    let z = at(end, b);
-    if z <= m {
-        return refuse(NOTHING_MARKED, b as u64);
-    }
-    let x = at(begin, b);
+    let m = at(columns.marked_split, b);
+    let z = at(columns.end, b);
+    let block = b as u64;
+    refuse_unless(m < z, Refusal::NothingMarked { block })?;
+    let x = at(columns.begin, b);
     if z - x == 1 {
-        return refuse(NONE, 0);
+        return Ok(());
     }
-    let j = least_missing(n, element_offset, element_to_block, b, m, numbers);
-    if all_below(n, element_offset, element_to_block, b, m, j, numbers) {
-        return refuse(NONE, 0);
-    }
-    refuse(NOT_DENSE, j as u64)
+    let j = least_missing(
+        n,
+        columns.element_offset,
+        columns.element_to_block,
+        b,
+        m,
+        numbers,
+    );
+    let dense = all_below(
+        n,
+        columns.element_offset,
+        columns.element_to_block,
+        b,
+        m,
+        j,
+        numbers,
+    );
+    let missing = j as u64;
+    refuse_unless(dense, Refusal::NotDense { missing })
 }
 
 // The first refusal that the arguments call for; the work slices go by their lengths.
-pub fn division_refusal(
+pub fn check_division(
     n: usize,
     count: usize,
-    elements: &[u16],
-    element_offset: &[u16],
-    element_to_block: &[u16],
-    begin: &[u16],
-    marked_split: &[u16],
-    end: &[u16],
+    columns: &PartitionColumns<'_>,
     b: usize,
     numbers: &[u16],
     old_elements: usize,
     block_sizes: usize,
     spare: usize,
-) -> Refusal
+) -> Result<(), Refusal>
     requires { n < 65536 }
-    ensures { let given = parts elements.now element_offset.now element_to_block.now begin.now marked_split.now end.now n count in
-        result ≡ refusal_for given b numbers.now (old_elements ∷ block_sizes ∷ spare ∷ []) }
+    ensures { checked result ≡ refusal_for (parts_of columns.now n count) b numbers.now (old_elements ∷ block_sizes ∷ spare ∷ []) }
 {
     let works = long(n + 1, &[old_elements, block_sizes, spare]);
-    let t = argument_refusal(
-        n,
-        count,
-        elements,
-        element_offset,
-        element_to_block,
-        begin,
-        marked_split,
-        end,
-        b,
-        count,
-        (n <= numbers.len()) & works,
-    );
-    let number = t.number;
-    if number != 0 {
-        return t;
-    }
-    unfit_refusal(
-        n,
-        element_offset,
-        element_to_block,
-        begin,
-        marked_split,
-        end,
-        b,
-        numbers,
-    )
+    columns.check_argument(n, count, b, count, (n <= numbers.len()) & works)?;
+    check_unfit(n, columns, b, numbers)
 }

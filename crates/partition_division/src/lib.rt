@@ -9,21 +9,18 @@ ghost use Rattle.partition.specs.Partition.{parts};
 pub mod checks;
 pub mod cores;
 
-use crate::checks::division_refusal;
-use columns::answers::Refusal;
-use columns::clearing::clear_three;
+use crate::checks::check_division;
+use columns::answers::Answer;
+use columns::cells::clear;
+use partition::PartitionColumns;
 use partition_calls::BlockPartition;
 
-// The outcome: the old index, and the run of new blocks from `first` to before `count`, the block count now.
-#[derive(Clone, Copy)]
-pub enum DivisionOutcome {
-    Done { index: u64, first: u64, count: u64 },
-    Refused(Refusal),
-}
-
-#[derive(Clone, Copy)]
-pub struct DivisionAnswer {
-    pub outcome: DivisionOutcome,
+// What a division says: the old index, and the run of new blocks from `first` to before `count`, the block count now.
+#[derive(Clone, Copy, PartialEq, Eq, Debug)]
+pub struct Division {
+    pub index: u64,
+    pub first: u64,
+    pub count: u64,
 }
 
 // Partitions the marked states of a block by their numbers: each number gets a block, and the largest result the old index.
@@ -40,7 +37,7 @@ pub fn partition_marked_with(
     old_elements: &mut [u16],
     block_sizes: &mut [u16],
     spare: &mut [u16],
-) -> DivisionAnswer
+) -> Answer<Division>
     ensures { let given = parts elements.old element_offset.old element_to_block.old begin.old marked_split.old end.old partition.n
         partition.count in
         let left = parts elements.new element_offset.new element_to_block.new begin.new marked_split.new end.new partition.n
@@ -51,48 +48,47 @@ pub fn partition_marked_with(
     let n = partition.n as usize;
     let count = partition.count as usize;
     let b = block_index as usize;
-    let t = division_refusal(
+    let columns = PartitionColumns {
+        elements: &*elements,
+        element_offset: &*element_offset,
+        element_to_block: &*element_to_block,
+        begin: &*begin,
+        marked_split: &*marked_split,
+        end: &*end,
+    };
+    if let Err(refusal) = check_division(
         n,
         count,
-        &*elements,
-        &*element_offset,
-        &*element_to_block,
-        &*begin,
-        &*marked_split,
-        &*end,
+        &columns,
         b,
         numbers,
         old_elements.len(),
         block_sizes.len(),
         spare.len(),
-    );
-    let number = t.number;
-    if number != 0 {
-        return DivisionAnswer {
-            outcome: DivisionOutcome::Refused(t),
-        };
+    ) {
+        return Answer::refused(refusal);
     }
-    clear_three(&mut *old_elements, &mut *block_sizes, &mut *spare);
+    clear(old_elements);
+    clear(block_sizes);
+    clear(spare);
     let c = cores::partition_marked_with(
         n,
         count,
-        &mut *elements,
-        &mut *element_offset,
-        &mut *element_to_block,
-        &mut *begin,
-        &mut *marked_split,
-        &mut *end,
+        elements,
+        element_offset,
+        element_to_block,
+        begin,
+        marked_split,
+        end,
         b,
         numbers,
-        &mut *old_elements,
-        &mut *block_sizes,
-        &mut *spare,
+        old_elements,
+        block_sizes,
+        spare,
     );
-    DivisionAnswer {
-        outcome: DivisionOutcome::Done {
-            index: b as u64,
-            first: count as u64,
-            count: c as u64,
-        },
-    }
+    Answer::done(Division {
+        index: b as u64,
+        first: count as u64,
+        count: c as u64,
+    })
 }

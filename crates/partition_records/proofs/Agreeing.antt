@@ -5,18 +5,24 @@ use borrow.Author.Tests.{eqb-true}
 use mathlib.Core.Bool.{Bool, true, false, cond, ◌&&◌}
 use mathlib.Core.Logic.{◌⊎◌, ⊎_elim}
 use mathlib.Core.Path.{◌≡◌, refl, ap, sym, ◌∙◌}
-use mathlib.Core.List.{List, [], ◌∷◌, map}
+use mathlib.Core.List.{List, [], ◌∷◌, ◌++◌, map}
 use lib.Dec.{eqb}
-use lib.ListN.{length, get_or, take, length-map}
-use lib.Seq.{get_or-take, length-take-le, take_all}
+use lib.ListN.{length, get_or, take, drop, length-map}
+use lib.Seq.{get_or-take, length-take-le, take_all, take_at}
+use Rattle.std.specs.Prelude.{Result, Ok, Err}
+use Rattle.std.specs.List as list
+use Rattle.std.specs.Result.{is_ok}
+use Rattle.std.proofs.lemmas.List.Edits.{swap_is}
 use Rattle.columns.specs.Columns.{exchanged}
 use Rattle.columns.specs.Limits.{inconsistent, max_states, too_short, wrong_states}
-use Rattle.columns.specs.declared.answers.Refusal.{Refusal}
-use Rattle.columns.specs.Answers.{Said, done, refused, refusal, leaving}
+use Rattle.columns.specs.Answers.{Refusal, Said, done, refused, refusal, said, said_outcome, leaving}
+use Rattle.columns.specs.declared.answers.Refusal as code
+use Rattle.columns.specs.declared.answers.Answer.{Answer}
 use Rattle.columns.specs.Due.{test, due, in_range, index_test}
 use Rattle.columns.proofs.All.{lt-or-le}
 use Rattle.columns.proofs.Bools.{bool_ext}
 use Rattle.columns.proofs.Rooms.{range_high}
+use Rattle.columns.proofs.Saying.{apart}
 use Rattle.partition.specs.declared.block.Block.{Block}
 use Rattle.partition.specs.Checks.{blocks_refusal}
 use Rattle.partition.specs.Partition.{Partition, parts, Long, Consistent, Within, Lies, lengths, consistentb, longb}
@@ -24,7 +30,7 @@ use Rattle.partition.specs.SwapBlocks.{swap, swap_blocks}
 use Rattle.partition.proofs.Holds.{long_of, of_long, consistent_of, of_consistent}
 use Rattle.partition.proofs.Refusals.{blocks_ready}
 use Rattle.partition_records.specs.Records.{begins, splits, ends, lent, no_block, swap_records}
-use Rattle.partition_records.specs.Tables.{went, swap_numbers}
+use Rattle.partition_records.specs.Tables.{swap_numbers}
 use Rattle.partition_records.proofs.Fields.{field_at}
 use Rattle.columns.proofs.Maps.{take-map}
 
@@ -146,74 +152,88 @@ column-left q x y = by (eqb q.number 0)
     by false = refl
 
 pub numbers_left :
-    (e o b : List ℕ) (t : List Block) (k n count l r : ℕ) (bg sp en b' bg' sp' en' : List ℕ) (s s' : Said)
+    (e o b : List ℕ) (t : List Block) (k n count l r : ℕ) (bg sp en b' bg' sp' en' : List ℕ) (s : Said)
     → bg ≡ begins t → sp ≡ splits t → en ≡ ends t
-    → (s, parts e o b' bg' sp' en' n count) ≡ swap_blocks (parts e o b (take k bg) (take k sp) (take k en) n count) l r → s' ≡ s
-    → (s', b') ≡ swap_numbers e o b (take k t) n count l r
+    → (s, parts e o b' bg' sp' en' n count) ≡ swap_blocks (parts e o b (take k bg) (take k sp) (take k en) n count) l r
+    → (s, b') ≡ swap_numbers e o b (take k t) n count l r
 unfolding swap_numbers swap_blocks
-numbers_left e o b t k n count l r bg sp en b' bg' sp' en' s s' x m z d f =
+numbers_left e o b t k n count l r bg sp en b' bg' sp' en' s x m z d =
     let p = lent e o b (take k t) n count in
     let x' : take k bg ≡ begins (take k t) = ap (take k) x ∙ take-map (λ (b : Block). b.begin) k t in
     let m' : take k sp ≡ splits (take k t) = ap (take k) m ∙ take-map (λ (b : Block). b.marked_split) k t in
     let z' : take k en ≡ ends (take k t) = ap (take k) z ∙ take-map (λ (b : Block). b.end) k t in
     let q : parts e o b (take k bg) (take k sp) (take k en) n count ≡ p = λ i. parts e o b (x' i) (m' i) (z' i) n count in
-    ap (λ (y : Said). (y, b')) f ∙ ap column d ∙ ap (λ (y : Partition). column (swap_blocks y l r)) q
-    ∙ column-left (blocks_refusal p l r) p (swap p l r)
+    ap column d ∙ ap (λ (y : Partition). column (swap_blocks y l r)) q ∙ column-left (blocks_refusal p l r) p (swap p l r)
 
 -- ---- and the records
-went_done : (a : Said) → a ≡ done [] → went a ≡ true
-unfolding went
-went_done a e = ap went e
+-- whether an outcome is that the call was done
+done_ok : (o : Result (Unit {0}) code.Refusal) (values : List ℕ) → said_outcome (λ _. []) o ≡ done values → is_ok o ≡ true
+done_ok (Ok u) values e = refl
+done_ok (Err x) values e = absurd (apart _ _ _ (sym e))
 
-went_refused : (a : Said) (n p : ℕ) → a ≡ refused n p → went a ≡ false
-unfolding went
-went_refused a n p e = ap went e
+refused_ok : (o : Result (Unit {0}) code.Refusal) (n p : ℕ) → said_outcome (λ _. []) o ≡ refused n p → is_ok o ≡ false
+refused_ok (Ok u) n p e = absurd (apart _ _ _ e)
+refused_ok (Err x) n p e = refl
 
-module _ (q : Refusal) (b c z : List ℕ) (a : Said) (go : Bool) (g : go ≡ went a) where
+module _ (q : Refusal) (b c z : List ℕ) (a : Answer (Unit {0})) (d : (said a, z) ≡ leaving q b [] c) where
   abbrev Left : Bool → Type 0
-  Left y = ◌≡◌ {A = Said × List ℕ} (a, z) (cond y (done [], c) (refused q.number q.place, b))
+  Left y = ◌≡◌ {A = Said × List ℕ} (said a, z) (cond y (done [], c) (refused q.number q.place, b))
 
-  goes : (y : Bool) → Left y → go ≡ y
-  goes true e = g ∙ went_done a (ap (λ (s : Said × List ℕ). s.0) e)
-  goes false e = g ∙ went_refused a q.number q.place (ap (λ (s : Said × List ℕ). s.0) e)
+  goes : (y : Bool) → Left y → is_ok a.outcome ≡ y
+  goes true e = done_ok a.outcome [] (ap (λ (s : Said × List ℕ). s.0) e)
+  goes false e = refused_ok a.outcome q.number q.place (ap (λ (s : Said × List ℕ). s.0) e)
 
   -- where the call was done there was no refusal
-  none_left : (a, z) ≡ leaving q b [] c → go ≡ true → q.number ≡ 0
+  none_left : is_ok a.outcome ≡ true → q.number ≡ 0
   unfolding leaving
-  none_left e y = eqb-true q.number 0 (sym (goes (eqb q.number 0) e) ∙ y)
+  none_left y = eqb-true q.number 0 (sym (goes (eqb q.number 0) d) ∙ y)
 
   -- a list that changes only where the call was done
-  both_left : (bs ex ws : List Block) → ws ≡ cond go ex bs → (a, z) ≡ leaving q b [] c →
-      ◌≡◌ {A = Said × (List ℕ × List Block)} (a, (z, ws)) (leaving {A = List ℕ × List Block} q (b, bs) [] (c, ex))
+  both_left : (bs ex : List Block) →
+      ◌≡◌ {A = Said × (List ℕ × List Block)} (said a, (z, cond (is_ok a.outcome) ex bs))
+      (leaving {A = List ℕ × List Block} q (b, bs) [] (c, ex))
   unfolding leaving
-  both_left bs ex ws w e = by (eqb q.number 0) e
+  both_left bs ex = by (eqb q.number 0) d
     where
-      by : (y : Bool) → Left y → ◌≡◌ {A = Said × (List ℕ × List Block)} (a, (z, ws))
+      by : (y : Bool) → Left y → ◌≡◌ {A = Said × (List ℕ × List Block)} (said a, (z, cond (is_ok a.outcome) ex bs))
           (cond y (done [], (c, ex)) (refused q.number q.place, (b, bs)))
-      by true e = λ i. ((e i).0, ((e i).1, (w ∙ ap (λ (y : Bool). cond y ex bs) (goes true e)) i))
-      by false e = λ i. ((e i).0, ((e i).1, (w ∙ ap (λ (y : Bool). cond y ex bs) (goes false e)) i))
+      by true e = λ i. ((e i).0, ((e i).1, cond (goes true e i) ex bs))
+      by false e = λ i. ((e i).0, ((e i).1, cond (goes false e i) ex bs))
 
-module _ (e o b : List ℕ) (bs : List Block) (n count l r m : ℕ) (h : m ≤ length bs) (c : (m ≡ length bs) ⊎ (m ≡ max_states))
-    (t : List Block) (et : take m t ≡ take m bs)
-    (a : Said) (z : List ℕ) (d : (a, z) ≡ swap_numbers e o b (take m t) n count l r) (go : Bool) (g : go ≡ went a) where
+-- a list's first m records, all of them or as many as there may be blocks, lie over the front of a table t, and the column form has
+-- answered on them
+module _ (e o b : List ℕ) (bs : List Block) (n count l r : ℕ) {m : ℕ} (h : m ≤ length bs) (c : (m ≡ length bs) ⊎ (m ≡ max_states))
+    {xs : List Block} (f : xs ≡ take m bs) (t : List Block) (a : Answer (Unit {0})) {z : List ℕ}
+    (d : (said a, z) ≡ swap_numbers e o b (take m (xs ++ drop m t)) n count l r) where
   abbrev p : Partition
   p = lent e o b bs n count
 
-  list_left : (a, z) ≡ leaving (blocks_refusal p l r) b [] (swap p l r).element_to_block
+  list_left : (said a, z) ≡ leaving (blocks_refusal p l r) b [] (swap p l r).element_to_block
   unfolding swap_numbers
   list_left =
       d
-      ∙ ap (λ (u : List Block). swap_numbers e o b u n count l r) et
+      ∙ ap (λ (u : List Block). swap_numbers e o b u n count l r) (take_at xs (drop m t) m (ap length f ∙ length-take-le m bs h) ∙ f)
       ∙ ap (λ (q : Refusal). leaving q b [] (swap p l r).element_to_block) (refused_alike e o b n count l r bs m h c)
 
-  -- where the column form is done, the two blocks are among the records
-  pub both_within : go ≡ true → (l < length bs) × (r < length bs)
-  both_within y =
-      let q = blocks_ready p l r (blocks_refusal p l r) refl
-      (none_left (blocks_refusal p l r) b (swap p l r).element_to_block z a go g list_left y) in
-      let f : n ≤ length bs = omega (arith, q.sound.long.begin, length-map bs (λ (b : Block). b.begin)) in
-      (omega (arith, q.left, q.sound.consistent.most), omega (arith, q.right, q.sound.consistent.most))
-
-  pub records_left : (ws : List Block) → ws ≡ cond go (exchanged no_block l r bs) bs → (a, (z, ws)) ≡ swap_records e o b bs n count l r
+  records_left : (y : Bool) → is_ok a.outcome ≡ y → (said a, (z, cond y (exchanged no_block l r bs) bs)) ≡ swap_records e o b bs n count l r
   unfolding swap_records
-  records_left ws w = both_left (blocks_refusal p l r) b (swap p l r).element_to_block z a go g bs (exchanged no_block l r bs) ws w list_left
+  records_left y g =
+      ap (λ (y : Bool). (said a, (z, cond y (exchanged no_block l r bs) bs))) (sym g)
+      ∙ both_left (blocks_refusal p l r) b (swap p l r).element_to_block z a list_left bs (exchanged no_block l r bs)
+
+  -- where it is done, the two blocks are among the records, which are exchanged; else the records stay
+  module _ (g : is_ok a.outcome ≡ true) where
+    pub both_within : (l < length bs) × (r < length bs)
+    both_within =
+        let q = blocks_ready p l r (blocks_refusal p l r) refl
+        (none_left (blocks_refusal p l r) b (swap p l r).element_to_block z a list_left g) in
+        let f : n ≤ length bs = omega (arith, q.sound.long.begin, length-map bs (λ (b : Block). b.begin)) in
+        (omega (arith, q.left, q.sound.consistent.most), omega (arith, q.right, q.sound.consistent.most))
+
+    pub records_swapped : (ws : List Block) → ws ≡ list.swap bs l r → (said a, (z, ws)) ≡ swap_records e o b bs n count l r
+    unfolding exchanged
+    records_swapped ws w =
+        ap (λ (x : List Block). (said a, (z, x))) (w ∙ sym (swap_is bs l r no_block both_within.0 both_within.1)) ∙ records_left true g
+
+  pub records_stay : is_ok a.outcome ≡ false → (said a, (z, bs)) ≡ swap_records e o b bs n count l r
+  records_stay g = records_left false g

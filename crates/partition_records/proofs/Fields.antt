@@ -1,19 +1,15 @@
--- The fields of block records as columns: their cells, and two records exchanged. And records laid over
--- the front of a table.
-use Prim.Native.Nat.{ℕ, suc, ◌+◌, ◌≤◌, ◌<◌}
-use native.Mathlib.Numerals.{add-one}
+-- The fields of block records as columns: their cells, and two records exchanged.
+use Prim.Native.Nat.{ℕ, ◌≤◌}
 use native.Mathlib.Omega.{arith}
 use mathlib.Core.Path.{◌≡◌, refl, ap, sym, ◌∙◌}
-use mathlib.Core.List.{List, map, ◌++◌}
-use lib.ListN.{length, get_or, set, take, drop, length-map, get_or-map, length-replicate}
-use lib.Seq.{ext_get_or, length-take-le, take-suc, drop-cons, set_at, take_at, length_front, append_snoc}
+use mathlib.Core.List.{List, map}
+use lib.ListN.{length, get_or, set, length-map, get_or-map}
+use lib.Seq.{ext_get_or}
 use Rattle.columns.proofs.Maps.{map-set}
 use Rattle.columns.specs.Columns.{listed, swapped, exchanged}
 use Rattle.columns.proofs.Lists.{listed_at, length-listed, Painted, painted_done, over-all}
 use Rattle.partition.specs.declared.block.Block.{Block}
-use Rattle.columns.specs.Limits.{max_states}
 use Rattle.partition_records.specs.Records.{begins, splits, ends, no_block}
-use Rattle.partition_records.specs.Tables.{blank}
 
 -- ---- one field, where a record that isn't there has 0
 module _ (f : Block → ℕ) (z : f no_block ≡ 0) where
@@ -52,34 +48,3 @@ module _ (i j : ℕ) (bs : List Block) where
 
   pub ends-exchanged : ends (exchanged no_block i j bs) ≡ swapped i j (ends bs)
   ends-exchanged = field_exchanged (λ (b : Block). b.end) refl i j bs
-
--- ---- the first i of xs over the front of t
-abbrev pub laid_records : List Block → List Block → ℕ → List Block
-laid_records xs t i = take i xs ++ drop i t
-
-module _ (xs t : List Block) (i : ℕ) where
-  pub length-laid : i ≤ length xs → i ≤ length t → length (laid_records xs t i) ≡ length t
-  length-laid h w = length_front t (take i xs) i (length-take-le i xs h ∙ sym (length-take-le i t w))
-
-  pub laid_front : i ≤ length xs → take i (laid_records xs t i) ≡ take i xs
-  laid_front h = take_at (take i xs) (drop i t) i (length-take-le i xs h)
-
-  pub laid_more : i < length xs → i < length t → set (laid_records xs t i) i (get_or xs i no_block) ≡ laid_records xs t (i + 1)
-  laid_more h w =
-      rw (
-        add-one,
-        drop-cons t i no_block w,
-        set_at (take i xs) (get_or t i no_block) (drop (suc i) t) (get_or xs i no_block) i (length-take-le i xs (omega arith)),
-        take-suc xs i no_block h,
-      )
-      (sym (append_snoc (take i xs) (get_or xs i no_block) (drop (suc i) t)))
-
--- ---- a list's first records over an empty table
-pub length-blank : length blank ≡ max_states
-unfolding blank
-length-blank = length-replicate max_states no_block
-
-pub laid_whole : (xs t ts : List Block) (i m : ℕ) → i ≤ m → m ≤ i → m ≤ length xs → ts ≡ laid_records xs t i → take m ts ≡ take m xs
-laid_whole xs t ts i m a z h e =
-    let q : i ≡ m = omega arith in
-    ap (take m) (e ∙ ap (laid_records xs t) q) ∙ laid_front xs t m h

@@ -7,7 +7,7 @@ use mathlib.Core.Path.{◌≡◌, refl, ap, sym, subst}
 use mathlib.Core.List.{List, []}
 use lib.Dec.{eqb}
 use Rattle.columns.specs.Columns.{exchanged}
-use Rattle.columns.specs.declared.answers.Refusal.{Refusal}
+use Rattle.columns.specs.Answers.{Refusal}
 use Rattle.columns.specs.Answers.{Said, done, refused, leaving}
 use Rattle.partition.specs.declared.block.Block.{Block}
 use Rattle.partition.specs.Checks.{blocks_refusal}

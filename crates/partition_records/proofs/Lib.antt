@@ -2,6 +2,5 @@ pub mod Fields
 pub mod Agreeing
 pub mod Forms
 pub mod Theorems
-mod Shared
 pub mod Determined
 pub mod OneResult

@@ -1,7 +1,7 @@
 -- Tables of block records between the steps of `swap_blocks`: what the proofs go by, nothing that a contract of an operation says.
-use Rattle.std.specs.Prelude.{ℕ, Bool, true, false, List, [], ◌++◌, take, drop, replicate}
+use Rattle.std.specs.Prelude.{ℕ, List, [], ◌++◌, take, drop, replicate}
 use Rattle.columns.specs.Limits.{max_states}
-use Rattle.columns.specs.Answers.{Said, done, refused, leaving}
+use Rattle.columns.specs.Answers.{Said, leaving}
 use Rattle.partition.specs.declared.block.Block.{Block}
 use Rattle.partition.specs.Checks.{blocks_refusal}
 use Rattle.partition.specs.SwapBlocks.{swap}
@@ -10,11 +10,6 @@ use Rattle.partition_records.specs.Records.{lent, no_block, swap_records}
 -- a table with nothing in it
 unfoldable pub blank : List Block
 blank = replicate max_states no_block
-
--- whether what is said is that the call was done
-unfoldable pub went : Said → Bool
-went (done values) = true
-went (refused number place) = false
 
 -- what the column form says of the records' fields, and the numbers that it leaves
 unfoldable pub swap_numbers : List ℕ → List ℕ → List ℕ → List Block → ℕ → ℕ → ℕ → ℕ → Said × List ℕ

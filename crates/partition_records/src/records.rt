@@ -11,10 +11,7 @@ use partition::block::Block;
 pub fn at_most(len: usize) -> usize
     ensures { (result ≤ len) × (result ≤ max_states) × ((result ≡ len) ⊎ (result ≡ max_states)) }
 {
-    if len < MAX_STATES {
-        return len;
-    }
-    MAX_STATES
+    len.min(MAX_STATES)
 }
 
 // A table with nothing in it.
@@ -38,12 +35,9 @@ pub fn apart(
     requires { (length begin.old ≡ max_states) × (length marked_split.old ≡ max_states) × (length end.old ≡ max_states) }
     ensures { (begin.new ≡ begins table) × (marked_split.new ≡ splits table) × (end.new ≡ ends table) }
 {
-    let mut i = 0;
-    while i < MAX_STATES {
-        let b = table[i];
+    for (i, b) in table.iter().enumerate() {
         begin[i] = b.begin;
         marked_split[i] = b.marked_split;
         end[i] = b.end;
-        i += 1;
     }
 }

@@ -2,31 +2,14 @@
 ghost use Rattle.std.specs.Prelude.{◌≡◌, ◌≤◌, take};
 ghost use Rattle.columns.specs.Answers.{said};
 ghost use Rattle.partition_records.specs.Records.{swap_records};
-ghost use Rattle.partition_records.specs.Tables.{went, swap_numbers, swap_first};
+ghost use Rattle.partition_records.specs.Tables.{swap_numbers, swap_first};
 ghost use Rattle.columns.specs.Limits.{max_states};
 
 use crate::records::{apart, at_most, empty_table};
-use columns::answers::{Answer, Outcome};
+use columns::answers::Answer;
 use columns::limits::MAX_STATES;
 use partition::block::Block;
 use partition_calls::BlockPartition;
-
-// The column form's answer, and whether it was done.
-#[derive(Clone, Copy)]
-pub struct Swapped {
-    pub answer: Answer,
-    pub go: bool,
-}
-
-fn answered(answer: Answer) -> Swapped
-    ensures { (result.answer ≡ answer) × (result.go ≡ went (said answer)) }
-{
-    let o = answer.outcome;
-    match o {
-        Outcome::Done => Swapped { answer, go: true },
-        Outcome::Refused(_) => Swapped { answer, go: false },
-    }
-}
 
 // The column form on the fields of a table's first len records.
 pub fn swap_table(
@@ -38,28 +21,26 @@ pub fn swap_table(
     len: usize,
     left_index: u16,
     right_index: u16,
-) -> Swapped
+) -> Answer<()>
     requires { len ≤ max_states }
-    ensures { ((said result.answer, element_to_block.new)
+    ensures { (said result, element_to_block.new)
         ≡ swap_numbers elements.now element_offset.now element_to_block.old (take len table)
-        partition.n partition.count left_index right_index)
-        × (result.go ≡ went (said result.answer)) }
+        partition.n partition.count left_index right_index }
 {
-    let mut begin = [0u16; MAX_STATES];
-    let mut marked_split = [0u16; MAX_STATES];
-    let mut end = [0u16; MAX_STATES];
+    let mut begin = [0; MAX_STATES];
+    let mut marked_split = [0; MAX_STATES];
+    let mut end = [0; MAX_STATES];
     apart(table, &mut begin, &mut marked_split, &mut end);
-    let answer = partition.swap_blocks(
+    partition.swap_blocks(
         elements,
         element_offset,
-        &mut *element_to_block,
+        element_to_block,
         &mut begin[..len],
         &mut marked_split[..len],
         &mut end[..len],
         left_index,
         right_index,
-    );
-    answered(answer)
+    )
 }
 
 // Exchanges two blocks: their records in the lent list, and the numbers of their states.
@@ -71,19 +52,15 @@ pub fn swap_blocks(
     blocks: &mut [Block],
     left_index: u16,
     right_index: u16,
-) -> Answer
+) -> Answer<()>
     ensures { (said result, (element_to_block.new, blocks.new))
         ≡ swap_records elements.now element_offset.now element_to_block.old blocks.old partition.n partition.count
         left_index right_index }
 {
     let m = at_most(blocks.len());
     let mut table = empty_table();
-    let mut i = 0;
-    while i < m {
-        table[i] = blocks[i];
-        i += 1;
-    }
-    let s = swap_table(
+    table[..m].copy_from_slice(&blocks[..m]);
+    let answer = swap_table(
         partition,
         elements,
         element_offset,
@@ -93,20 +70,16 @@ pub fn swap_blocks(
         left_index,
         right_index,
     );
-    if s.go {
-        let l = left_index as usize;
-        let r = right_index as usize;
-        let x = blocks[l];
-        blocks[l] = blocks[r];
-        blocks[r] = x;
+    if answer.outcome.is_ok() {
+        blocks.swap(left_index as usize, right_index as usize);
     }
-    s.answer
+    answer
 }
 
 // What `swap_blocks` answers, and the table that it leaves.
-#[derive(Clone, Copy)]
+#[derive(Clone, Copy, PartialEq, Eq, Debug)]
 pub struct SwappedTable {
-    pub answer: Answer,
+    pub answer: Answer<()>,
     pub table: [Block; MAX_STATES],
 }
 
@@ -116,7 +89,7 @@ pub fn swap_here(
     elements: &[u16],
     element_offset: &[u16],
     element_to_block: &mut [u16],
-    table: [Block; MAX_STATES],
+    mut table: [Block; MAX_STATES],
     len: usize,
     left_index: u16,
     right_index: u16,
@@ -126,7 +99,6 @@ pub fn swap_here(
         ≡ swap_first elements.now element_offset.now element_to_block.old table len
         partition.n partition.count left_index right_index }
 {
-    let mut table = table;
     let answer = swap_blocks(
         partition,
         elements,

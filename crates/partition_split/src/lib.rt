@@ -9,8 +9,8 @@ ghost use Rattle.partition.specs.Partition.{parts};
 
 pub mod cores;
 
-use columns::answers::{NumberAnswer, number, refusing_number};
-use partition::checks::argument_refusal;
+use columns::answers::Answer;
+use partition::PartitionColumns;
 use partition_calls::BlockPartition;
 
 // Splits a block by the choice, a byte for each state: 0 no, others yes. The chosen ones among its marked states become a new last
@@ -25,7 +25,7 @@ pub fn split_marked(
     end: &mut [u16],
     block_index: u16,
     choice: &[u8],
-) -> NumberAnswer
+) -> Answer<u64>
     ensures { let given = parts elements.old element_offset.old element_to_block.old begin.old marked_split.old end.old partition.n
         partition.count in
         let left = parts elements.new element_offset.new element_to_block.new begin.new marked_split.new end.new partition.n
@@ -35,34 +35,28 @@ pub fn split_marked(
     let n = partition.n as usize;
     let count = partition.count as usize;
     let b = block_index as usize;
-    let t = argument_refusal(
-        n,
-        count,
-        &*elements,
-        &*element_offset,
-        &*element_to_block,
-        &*begin,
-        &*marked_split,
-        &*end,
-        b,
-        count,
-        n <= choice.len(),
-    );
-    let refused = t.number;
-    if refused != 0 {
-        return refusing_number(t);
+    let columns = PartitionColumns {
+        elements: &*elements,
+        element_offset: &*element_offset,
+        element_to_block: &*element_to_block,
+        begin: &*begin,
+        marked_split: &*marked_split,
+        end: &*end,
+    };
+    if let Err(refusal) = columns.check_argument(n, count, b, count, n <= choice.len()) {
+        return Answer::refused(refusal);
     }
     let after = cores::split_marked(
         n,
         count,
-        &mut *elements,
-        &mut *element_offset,
-        &mut *element_to_block,
-        &mut *begin,
-        &mut *marked_split,
-        &mut *end,
+        elements,
+        element_offset,
+        element_to_block,
+        begin,
+        marked_split,
+        end,
         b,
         choice,
     );
-    number(after as u64)
+    Answer::done(after as u64)
 }

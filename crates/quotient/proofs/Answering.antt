@@ -1,10 +1,10 @@
 -- What a call of `quotient_lts_naive` goes by that is not refused, and its two ways out.
 use Rattle.std.specs.Prelude.{◌≡◌, ℕ, ◌+◌, Bool, List, map, length}
-use mathlib.Core.Path.{refl}
-use Rattle.columns.specs.declared.answers.Refusal.{Refusal}
+use mathlib.Core.Path.{refl, ap, ◌∙◌}
+use Rattle.columns.specs.Answers.{Refusal}
 use Rattle.columns.specs.Answers.{Said, done, refused}
 use Rattle.columns.specs.Columns.{zeroed}
-use Rattle.columns.specs.Due.{all_long, Roomy}
+use Rattle.columns.specs.Due.{due, all_long, Roomy}
 use Rattle.columns.proofs.Bools.{and_left, and_right}
 use Rattle.columns.proofs.Chains.{passed}
 use Rattle.columns.proofs.Rooms.{roomy_of}
@@ -23,6 +23,13 @@ pub record QuotientReady (t : Lts) (p : Partition) (out : Three) (work : List (L
   pub sound : Sound p
   pub results : Roomy t.m (lengths_of out)
   pub works : Roomy (t.n + t.m + 1) (map length work)
+
+-- the check is asked with the room that there is
+pub asked :
+    (t : Lts) (p : Partition) (out : Three) (work : List (List ℕ)) (room : Bool) → room ≡ call_room t t.m (lengths_of out) (map length work)
+    → (r : Refusal) → r ≡ due (both_tests t p room) → r ≡ quotient_refusal t p out work
+unfolding quotient_refusal
+asked t p out work room h r e = e ∙ ap (λ (b : Bool). due (both_tests t p b)) h
 
 module _ (t : Lts) (p : Partition) (out : Three) (work : List (List ℕ)) (r : Refusal) (e : r ≡ quotient_refusal t p out work) where
   pub quotient_ready : p.n ≡ t.n → r.number ≡ 0 → QuotientReady t p out work

@@ -1,4 +1,3 @@
-pub mod Switches
 pub mod Picks
 pub mod Theorems
 pub mod Answering

@@ -8,4 +8,4 @@ use Rattle.quotient.proofs.quotient_lts_naive as call
 -- the columns of the rows, and the work slices
 pub quotient_lts_naive_lem : OneResult call_said.ended call.Reads.Learnt
 quotient_lts_naive_lem κs a r q x y =
-    determined same_table (λ c. skip 13 (c.0.0, (c.0.1.0, (c.0.1.1, works 5 c.1)))) r q
+    determined same_table (λ c. skip 5 (c.0.0, (c.0.1.0, (c.0.1.1, works 5 c.1)))) r q

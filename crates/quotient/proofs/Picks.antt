@@ -3,7 +3,6 @@ use Rattle.std.specs.Prelude.{◌≡◌, ℕ, ◌+◌, ◌<◌, ◌≤◌, Bool,
 use native.Mathlib.Omega.{arith}
 use mathlib.Core.Path.{refl, ap, sym, ◌∙◌}
 use mathlib.Core.List.{append-nil}
-use lib.ListN.{length-set}
 use Rattle.columns.proofs.ThreeColumns.{rows_none, rows_next, rows_more}
 use Rattle.columns.specs.Rows.{rows_of, row_set, row_in}
 use Rattle.columns.specs.Sets.{Row, row_lt, insert, collect}
@@ -36,27 +35,16 @@ module _ {A B : Type 0} (p : A → Bool) (g : A → B) where
 
 -- ---- the loop
 -- of the rows in s, l and t those below i are seen, and g's row is pushed for those that pass: d rows
-pub record RowPicking (p : Row → Bool) (g : Row → Row) (s l t a₀ b₀ c₀ : List ℕ) (m i d : ℕ) (a b c : List ℕ) : Type 0 where
-  pub high : i ≤ m
+pub record RowPicking (p : Row → Bool) (g : Row → Row) (s l t : List ℕ) (i d : ℕ) (a b c : List ℕ) : Type 0 where
   pub few : d ≤ i
   pub pushed : rows_of d a b c ≡ picks p g (rows_of i s l t)
-  pub first : length a ≡ length a₀
-  pub second : length b ≡ length b₀
-  pub third : length c ≡ length c₀
 
-module _ (p : Row → Bool) (g : Row → Row) (s l t a₀ b₀ c₀ : List ℕ) (m : ℕ) where
-  pub pick_start : RowPicking p g s l t a₀ b₀ c₀ m 0 0 a₀ b₀ c₀
+module _ (p : Row → Bool) (g : Row → Row) (s l t : List ℕ) where
+  pub pick_start : (a b c : List ℕ) → RowPicking p g s l t 0 0 a b c
   unfolding picks
-  pick_start = record {
-    high = omega arith;
-    few = omega arith;
-    pushed = rows_none a₀ b₀ c₀ ∙ ap (picks p g) (sym (rows_none s l t));
-    first = refl;
-    second = refl;
-    third = refl;
-  }
+  pick_start a b c = record { few = omega arith; pushed = rows_none a b c ∙ ap (picks p g) (sym (rows_none s l t)) }
 
-  module _ (i d : ℕ) (a b c : List ℕ) (k : RowPicking p g s l t a₀ b₀ c₀ m i d a b c) where
+  module _ (i d : ℕ) (a b c : List ℕ) (k : RowPicking p g s l t i d a b c) where
     next :
         (q : Bool) → q ≡ p (row_in s l t i)
         → picks p g (rows_of i s l t) ++ cond q (g (row_in s l t i) ∷ []) [] ≡ picks p g (rows_of (i + 1) s l t)
@@ -65,34 +53,25 @@ module _ (p : Row → Bool) (g : Row → Row) (s l t a₀ b₀ c₀ : List ℕ) 
         ∙ sym (ap (picks p g) (rows_next i s l t) ∙ picks_more p g (rows_of i s l t) (row_in s l t i))
 
     pub pick_more :
-        i < m → true ≡ p (row_in s l t i) → d < length a → d < length b → d < length c
+        true ≡ p (row_in s l t i) → d < length a → d < length b → d < length c
         → (a₁ b₁ c₁ : List ℕ) → let r = g (row_in s l t i) in a₁ ≡ set a d r.0 → b₁ ≡ set b d r.1.0 → c₁ ≡ set c d r.1.1
-        → RowPicking p g s l t a₀ b₀ c₀ m (i + 1) (d + 1) a₁ b₁ c₁
-    pick_more h e ha hb hc a₁ b₁ c₁ ea eb ec = record {
-      high = omega arith;
+        → RowPicking p g s l t (i + 1) (d + 1) a₁ b₁ c₁
+    pick_more e ha hb hc a₁ b₁ c₁ ea eb ec = record {
       few = omega (arith, k.few);
       pushed =
           (λ j. rows_of (d + 1) (ea j) (eb j) (ec j)) ∙ rows_more d a b c _ _ _ ha hb hc
           ∙ ap (λ (k : List Row). k ++ (g (row_in s l t i) ∷ [])) k.pushed ∙ next true e;
-      first = ap length ea ∙ length-set a d _ ∙ k.first;
-      second = ap length eb ∙ length-set b d _ ∙ k.second;
-      third = ap length ec ∙ length-set c d _ ∙ k.third;
     }
 
-    pub pick_pass : i < m → false ≡ p (row_in s l t i) → RowPicking p g s l t a₀ b₀ c₀ m (i + 1) d a b c
-    pick_pass h e = record {
-      high = omega arith;
+    pub pick_pass : false ≡ p (row_in s l t i) → RowPicking p g s l t (i + 1) d a b c
+    pick_pass e = record {
       few = omega (arith, k.few);
       pushed = k.pushed ∙ sym (append-nil (picks p g (rows_of i s l t))) ∙ next false e;
-      first = k.first;
-      second = k.second;
-      third = k.third;
     }
 
     -- what is pushed, as a set
-    pub pick_done : m ≤ i → row_set d a b c ≡ collect row_lt p g (rows_of m s l t)
+    pub pick_done : (m : ℕ) → i ≡ m → row_set d a b c ≡ collect row_lt p g (rows_of m s l t)
     unfolding row_set
-    pick_done h =
-        let e : i ≡ m = omega (arith, k.high) in
+    pick_done m e =
         ap (collect row_lt (λ r. true) (λ r. r)) (k.pushed ∙ ap (λ (j : ℕ). picks p g (rows_of j s l t)) e)
         ∙ picks_set p g row_lt (rows_of m s l t)

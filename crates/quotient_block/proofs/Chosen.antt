@@ -1,36 +1,29 @@
 -- What the rows of the column of chosen states are, what is said and left by them, and the blocks of a partition that is checked.
-use Rattle.std.specs.Prelude.{◌≡◌, ℕ, ◌<◌, ◌≤◌, Bool, true, false, not, ◌&&◌, eqb, List, get_or}
+use Rattle.std.specs.Prelude.{◌≡◌, ℕ, ◌<◌, ◌≤◌, Bool, true, false, not, ◌&&◌, cond, eqb, ltb, ◌⊎◌, List, get_or}
 use native.Mathlib.Omega.{arith}
 use borrow.Author.Tests.{lt-ltb, le-ltb}
-use mathlib.Core.Path.{refl, sym, ap, ap₂, ◌∙◌}
+use mathlib.Core.Path.{refl, ap, ◌∙◌}
+use mathlib.Core.Logic.{inl, inr}
 use Rattle.bisimulation.specs.Quotient.{between}
 use Rattle.columns.specs.Blocks.{block_of}
-use Rattle.columns.specs.Answers.{Said, done, refused}
+use Rattle.columns.specs.declared.answers.Refusal as code
+use Rattle.columns.specs.Answers.{Refusal, refusal, none, refusal_of, Said, done, refused}
 use Rattle.columns.specs.Columns.{written}
 use Rattle.columns.specs.Limits.{no_bottom}
 use Rattle.columns.specs.Sets.{Row, row_lt}
-use Rattle.columns.proofs.Bools.{and_no_left}
+use Rattle.columns.proofs.All.{lt-or-le}
 use Rattle.columns.proofs.Counting.{first_law}
 use Rattle.columns.proofs.Lists.{written_at}
+use Rattle.columns.proofs.Saying.{numbered}
 use Rattle.columns.proofs.Sets.{collect_alike}
 use Rattle.partition.specs.Partition.{Partition, Sound}
 use Rattle.partition.proofs.Owned.{owned}
-use Rattle.quotient.specs.Naive.{stays, header_by}
+use Rattle.quotient.specs.Naive.{header_by}
 use Rattle.table.specs.Hidden.{tau_loop}
 use Rattle.quotient_block.specs.Chosen.{first_state, choice, lacking, of_chosen, chosen_rows, block_rows, block_quotient, Choosable}
 use Rattle.table.specs.Lts.{Lts, rows, Valid}
 use Rattle.table.specs.Tables.{Three, rows_over}
 use Rattle.table.proofs.Rows.{step_fields}
-
--- ---- the test of one row, as the code makes it
-module _ (loops : Bool) (chosen block : ℕ → ℕ) (r : Row) where
-  pub row_unchosen : eqb (chosen (block r.0)) r.0 ≡ false → false ≡ of_chosen loops chosen block r
-  unfolding of_chosen
-  row_unchosen e = sym (and_no_left _ _ e)
-
-  pub row_chosen : eqb (chosen (block r.0)) r.0 ≡ true → stays false loops block r ≡ of_chosen loops chosen block r
-  unfolding of_chosen stays
-  row_chosen e = rw e refl
 
 -- ---- the column of chosen states has the chosen states
 -- what g chooses below `count` is read from a column where it is written
@@ -48,31 +41,52 @@ written-rows loops t v home count below g col =
     ))
 
 -- ---- what is said and left
-module _ (branching loops : Bool) (t : Lts) (home elements begin : List ℕ) (count : ℕ) (out : Three) (b : ℕ)
-    (e : b ≡ lacking branching t home elements begin count) where
+module _ (branching loops : Bool) (t : Lts) (home elements begin : List ℕ) (count : ℕ) (out : Three) where
+  -- 12 at the lowest block with no state, or none
+  abbrev found : Refusal
+  found = let b = lacking branching t home elements begin count in cond (ltb b count) (refusal no_bottom b) none
+
   pub block_lacks :
-      b < count → (s : Said) → s ≡ refused no_bottom b → (s, out) ≡ block_quotient branching loops t home elements begin count out
+      (r : code.Refusal) → refusal_of r ≡ found → (s : Said) → s ≡ refused (refusal_of r).number (refusal_of r).place
+      → (s, out) ≡ block_quotient branching loops t home elements begin count out
   unfolding block_quotient
-  block_lacks h s q = rw (← e, lt-ltb b count h) (ap (λ (x : Said). (x, out)) q)
+  block_lacks r e s q =
+      let b = lacking branching t home elements begin count in
+      (λ i. (q i, out)) ∙ go b _ (ltb b count) e
+    where
+      go :
+          (b : ℕ) (x : Said × Three) (lacks : Bool) → refusal_of r ≡ cond lacks (refusal no_bottom b) none
+          → ◌≡◌ {A = Said × Three} (refused (refusal_of r).number (refusal_of r).place, out) (cond lacks (refused no_bottom b, out) x)
+      go b x true e = λ i. (refused (e i).number (e i).place, out)
+      go b x false e = absurd (numbered r (ap (λ (q : Refusal). q.number) e))
 
-  pub block_done :
-      count ≤ b → (s : Said) (left : Three) (kept : List Row) → kept ≡ block_rows branching loops t home elements begin
-      → s ≡ done (header_by t home count kept) → left ≡ rows_over kept out
-      → (s, left) ≡ block_quotient branching loops t home elements begin count out
-  unfolding block_quotient
-  block_done h s left kept k q w =
-      rw (← e, le-ltb b count h, ← k) (ap₂ (λ (x : Said) (y : Three). (x, y)) q w)
+  module _ (e : none ≡ found) where
+    pub all_chosen : count ≤ lacking branching t home elements begin count
+    all_chosen = let b = lacking branching t home elements begin count in go b (lt-or-le b count) e
+      where
+        go : (b : ℕ) → (b < count) ⊎ (count ≤ b) → none ≡ cond (ltb b count) (refusal no_bottom b) none → count ≤ b
+        go b (inl h) e = let f : 0 ≡ no_bottom = ap (λ (q : Refusal). q.number) (rw (lt-ltb b count h) at e) in absurd (omega (arith, f))
+        go b (inr h) e = h
 
-  pub block_rows_lem :
-      Valid t → Choosable t.n count elements home begin → count ≤ b → (col col₀ : List ℕ)
-      → col ≡ written b (choice branching t home elements begin) col₀
-      → chosen_rows loops (λ b. get_or col b 0) (block_of home) (rows t) ≡ block_rows branching loops t home elements begin
-  unfolding block_rows lacking
-  block_rows_lem v k h col col₀ q =
-      let g = choice branching t home elements begin in
-      let f : b ≡ count = omega (arith, (first_law count (λ i. eqb (g i) t.n)).bound) in
-      ap (λ (l : List ℕ). chosen_rows loops (λ b. get_or l b 0) (block_of home) (rows t)) (q ∙ ap (λ (i : ℕ). written i g col₀) f)
-      ∙ written-rows loops t v home count k.below g col₀
+    pub block_done :
+        (s : Said) (left : Three) (kept : List Row) → kept ≡ block_rows branching loops t home elements begin
+        → s ≡ done (header_by t home count kept) → left ≡ rows_over kept out
+        → (s, left) ≡ block_quotient branching loops t home elements begin count out
+    unfolding block_quotient
+    block_done s left kept k q w =
+        rw (le-ltb (lacking branching t home elements begin count) count all_chosen, ← k) (λ i. (q i, w i))
+
+    pub block_rows_lem :
+        Valid t → Choosable t.n count elements home begin → (col col₀ : List ℕ)
+        → col ≡ written (lacking branching t home elements begin count) (choice branching t home elements begin) col₀
+        → chosen_rows loops (λ b. get_or col b 0) (block_of home) (rows t) ≡ block_rows branching loops t home elements begin
+    unfolding block_rows lacking
+    block_rows_lem v k col col₀ q =
+        let g = choice branching t home elements begin in
+        let few = (first_law count (λ i. eqb (g i) t.n)).bound in
+        let f : lacking branching t home elements begin count ≡ count = omega (arith, all_chosen, few) in
+        ap (λ (l : List ℕ). chosen_rows loops (λ b. get_or l b 0) (block_of home) (rows t)) (q ∙ ap (λ (i : ℕ). written i g col₀) f)
+        ∙ written-rows loops t v home count k.below g col₀
 
 -- ---- the blocks of a partition that is checked
 pub choosable_of : (p : Partition) → Sound p → Choosable p.n p.count p.elements p.element_to_block p.begin

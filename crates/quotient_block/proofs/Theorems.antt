@@ -15,7 +15,7 @@ use Rattle.quotient_block.specs.Bottom.{bottom}
 use Rattle.quotient_block.specs.Chosen.{first_state, choice, lacking, of_chosen, chosen_rows, block_rows, Choosable}
 use Rattle.quotient_block.proofs.Returns.{Returning, lost_exactly}
 use Rattle.quotient_block.proofs.Walks.{walked_state, walked-home, found_walked, found_bottom}
-use Rattle.table.specs.Lts.{Lts, rows, Valid}
+use Rattle.table.specs.Lts.{Lts, Valid}
 use Rattle.table.specs.Tables.{table_of}
 -- What a call that is done has answered and left.
 pub use Rattle.quotient_block.proofs.Calls.{block_call_done}

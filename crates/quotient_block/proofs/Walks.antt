@@ -1,82 +1,99 @@
 -- The walk to a bottom state: it stays in the block and ends where no hidden row leads on; and the loops that find the row and the state.
-use Rattle.std.specs.Prelude.{◌≡◌, ℕ, zero, suc, ◌+◌, ◌-◌, ◌<◌, ◌≤◌, Bool, true, false, cond, not, ◌&&◌, eqb, ◌↔◌, List, get_or}
+use Rattle.std.specs.Prelude.{
+  ◌≡◌,
+  ℕ,
+  zero,
+  suc,
+  ◌+◌,
+  ◌-◌,
+  ◌<◌,
+  ◌≤◌,
+  Bool,
+  true,
+  false,
+  cond,
+  not,
+  ◌&&◌,
+  eqb,
+  ◌↔◌,
+  Option,
+  Some,
+  None,
+  IfSome,
+  List,
+  get_or,
+}
 use native.Mathlib.Omega.{arith}
 use native.Mathlib.Numerals.{add-one}
 use borrow.Author.Tests.{eqb-true, eqb-false, eq-eqb, ne_eqb, leb-true, leb-false, le-leb, lt-leb, not-true}
 use mathlib.Core.Path.{refl, sym, ap, subst, ◌∙◌}
 use mathlib.Core.Logic.{⊎_elim}
+use denote.Param.Members.{Mut}
+use denote.Ref.{Bor}
+use Rattle.std.specs.Fn.{CalledAt}
+use Rattle.std.specs.Iterator.{FindsItem}
+use Rattle.std.specs.Option.{MatchOption}
+use Rattle.std.specs.declared.ops.Range.{Range}
+use Rattle.std.proofs.iter.Yields.{nat_range_steps}
+use Rattle.std.proofs.lemmas.Iterator.{first_from_Range}
 use Rattle.columns.specs.Blocks.{block_of}
 use Rattle.columns.specs.Counting.{first}
 use Rattle.columns.proofs.All.{lt-or-le, top_or-below}
-use Rattle.columns.proofs.Bools.{and_one, and_left, and_right, and_both, and_no_left, and_no_right, contra, fails}
+use Rattle.columns.proofs.Bools.{and_left, and_right, and_both, and_no_left, contra, fails}
 use Rattle.columns.proofs.Counting.{first_law}
-use Rattle.columns.proofs.Firsts.{NoneBelow, none_more, first_hit, first-none, none_of}
+use Rattle.columns.proofs.Firsts.{first-is, none_of}
 use Rattle.columns.specs.Rows.{row_in}
 use Rattle.quotient.specs.Naive.{inert_step}
 use Rattle.quotient_block.specs.Bottom.{leads_on, way_on, bottom, next_on, walked, bottom_from}
 use Rattle.table.specs.Lts.{Lts, Valid, Step}
 use Rattle.table.proofs.Rows.{row_step, step_row}
+use Rattle.table.proofs.Finds.{FoundFrom}
 use Rattle.table.proofs.RowsOf.{own_row, RowsFrom}
-
--- ---- the test of one row, as the code makes it
-module _ (block : ℕ → ℕ) (s a u : ℕ) where
-  pub inert_visible : eqb a 0 ≡ false → false ≡ inert_step block (s, (a, u))
-  unfolding inert_step
-  inert_visible h = rw h refl
-
-  module _ (h : eqb a 0 ≡ true) where
-    pub inert_loop : eqb s u ≡ true → false ≡ inert_step block (s, (a, u))
-    unfolding inert_step
-    inert_loop e = rw (h, e) (sym (and_no_right (eqb (block s) (block u)) false refl))
-
-    pub inert_other : eqb s u ≡ false → eqb (block s) (block u) ≡ inert_step block (s, (a, u))
-    unfolding inert_step
-    inert_other e = rw (h, e) (sym (and_one (eqb (block s) (block u)) true refl))
 
 abbrev leads : Lts → List ℕ → ℕ → ℕ → Bool
 leads t home s = leads_on t.source t.label t.target home s
 
--- ---- the first row that leads on, found in one pass over the state's rows
--- of the numbers from `first` to before `end` those below i don't pass
-pub record Looking (f : ℕ → Bool) (first end i : ℕ) : Type 0 where
-  pub low : first ≤ i
-  pub high : i ≤ end
-  pub none : NoneBelow f i
-
+-- ---- the first row that leads on, found among the state's rows
 module _ (t : Lts) (home : List ℕ) (s first end : ℕ) (f : RowsFrom t s first end) where
   other_row : (i : ℕ) → own_row t s i ≡ false → leads t home s i ≡ false
   unfolding leads_on
   other_row i e = and_no_left _ _ e
 
-  pub look_start : Looking (leads t home s) first end first
-  look_start = record { low = omega arith; high = f.up; none = λ i w. other_row i (f.before i w) }
+  -- the test of a row of s
+  abbrev onward : ℕ → Bool
+  onward i = inert_step (block_of home) (s, (get_or t.label i 0, get_or t.target i 0))
 
-  module _ (i : ℕ) (r : Bool) (k : Looking (leads t home s) first end i) (h : i < end)
-      (er : r ≡ inert_step (block_of home) (s, (get_or t.label i 0, get_or t.target i 0))) where
-    own_row_lem : leads t home s i ≡ r
-    unfolding leads_on row_in
-    own_row_lem =
-        let own = f.own i k.low h in
-        rw own
-        (ap (λ (x : ℕ). inert_step (block_of home) (x, (get_or t.label i 0, get_or t.target i 0))) (eqb-true (get_or t.source i 0) s own)
-        ∙ sym er)
+  own_row_lem : (i : ℕ) → first ≤ i → i < end → leads t home s i ≡ onward i
+  unfolding leads_on row_in
+  own_row_lem i a b =
+      let own = f.own i a b in
+      rw own
+      (ap (λ (x : ℕ). inert_step (block_of home) (x, (get_or t.label i 0, get_or t.target i 0))) (eqb-true (get_or t.source i 0) s own))
 
-    pub look_more : r ≡ false → Looking (leads t home s) first end (i + 1)
-    look_more e = record {
-      low = omega (arith, k.low);
-      high = omega arith;
-      none = none_more (leads t home s) i k.none (own_row_lem ∙ e);
-    }
-
-    pub look_hit : r ≡ true → i ≡ way_on t home s
-    unfolding way_on
-    look_hit e = first_hit t.m (leads t home s) i (omega (arith, f.most)) k.none (own_row_lem ∙ e)
-
-  pub look_none : (i : ℕ) → Looking (leads t home s) first end i → end ≤ i → t.m ≡ way_on t home s
+  pub way_found : (r : ℕ) → FoundFrom first end t.m onward r → r ≡ way_on t home s
   unfolding way_on
-  look_none i k h =
-      first-none t.m (leads t home s)
-      (λ j w. ⊎_elim (λ (l : j < i). k.none j l) (λ (l : i ≤ j). other_row j (f.after j (omega (arith, h, l)) w)) (lt-or-le j i))
+  way_found r g =
+      first-is t.m (leads t home s) r g.most
+      (λ i w.
+      ⊎_elim (λ (a : i < first). other_row i (f.before i a))
+      (λ (a : first ≤ i).
+      ⊎_elim (λ (b : i < end). own_row_lem i a b ∙ g.before i a b w) (λ (b : end ≤ i). other_row i (f.after i b (omega (arith, w, g.most))))
+      (lt-or-le i end))
+      (lt-or-le i first))
+      (λ w. own_row_lem r (g.low w) (g.below w) ∙ g.hit w)
+
+-- what a search of a range finds is below its end
+module _ {F : Type 0} {g : Mut F (Bor ℕ × Unit {0}) Bool} (s u : Range ℕ) (f : F) (r : Option ℕ) (m : ℕ) (h : s.end ≤ m) where
+  pub found_row : FindsItem nat_range_steps g s f r u → ((x : ℕ) (q : F) → CalledAt g f x false q → q ≡ f) → IfSome r (λ i. i < m)
+  found_row d k = go r (first_from_Range s u f r (λ x. Unit {0}) (λ x. Unit {0}) d (λ x q c. tt) (λ x q c. (k x q c, tt)))
+    where
+      go :
+          (r : Option ℕ)
+          → MatchOption r ((k : ℕ) → s.start ≤ k → k < s.end → Unit {0})
+          (λ i. (s.start ≤ i) × (i < s.end) × Unit {0} × ((k : ℕ) → s.start ≤ k → k < i → Unit {0}))
+          → IfSome r (λ i. i < m)
+      go None w = tt
+      go (Some i) w = omega (arith, w.1)
 
 -- ---- one step
 -- u is another state of the block of s, and a hidden step leads there
@@ -217,13 +234,8 @@ module _ (t : Lts) (home : List ℕ) (s : ℕ) where
   walk_start h = record { here = refl; state = h; few = omega arith; before = λ j w. absurd (omega (arith, w)) }
 
   module _ (k u : ℕ) (w : Walking k u) (i : ℕ) (e : i ≡ way_on t home u) where
-    pub walk_row : (i ≡ t.m → ⊥) → i < t.m
-    walk_row n =
-        ⊎_elim (λ (l : i < t.m). l) (λ (l : t.m ≤ i). absurd (n (omega (arith, way_most t home u)))) (lt-or-le i t.m)
-
-    pub walk_more : Valid t → k ≤ t.n → (i ≡ t.m → ⊥) → (x : ℕ) → x ≡ get_or t.target i 0 → Walking (k + 1) x
-    walk_more v h n x q =
-        let l : i < t.m = walk_row n in
+    pub walk_more : Valid t → k ≤ t.n → i < t.m → (x : ℕ) → x ≡ get_or t.target i 0 → Walking (k + 1) x
+    walk_more v h l x q =
         let b : bottom t home u ≡ false = further_way t home u (omega arith) in
         let f : x ≡ next_on t home u = q ∙ ap (λ (j : ℕ). get_or t.target j 0) e ∙ next_way t home u b in
         let last : bottom t home (walked t home k s) ≡ false = ap (bottom t home) (sym w.here) ∙ b in

@@ -4,14 +4,14 @@
 ghost use Rattle.std.specs.Prelude.{◌≡◌, [], ◌∷◌};
 ghost use Rattle.quotient_block.specs.Call.{quotient_lts_block};
 ghost use Rattle.table.specs.Tables.{Three, said_table};
-ghost use Rattle.partition.specs.Partition.{parts};
-ghost use Rattle.table.specs.Lts.{lts};
+ghost use Rattle.partition.specs.Partition.{parts_of};
+ghost use Rattle.table.specs.Lts.{lts_of};
 
 pub mod cores;
 
-use table::Table;
-use table::answers::{TableAnswer, refusing_table};
-use table::checks::room_for;
+use columns::answers::Answer;
+use partition::PartitionColumns;
+use table::{Lts, Table};
 use table_partition::check;
 
 // The rows of each block's first state in element order, or with `branching` of the state found by following the first hidden row to
@@ -19,17 +19,9 @@ use table_partition::check;
 // cells of the result columns. `eliminate_tau_loops` drops the chosen state's hidden self-loop. Answers the header of the quotient. Work:
 // the rows before they are a set, two columns for the sort, and the states chosen.
 pub fn quotient_lts_block(
-    table: Table,
-    source: &[u16],
-    label: &[u16],
-    target: &[u16],
+    system: &Lts<'_>,
     count: u16,
-    elements: &[u16],
-    element_offset: &[u16],
-    element_to_block: &[u16],
-    begin: &[u16],
-    marked_split: &[u16],
-    end: &[u16],
+    columns: &PartitionColumns<'_>,
     branching: bool,
     eliminate_tau_loops: bool,
     result_source: &mut [u16],
@@ -41,17 +33,17 @@ pub fn quotient_lts_block(
     order: &mut [u16],
     spare: &mut [u16],
     chosen: &mut [u16],
-) -> TableAnswer
-    ensures { let system = lts table source.now label.now target.now in
-        let given = parts elements.now element_offset.now element_to_block.now begin.now marked_split.now end.now table.n count in
+) -> Answer<Table>
+    ensures { let given = parts_of columns.now system.now.table.n count in
         let work = a.old ∷ b.old ∷ c.old ∷ order.old ∷ spare.old ∷ chosen.old ∷ [] in
         let work_left = a.new ∷ b.new ∷ c.new ∷ order.new ∷ spare.new ∷ chosen.new ∷ [] in
         let out : Three = (result_source.old, (result_label.old, result_target.old)) in
         let out_left : Three = (result_source.new, (result_label.new, result_target.new)) in
-        (said_table result, (out_left, work_left)) ≡ quotient_lts_block branching eliminate_tau_loops system given out work }
+        (said_table result, (out_left, work_left))
+        ≡ quotient_lts_block branching eliminate_tau_loops (lts_of system.now) given out work }
 {
-    let room = room_for(
-        table,
+    let table = system.table;
+    let room = table.room_for(
         table.m as usize,
         &[result_source.len(), result_label.len(), result_target.len()],
         &[
@@ -63,33 +55,15 @@ pub fn quotient_lts_block(
             chosen.len(),
         ],
     );
-    let t = check(
-        table,
-        source,
-        label,
-        target,
-        count as usize,
-        elements,
-        element_offset,
-        element_to_block,
-        begin,
-        marked_split,
-        end,
-        room,
-    );
-    let number = t.number;
-    if number != 0 {
-        return refusing_table(t);
+    if let Err(refusal) = check(system, count as usize, columns, room) {
+        return Answer::refused(refusal);
     }
     cores::quotient_block(
-        table,
-        source,
-        label,
-        target,
+        system,
         count as usize,
-        elements,
-        element_to_block,
-        begin,
+        columns.elements,
+        columns.element_to_block,
+        columns.begin,
         branching,
         eliminate_tau_loops,
         result_source,

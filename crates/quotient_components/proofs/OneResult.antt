@@ -7,4 +7,4 @@ use Rattle.quotient_components.proofs.tau_scc_decomposition as call
 
 -- the numbers, and the work slices
 pub tau_scc_decomposition_lem : OneResult call_said.ended call.Reads.Learnt
-tau_scc_decomposition_lem κs a r q x y = determined same_number (λ c. skip 4 (c.0, works 7 c.1)) r q
+tau_scc_decomposition_lem κs a r q x y = determined same_number (λ c. skip 1 (c.0, works 7 c.1)) r q

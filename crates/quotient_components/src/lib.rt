@@ -4,21 +4,17 @@
 ghost use Rattle.std.specs.Prelude.{◌≡◌, [], ◌∷◌};
 ghost use Rattle.columns.specs.Answers.{said_number};
 ghost use Rattle.quotient_components.specs.Call.{tau_scc_decomposition};
-ghost use Rattle.table.specs.Lts.{lts};
+ghost use Rattle.table.specs.Lts.{lts_of};
 
 pub mod cores;
 
-use columns::answers::{NumberAnswer, number, refusing_number};
-use table::Table;
-use table::checks::{check, room_for};
+use columns::answers::Answer;
+use table::Lts;
 
 // The number of each state's component, over the first n cells of `numbers`: states that reach each other by hidden steps share a number,
 // and numbers follow the least member. Answers how many there are.
 pub fn tau_scc_decomposition(
-    table: Table,
-    source: &[u16],
-    label: &[u16],
-    target: &[u16],
+    system: &Lts<'_>,
     numbers: &mut [u16],
     order: &mut [u16],
     back_source: &mut [u16],
@@ -27,14 +23,13 @@ pub fn tau_scc_decomposition(
     forward: &mut [u16],
     backward: &mut [u16],
     queue: &mut [u16],
-) -> NumberAnswer
-    ensures { let system = lts table source.now label.now target.now in
-        let left = order.new ∷ back_source.new ∷ back_label.new ∷ back_target.new ∷ forward.new ∷ backward.new ∷ queue.new ∷ [] in
+) -> Answer<u64>
+    ensures { let left = order.new ∷ back_source.new ∷ back_label.new ∷ back_target.new ∷ forward.new ∷ backward.new ∷ queue.new ∷ [] in
         let work = order.old ∷ back_source.old ∷ back_label.old ∷ back_target.old ∷ forward.old ∷ backward.old ∷ queue.old ∷ [] in
-        (said_number result, (numbers.new, left)) ≡ tau_scc_decomposition system numbers.old work }
+        (said_number result, (numbers.new, left)) ≡ tau_scc_decomposition (lts_of system.now) numbers.old work }
 {
-    let room = room_for(
-        table,
+    let table = system.table;
+    let room = table.room_for(
         table.n as usize,
         &[numbers.len()],
         &[
@@ -47,16 +42,11 @@ pub fn tau_scc_decomposition(
             queue.len(),
         ],
     );
-    let t = check(table, source, label, target, room);
-    let refused = t.number;
-    if refused != 0 {
-        return refusing_number(t);
+    if let Err(refusal) = system.check(room) {
+        return Answer::refused(refusal);
     }
     let count = cores::tau_scc_decomposition(
-        table,
-        source,
-        label,
-        target,
+        system,
         numbers,
         order,
         back_source,
@@ -66,5 +56,5 @@ pub fn tau_scc_decomposition(
         backward,
         queue,
     );
-    number(count as u64)
+    Answer::done(count as u64)
 }

@@ -5,5 +5,6 @@ pub mod Reordering
 pub mod Calls
 pub mod Theorems
 pub mod Examples
+pub mod Sayings
 pub mod Determined
 pub mod OneResult

@@ -11,7 +11,9 @@ use Rattle.columns.specs.Blocks.{block_of}
 use Rattle.bisimulation.proofs.Quotients.{Source, quotient_in, quotient_out}
 use Rattle.bisimulation.proofs.Tables.{quotient_valid}
 use Rattle.columns.specs.Sets.{Row}
+use Rattle.columns.specs.Columns.{written}
 use Rattle.columns.proofs.All.{same_or_not}
+use Rattle.columns.proofs.Lists.{written_at}
 use Rattle.columns.proofs.Bools.{contra, and_both}
 use Rattle.quotient.specs.Naive.{inert_step, naive_rows}
 use Rattle.table.specs.Hidden.{tau_loop}
@@ -164,3 +166,13 @@ new_rows_lem t v eliminate numbers homes =
     (places_permute t v eliminate).one (component t s) (component t u) (component-below t v s h) (component-below t v u k) e)
     ∙ ap (λ (l : List Row). quotient (new_place t eliminate) l)
     (sym (table_of-rows (components t) t.labels (component t t.initial) (naive_rows eliminate eliminate (component t) (rows t))))
+
+-- the same where the column is written
+module _ (t : Lts) (eliminate : Bool) (numbers before : List ℕ) (e : numbers ≡ written t.n (new_number t eliminate) before) where
+  pub written_numbers : (s : ℕ) → s < t.n → get_or numbers s 0 ≡ new_number t eliminate s
+  written_numbers s h = ap (λ (l : List ℕ). get_or l s 0) e ∙ written_at t.n (new_number t eliminate) before s h
+
+pub written_rows :
+    (t : Lts) → Valid t → (eliminate : Bool) (numbers before : List ℕ) → numbers ≡ written t.n (new_number t eliminate) before
+    → naive_rows eliminate eliminate (block_of numbers) (rows t) ≡ new_rows t eliminate
+written_rows t v eliminate numbers before e = new_rows_lem t v eliminate numbers (written_numbers t eliminate numbers before e)

@@ -1,25 +1,23 @@
 -- `tau_cycle_elimination_and_reorder` as it is called: what it refuses, says and leaves.
 use Rattle.std.specs.Prelude.{ℕ, Bool, List, [], ◌∷◌, map, length}
-use Rattle.columns.specs.declared.answers.Refusal.{Refusal}
-use Rattle.columns.specs.Answers.{Said, done, refused, leaving}
+use Rattle.columns.specs.declared.answers.Answer.{Answer}
+use Rattle.columns.specs.Answers.{Refusal}
+use Rattle.columns.specs.Answers.{Said, said_by, leaving}
 use Rattle.columns.specs.Columns.{zeroed}
 use Rattle.columns.specs.Due.{all_long}
 use Rattle.quotient_components.specs.Components.{components}
 use Rattle.table.specs.Checks.{call_room, table_argument_refusal}
 use Rattle.table.specs.Lts.{Lts}
 use Rattle.table.specs.Tables.{Three, lengths_of, rows_over}
-use Rattle.quotient_cycles.specs.declared.ReorderedAnswer.{ReorderedAnswer}
-use Rattle.quotient_cycles.specs.declared.ReorderedOutcome.{ReorderedOutcome}
-use Rattle.quotient_cycles.specs.declared.ReorderedOutcome.TheVariants as R
+use Rattle.quotient_cycles.specs.declared.Reordered.{Reordered}
 use Rattle.quotient_cycles.specs.Reordered.{new_number, new_rows}
 
 -- n, labels, m and the initial state of the result, and the new number of the state that is given
-abbrev pub said_reordered_outcome : ReorderedOutcome → Said
-said_reordered_outcome (R.Done n labels m initial state) = done (n ∷ labels ∷ m ∷ initial ∷ state ∷ [])
-said_reordered_outcome (R.Refused r) = refused r.number r.place
+abbrev pub reordered_values : Reordered → List ℕ
+reordered_values r = r.table.n ∷ r.table.labels ∷ r.table.m ∷ r.table.initial ∷ r.state ∷ []
 
-abbrev pub said_reordered : ReorderedAnswer → Said
-said_reordered a = said_reordered_outcome a.outcome
+abbrev pub said_reordered : Answer Reordered → Said
+said_reordered a = said_by reordered_values a
 
 -- 1, 2, 3, 4, 7 (three result columns of m cells, and the work slices), 5 and 6, 8
 unfoldable pub reorder_refusal : Lts → ℕ → Three → List (List ℕ) → Refusal

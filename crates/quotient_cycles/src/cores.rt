@@ -4,13 +4,14 @@ ghost use Rattle.columns.specs.Columns.{written};
 ghost use Rattle.columns.specs.Lent.{Cleared};
 ghost use Rattle.quotient_components.specs.Components.{components, component};
 ghost use Rattle.quotient_cycles.specs.Reordered.{new_number, new_rows};
-ghost use Rattle.table.specs.Lts.{Valid, lts};
+ghost use Rattle.table.specs.Lts.{Valid, lts_of};
 ghost use Rattle.table.specs.Tables.{Three, rows_over};
 
-use columns::cells::{at, clear};
+use crate::Reordered;
+use columns::cells::clear;
 use quotient::cores::quotient_rows;
 use quotient_components::cores::tau_scc_decomposition;
-use table::Table;
+use table::{Lts, Table};
 use table_order::cores::sort_topological;
 
 // Each of the first n numbers becomes the place of that number.
@@ -19,21 +20,16 @@ fn renumber(n: usize, places: &[u16], numbers: &mut [u16])
     requires by_index { (s : ℕ) → s < n → slice_index numbers.old s < length places.now }
     ensures { numbers.new ≡ written n (λ s. slice_index places.now (slice_index numbers.old s)) numbers.old }
 {
-    let mut s = 0;
-    while s < n {
-        let b = at(&*numbers, s);
-        numbers[s] = places[b];
-        s += 1;
+    for number in &mut numbers[..n] {
+        *number = places[*number as usize];
     }
 }
 
 // The numbers of components become their places in the reversed hidden order: the quotient by components is laid into the columns named
-// `mid`, and sorted. The slices behind `numbers` are used.
+// `mid`, and sorted. It has no hidden cycle longer than a self-loop, so that each component gets a place. The slices behind `numbers` are
+// used.
 fn order_components(
-    table: Table,
-    source: &[u16],
-    label: &[u16],
-    target: &[u16],
+    system: &Lts<'_>,
     count: usize,
     eliminate_tau_selfloops: bool,
     numbers: &mut [u16],
@@ -46,21 +42,18 @@ fn order_components(
     order: &mut [u16],
     spare: &mut [u16],
 )
-    requires valid { Valid (lts table source.now label.now target.now) × (count ≡ components (lts table source.now label.now target.now)) }
-    requires by_index { (s : ℕ) → s < table.n → slice_index numbers.old s ≡ component (lts table source.now label.now target.now) s }
-    requires n_in_bounds { (table.n ≤ length numbers.old) × (table.m ≤ length mid_source.old) × (table.m ≤ length mid_label.old) }
-    requires m_in_bounds { (table.m ≤ length mid_target.old) × (table.n + table.m + 1 ≤ length a.old) }
-    requires m_in_bounds_2 { (table.n + table.m + 1 ≤ length b.old) × (table.n + table.m + 1 ≤ length c.old) }
-    requires m_in_bounds_3 { (table.m ≤ length order.old) × (table.m ≤ length spare.old) }
-    ensures { let number = new_number (lts table source.now label.now target.now) eliminate_tau_selfloops in
-        numbers.new ≡ written table.n number numbers.old }
+    requires valid { Valid (lts_of system.now) × (count ≡ components (lts_of system.now)) }
+    requires by_index { (s : ℕ) → s < system.now.table.n → slice_index numbers.old s ≡ component (lts_of system.now) s }
+    requires n_in_bounds { let t = lts_of system.now in
+        (t.n ≤ length numbers.old) × (t.m ≤ length mid_source.old) × (t.m ≤ length mid_label.old) }
+    requires m_in_bounds { let t = lts_of system.now in (t.m ≤ length mid_target.old) × (t.n + t.m + 1 ≤ length a.old) }
+    requires m_in_bounds_2 { let t = lts_of system.now in (t.n + t.m + 1 ≤ length b.old) × (t.n + t.m + 1 ≤ length c.old) }
+    requires m_in_bounds_3 { let t = lts_of system.now in (t.m ≤ length order.old) × (t.m ≤ length spare.old) }
+    ensures { let number = new_number (lts_of system.now) eliminate_tau_selfloops in
+        numbers.new ≡ written system.now.table.n number numbers.old }
 {
-    let initial = numbers[table.initial as usize];
     let m = quotient_rows(
-        table,
-        source,
-        label,
-        target,
+        system,
         &*numbers,
         eliminate_tau_selfloops,
         eliminate_tau_selfloops,
@@ -73,32 +66,24 @@ fn order_components(
         order,
         spare,
     );
-    let middle = Table {
-        n: count as u16,
-        labels: table.labels,
-        m: m as u16,
-        initial,
+    let middle = Lts {
+        table: Table {
+            n: count as u16,
+            labels: system.table.labels,
+            m: m as u16,
+            initial: numbers[system.table.initial as usize],
+        },
+        source: &*mid_source,
+        label: &*mid_label,
+        target: &*mid_target,
     };
-    sort_topological(
-        middle,
-        &*mid_source,
-        &*mid_label,
-        &*mid_target,
-        true,
-        true,
-        &mut *a,
-        b,
-        c,
-    );
-    renumber(table.n as usize, &*a, numbers);
+    sort_topological(&middle, true, true, &mut *a, b, c);
+    renumber(system.table.n as usize, &*a, numbers);
 }
 
 // The new number of each state, over the first n cells of `numbers`. Returns how many new states there are. The slices behind are used.
 fn find_numbers(
-    table: Table,
-    source: &[u16],
-    label: &[u16],
-    target: &[u16],
+    system: &Lts<'_>,
     eliminate_tau_selfloops: bool,
     numbers: &mut [u16],
     mid_source: &mut [u16],
@@ -110,20 +95,17 @@ fn find_numbers(
     order: &mut [u16],
     spare: &mut [u16],
 ) -> usize
-    requires valid { Valid (lts table source.now label.now target.now) × (table.n ≤ length numbers.old) }
-    requires m_in_bounds { (table.m ≤ length mid_source.old) × (table.m ≤ length mid_label.old) }
-    requires m_in_bounds_2 { (table.m ≤ length mid_target.old) × (table.n + table.m + 1 ≤ length a.old) }
-    requires m_in_bounds_3 { (table.n + table.m + 1 ≤ length b.old) × (table.n + table.m + 1 ≤ length c.old) }
-    requires m_in_bounds_4 { (table.m ≤ length order.old) × (table.m ≤ length spare.old) }
-    ensures value { result ≡ components (lts table source.now label.now target.now) }
-    ensures numbers_value { let number = new_number (lts table source.now label.now target.now) eliminate_tau_selfloops in
-        numbers.new ≡ written table.n number numbers.old }
+    requires valid { Valid (lts_of system.now) × (system.now.table.n ≤ length numbers.old) }
+    requires m_in_bounds { let t = lts_of system.now in (t.m ≤ length mid_source.old) × (t.m ≤ length mid_label.old) }
+    requires m_in_bounds_2 { let t = lts_of system.now in (t.m ≤ length mid_target.old) × (t.n + t.m + 1 ≤ length a.old) }
+    requires m_in_bounds_3 { let t = lts_of system.now in (t.n + t.m + 1 ≤ length b.old) × (t.n + t.m + 1 ≤ length c.old) }
+    requires m_in_bounds_4 { let t = lts_of system.now in (t.m ≤ length order.old) × (t.m ≤ length spare.old) }
+    ensures value { result ≡ components (lts_of system.now) }
+    ensures numbers_value { let number = new_number (lts_of system.now) eliminate_tau_selfloops in
+        numbers.new ≡ written system.now.table.n number numbers.old }
 {
     let count = tau_scc_decomposition(
-        table,
-        source,
-        label,
-        target,
+        system,
         &mut *numbers,
         &mut *order,
         &mut *mid_source,
@@ -134,10 +116,7 @@ fn find_numbers(
         &mut *c,
     );
     order_components(
-        table,
-        source,
-        label,
-        target,
+        system,
         count,
         eliminate_tau_selfloops,
         numbers,
@@ -153,22 +132,10 @@ fn find_numbers(
     count
 }
 
-// What comes out: the header but for the labels, and a given state's new number.
-#[derive(Clone, Copy)]
-pub struct Reordered {
-    pub n: usize,
-    pub m: usize,
-    pub initial: usize,
-    pub state: usize,
-}
-
 // The naive quotient by components, renumbered in the reversed hidden order, over the first cells of the result columns. The nine work
 // slices may hold anything, and are zero then.
 pub fn tau_cycle_elimination_and_reorder(
-    table: Table,
-    source: &[u16],
-    label: &[u16],
-    target: &[u16],
+    system: &Lts<'_>,
     state: usize,
     eliminate_tau_selfloops: bool,
     result_source: &mut [u16],
@@ -184,19 +151,19 @@ pub fn tau_cycle_elimination_and_reorder(
     order: &mut [u16],
     spare: &mut [u16],
 ) -> Reordered
-    requires valid { Valid (lts table source.now label.now target.now) × (state < table.n) × (table.n ≤ length numbers.old) }
-    requires m_in_bounds { (table.m ≤ length result_source.old) × (table.m ≤ length result_label.old)
-        × (table.m ≤ length result_target.old) }
-    requires m_in_bounds_2 { (table.m ≤ length mid_source.old) × (table.m ≤ length mid_label.old) }
-    requires m_in_bounds_3 { (table.m ≤ length mid_target.old) × (table.n + table.m + 1 ≤ length a.old) }
-    requires m_in_bounds_4 { (table.n + table.m + 1 ≤ length b.old) × (table.n + table.m + 1 ≤ length c.old) }
-    requires m_in_bounds_5 { (table.m ≤ length order.old) × (table.m ≤ length spare.old) }
-    ensures fact { let system = lts table source.now label.now target.now in
-        (result.n ≡ components system) × (result.m ≡ length (new_rows system eliminate_tau_selfloops)) }
-    ensures fact_2 { let system = lts table source.now label.now target.now in
-        let number = new_number system eliminate_tau_selfloops in
-        (result.initial ≡ number table.initial) × (result.state ≡ number state) }
-    ensures out_left_value { let kept = new_rows (lts table source.now label.now target.now) eliminate_tau_selfloops in
+    requires valid { Valid (lts_of system.now) × (state < system.now.table.n) × (system.now.table.n ≤ length numbers.old) }
+    requires m_in_bounds { let t = lts_of system.now in
+        (t.m ≤ length result_source.old) × (t.m ≤ length result_label.old) × (t.m ≤ length result_target.old) }
+    requires m_in_bounds_2 { let t = lts_of system.now in (t.m ≤ length mid_source.old) × (t.m ≤ length mid_label.old) }
+    requires m_in_bounds_3 { let t = lts_of system.now in (t.m ≤ length mid_target.old) × (t.n + t.m + 1 ≤ length a.old) }
+    requires m_in_bounds_4 { let t = lts_of system.now in (t.n + t.m + 1 ≤ length b.old) × (t.n + t.m + 1 ≤ length c.old) }
+    requires m_in_bounds_5 { let t = lts_of system.now in (t.m ≤ length order.old) × (t.m ≤ length spare.old) }
+    ensures fact { let t = lts_of system.now in
+        (result.table.n ≡ components t) × (result.table.labels ≡ t.labels)
+        × (result.table.m ≡ length (new_rows t eliminate_tau_selfloops)) }
+    ensures fact_2 { let number = new_number (lts_of system.now) eliminate_tau_selfloops in
+        (result.table.initial ≡ number system.now.table.initial) × (result.state ≡ number state) }
+    ensures out_left_value { let kept = new_rows (lts_of system.now) eliminate_tau_selfloops in
         let out : Three = (result_source.old, (result_label.old, result_target.old)) in
         let out_left : Three = (result_source.new, (result_label.new, result_target.new)) in
         out_left ≡ rows_over kept out }
@@ -206,10 +173,7 @@ pub fn tau_cycle_elimination_and_reorder(
         spare.new }
 {
     let n = find_numbers(
-        table,
-        source,
-        label,
-        target,
+        system,
         eliminate_tau_selfloops,
         &mut *numbers,
         &mut *mid_source,
@@ -222,10 +186,7 @@ pub fn tau_cycle_elimination_and_reorder(
         &mut *spare,
     );
     let m = quotient_rows(
-        table,
-        source,
-        label,
-        target,
+        system,
         &*numbers,
         eliminate_tau_selfloops,
         eliminate_tau_selfloops,
@@ -238,16 +199,18 @@ pub fn tau_cycle_elimination_and_reorder(
         order,
         spare,
     );
-    let initial = at(&*numbers, table.initial as usize);
-    let other = at(&*numbers, state);
+    let reordered = Reordered {
+        table: Table {
+            n: n as u16,
+            labels: system.table.labels,
+            m: m as u16,
+            initial: numbers[system.table.initial as usize],
+        },
+        state: numbers[state],
+    };
     clear(numbers);
     clear(mid_source);
     clear(mid_label);
     clear(mid_target);
-    Reordered {
-        n,
-        m,
-        initial,
-        state: other,
-    }
+    reordered
 }

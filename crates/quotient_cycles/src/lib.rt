@@ -4,30 +4,18 @@
 ghost use Rattle.table.specs.Tables.{Three};
 ghost use Rattle.std.specs.Prelude.{◌≡◌, [], ◌∷◌};
 ghost use Rattle.quotient_cycles.specs.Call.{said_reordered, tau_cycle_elimination_and_reorder};
-ghost use Rattle.table.specs.Lts.{lts};
+ghost use Rattle.table.specs.Lts.{lts_of};
 
 pub mod cores;
 
-use columns::answers::Refusal;
-use table::Table;
-use table::checks::{argument_refusal, room_for};
+use columns::answers::Answer;
+use table::{Lts, Table};
 
-// The outcome: the header of the table whose rows stand in the result columns, and the new number of the state that was given.
-#[derive(Clone, Copy)]
-pub enum ReorderedOutcome {
-    Done {
-        n: u64,
-        labels: u64,
-        m: u64,
-        initial: u64,
-        state: u64,
-    },
-    Refused(Refusal),
-}
-
-#[derive(Clone, Copy)]
-pub struct ReorderedAnswer {
-    pub outcome: ReorderedOutcome,
+// What comes out: the header of the table whose rows stand in the result columns, and the new number of the state that was given.
+#[derive(Clone, Copy, PartialEq, Eq, Debug)]
+pub struct Reordered {
+    pub table: Table,
+    pub state: u16,
 }
 
 // States that reach each other by hidden steps become one, and the rows between these, as a set, are written over the first cells of the
@@ -35,10 +23,7 @@ pub struct ReorderedAnswer {
 // hidden order, so that each hidden row to another state leads to a smaller number. Answers the header of what comes out, and the state's
 // new number.
 pub fn tau_cycle_elimination_and_reorder(
-    table: Table,
-    source: &[u16],
-    label: &[u16],
-    target: &[u16],
+    system: &Lts<'_>,
     state: u16,
     eliminate_tau_selfloops: bool,
     result_source: &mut [u16],
@@ -53,18 +38,19 @@ pub fn tau_cycle_elimination_and_reorder(
     c: &mut [u16],
     order: &mut [u16],
     spare: &mut [u16],
-) -> ReorderedAnswer
-    ensures { let system = lts table source.now label.now target.now in
-        let left = numbers.new ∷ mid_source.new ∷ mid_label.new ∷ mid_target.new ∷ a.new ∷ b.new ∷ c.new ∷ order.new ∷ spare.new ∷ [] in
+) -> Answer<Reordered>
+    ensures { let rest_left = a.new ∷ b.new ∷ c.new ∷ order.new ∷ spare.new ∷ [] in
+        let left = numbers.new ∷ mid_source.new ∷ mid_label.new ∷ mid_target.new ∷ rest_left in
         let rest = a.old ∷ b.old ∷ c.old ∷ order.old ∷ spare.old ∷ [] in
         let work = numbers.old ∷ mid_source.old ∷ mid_label.old ∷ mid_target.old ∷ rest in
         let out : Three = (result_source.old, (result_label.old, result_target.old)) in
         let out_left : Three = (result_source.new, (result_label.new, result_target.new)) in
-        (said_reordered result, (out_left, left)) ≡ tau_cycle_elimination_and_reorder system state eliminate_tau_selfloops out work }
+        (said_reordered result, (out_left, left))
+        ≡ tau_cycle_elimination_and_reorder (lts_of system.now) state eliminate_tau_selfloops out work }
 {
     let s = state as usize;
-    let room = room_for(
-        table,
+    let table = system.table;
+    let room = table.room_for(
         table.m as usize,
         &[result_source.len(), result_label.len(), result_target.len()],
         &[
@@ -79,18 +65,11 @@ pub fn tau_cycle_elimination_and_reorder(
             spare.len(),
         ],
     );
-    let t = argument_refusal(table, source, label, target, s, table.n as usize, room);
-    let refused = t.number;
-    if refused != 0 {
-        return ReorderedAnswer {
-            outcome: ReorderedOutcome::Refused(t),
-        };
+    if let Err(refusal) = system.check_argument(s, table.n as usize, room) {
+        return Answer::refused(refusal);
     }
-    let r = cores::tau_cycle_elimination_and_reorder(
-        table,
-        source,
-        label,
-        target,
+    let reordered = cores::tau_cycle_elimination_and_reorder(
+        system,
         s,
         eliminate_tau_selfloops,
         result_source,
@@ -106,13 +85,5 @@ pub fn tau_cycle_elimination_and_reorder(
         order,
         spare,
     );
-    ReorderedAnswer {
-        outcome: ReorderedOutcome::Done {
-            n: r.n as u64,
-            labels: table.labels as u64,
-            m: r.m as u64,
-            initial: r.initial as u64,
-            state: r.state as u64,
-        },
-    }
+    Answer::done(reordered)
 }

@@ -1,6 +1,6 @@
 -- A witness, by the marks.
-use Rattle.std.specs.Prelude.{◌≡◌, ℕ, ◌<◌, Bool, true, false, not, ◌&&◌, eqb, List, length, get_or}
-use mathlib.Core.Path.{refl, ap, ap₂, ◌∙◌}
+use Rattle.std.specs.Prelude.{◌≡◌, ℕ, ◌<◌, Bool, true, not, ◌&&◌, eqb, List, length, get_or}
+use mathlib.Core.Path.{ap, ◌∙◌}
 use Rattle.columns.proofs.Counting.{bit-set}
 use Rattle.columns.specs.Counting.{bit}
 use Rattle.columns.proofs.Lists.{length-listed, listed_at}
@@ -31,12 +31,9 @@ module _ (t : Lts) (v : Valid t) (i j : ℕ) (h : j < t.m) (forward backward : L
       (listed_at t.n (λ x. bit (reaches t true x (get_or t.target i 0))) (get_or t.target j 0) (v.fields j h).target)
       ∙ bit-set (reaches t true (get_or t.target j 0) (get_or t.target i 0))
 
-  pub witness-marks :
-      rival t.source t.label t.target i j ≡ true
-      → (not (eqb (get_or forward (get_or t.source j 0) 0) 0) && not (eqb (get_or backward (get_or t.target j 0) 0) 0)) ≡ witness t i j
+  -- the three tests of the row, as they came out
+  pub marked :
+      (r f b : Bool) → r ≡ rival t.source t.label t.target i j → f ≡ not (eqb (get_or forward (get_or t.source j 0) 0) 0)
+      → b ≡ not (eqb (get_or backward (get_or t.target j 0) 0) 0) → (r && (f && b)) ≡ witness t i j
   unfolding witness
-  witness-marks e = rw e (ap₂ (λ (x y : Bool). x && y) from into)
-
-pub witness-rival : (t : Lts) (i j : ℕ) → rival t.source t.label t.target i j ≡ false → false ≡ witness t i j
-unfolding witness
-witness-rival t i j e = rw e refl
+  marked r f b er ef' eb' = λ k. er k && ((ef' ∙ from) k && (eb' ∙ into) k)

@@ -1,6 +1,6 @@
 -- `remove_redundant_transitions` as it is called: what it refuses, says and leaves.
 use Rattle.std.specs.Prelude.{ℕ, List, [], ◌∷◌, map, length}
-use Rattle.columns.specs.declared.answers.Refusal.{Refusal}
+use Rattle.columns.specs.Answers.{Refusal}
 use Rattle.columns.specs.Answers.{Said, leaving}
 use Rattle.columns.specs.Columns.{zeroed}
 use Rattle.columns.specs.Due.{due, all_long}

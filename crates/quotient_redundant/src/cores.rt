@@ -3,78 +3,50 @@ ghost use Rattle.std.specs.Prelude.{◌≡◌, ◌+◌, ◌-◌, ◌*◌, ◌<�
 ghost use Rattle.columns.specs.Counting.{many, members};
 ghost use Rattle.columns.specs.Lent.{Cleared};
 ghost use Rattle.quotient_redundant.specs.Redundant.{rival, witness, redundant, remains, remaining_rows};
-ghost use Rattle.table.specs.Lts.{Valid, lts};
+ghost use Rattle.table.specs.Lts.{Valid, lts_of};
 ghost use Rattle.table.specs.Marks.{marks_from, marks_into};
 ghost use Rattle.table.specs.Stretch.{StartsOf};
 ghost use Rattle.table.specs.Tables.{Three, rows_over};
 ghost use Rattle.table.specs.Turned.{TurnedWithStarts};
 
-use columns::cells::at;
-use columns::clearing::clear_seven;
-use columns::rows::write_rows;
-use table::Table;
-use table::cores::{reach, reach_back, turn_rows};
+use columns::cells::{at, clear};
+use columns::sorting::Keys;
+use table::Lts;
 
 // Whether row j is another row than i, has its label, and is no hidden self-loop.
-fn rivals(source: &[u16], label: &[u16], target: &[u16], i: usize, j: usize) -> bool
-    requires { (j < length source.now) × (i < length label.now) × (j < length label.now) × (j < length target.now) }
-    ensures { result ≡ rival source.now label.now target.now i j }
+fn rivals(system: &Lts<'_>, i: usize, j: usize) -> bool
+    requires { (j < length system.now.source.now) × (i < length system.now.label.now) × (j < length system.now.label.now)
+        × (j < length system.now.target.now) }
+    ensures { result ≡ rival system.now.source.now system.now.label.now system.now.target.now i j }
 {
-    let a = at(label, j);
-    let alike = a == at(label, i);
-    let still = (a == 0) & (at(source, j) == at(target, j));
+    let a = at(system.label, j);
+    let alike = a == at(system.label, i);
+    let still = (a == 0) & (at(system.source, j) == at(system.target, j));
     (j != i) & (alike & !still)
 }
 
 // Whether row j is a witness that row i can go. `forward` marks what the source of row i reaches by hidden steps, `backward` what
 // reaches its target.
-fn is_witness(
-    table: Table,
-    source: &[u16],
-    label: &[u16],
-    target: &[u16],
-    forward: &[u16],
-    backward: &[u16],
-    i: usize,
-    j: usize,
-) -> bool
-    requires valid { Valid (lts table source.now label.now target.now) × (i < table.m) × (j < table.m) }
-    requires forward_value { forward.now ≡ marks_from (lts table source.now label.now target.now) (slice_index source.now i) }
-    requires backward_value { backward.now ≡ marks_into (lts table source.now label.now target.now) (slice_index target.now i) }
-    ensures { result ≡ witness (lts table source.now label.now target.now) i j }
+fn is_witness(system: &Lts<'_>, forward: &[u16], backward: &[u16], i: usize, j: usize) -> bool
+    requires valid { Valid (lts_of system.now) × (i < system.now.table.m) × (j < system.now.table.m) }
+    requires forward_value { forward.now ≡ marks_from (lts_of system.now) (slice_index system.now.source.now i) }
+    requires backward_value { backward.now ≡ marks_into (lts_of system.now) (slice_index system.now.target.now i) }
+    ensures { result ≡ witness (lts_of system.now) i j }
 {
-    if !rivals(source, label, target, i, j) {
-        return false;
-    }
-    let s = at(source, j);
-    let u = at(target, j);
-    (at(forward, s) != 0) & (at(backward, u) != 0)
+    let s = at(system.source, j);
+    let u = at(system.target, j);
+    rivals(system, i, j) && at(forward, s) != 0 && at(backward, u) != 0
 }
 
 // Whether row i can go, by the same marks.
-fn is_redundant_transition(
-    table: Table,
-    source: &[u16],
-    label: &[u16],
-    target: &[u16],
-    forward: &[u16],
-    backward: &[u16],
-    i: usize,
-) -> bool
-    requires valid { Valid (lts table source.now label.now target.now) × (i < table.m) }
-    requires forward_value { forward.now ≡ marks_from (lts table source.now label.now target.now) (slice_index source.now i) }
-    requires backward_value { backward.now ≡ marks_into (lts table source.now label.now target.now) (slice_index target.now i) }
-    ensures { result ≡ redundant (lts table source.now label.now target.now) i }
+fn is_redundant_transition(system: &Lts<'_>, forward: &[u16], backward: &[u16], i: usize) -> bool
+    requires valid { Valid (lts_of system.now) × (i < system.now.table.m) }
+    requires forward_value { forward.now ≡ marks_from (lts_of system.now) (slice_index system.now.source.now i) }
+    requires backward_value { backward.now ≡ marks_into (lts_of system.now) (slice_index system.now.target.now i) }
+    ensures { result ≡ redundant (lts_of system.now) i }
 {
-    let m = table.m as usize;
-    let mut j = 0;
-    while j < m {
-        if is_witness(table, source, label, target, forward, backward, i, j) {
-            return true;
-        }
-        j += 1;
-    }
-    false
+    let m = system.table.m as usize;
+    (0..m).any(|j| is_witness(system, forward, backward, i, j))
 }
 
 // Whether row i has the source of the row before.
@@ -82,136 +54,68 @@ fn same_source(source: &[u16], i: usize) -> bool
     requires { i < length source.now }
     ensures { result ≡ true → (0 < i) × (slice_index source.now (i - 1) ≡ slice_index source.now i) }
 {
-    if i == 0 {
-        return false;
-    }
-    if at(source, i - 1) == at(source, i) {
-        true
-    } else {
-        false
-    }
+    i != 0 && at(source, i - 1) == at(source, i)
 }
 
 // Marks what the source of row i reaches by hidden steps. The marks stay as they are where the row before has the same source.
-fn mark_from(
-    table: Table,
-    source: &[u16],
-    label: &[u16],
-    target: &[u16],
-    starts: &[u16],
-    i: usize,
-    forward: &mut [u16],
-    queue: &mut [u16],
-)
-    requires valid { Valid (lts table source.now label.now target.now) × (i < table.m) × StartsOf source.now table.m starts.now }
-    requires forward_len { (length forward.old ≡ table.n) × (table.n ≤ length queue.old) }
-    requires forward_value { 0 < i → forward.old ≡ marks_from (lts table source.now label.now target.now) (slice_index source.now (i - 1)) }
-    ensures { forward.new ≡ marks_from (lts table source.now label.now target.now) (slice_index source.now i) }
+fn mark_from(system: &Lts<'_>, starts: &[u16], i: usize, forward: &mut [u16], queue: &mut [u16])
+    requires valid { Valid (lts_of system.now) × (i < system.now.table.m) × StartsOf system.now.source.now system.now.table.m starts.now }
+    requires forward_len { (length forward.old ≡ system.now.table.n) × (system.now.table.n ≤ length queue.old) }
+    requires forward_value { 0 < i → forward.old ≡ marks_from (lts_of system.now) (slice_index system.now.source.now (i - 1)) }
+    ensures { forward.new ≡ marks_from (lts_of system.now) (slice_index system.now.source.now i) }
 {
-    if same_source(source, i) {
-        return;
+    if !same_source(system.source, i) {
+        let s = at(system.source, i);
+        system.reach(starts, true, s, forward, queue);
     }
-    let s = at(source, i);
-    reach(
-        table, source, label, target, starts, true, s, forward, queue,
-    );
 }
 
 // Whether row i can go, by the rows and the rows turned round, with where the rows of each state begin. `forward` marks what the source of
 // the row before reaches by hidden steps, and what that of row i reaches then.
 fn row_goes(
-    table: Table,
-    source: &[u16],
-    label: &[u16],
-    target: &[u16],
-    back: Table,
-    back_source: &[u16],
-    back_label: &[u16],
-    back_target: &[u16],
+    system: &Lts<'_>,
+    back: &Lts<'_>,
     i: usize,
     forward: &mut [u16],
     backward: &mut [u16],
     queue: &mut [u16],
 ) -> bool
-    requires i_lt_m { i < table.m }
-    requires turned_with_starts { TurnedWithStarts (lts table source.now label.now target.now) (lts back back_source.now back_label.now
-        back_target.now) }
-    requires forward_len { (length forward.old ≡ table.n) × (length backward.old ≡ table.n) × (table.n ≤ length queue.old) }
-    requires forward_value { 0 < i → forward.old ≡ marks_from (lts table source.now label.now target.now) (slice_index source.now (i - 1)) }
-    ensures value { result ≡ redundant (lts table source.now label.now target.now) i }
-    ensures forward_value_2 { forward.new ≡ marks_from (lts table source.now label.now target.now) (slice_index source.now i) }
+    requires i_lt_m { i < system.now.table.m }
+    requires turned_with_starts { TurnedWithStarts (lts_of system.now) (lts_of back.now) }
+    requires forward_len { (length forward.old ≡ system.now.table.n) × (length backward.old ≡ system.now.table.n)
+        × (system.now.table.n ≤ length queue.old) }
+    requires forward_value { 0 < i → forward.old ≡ marks_from (lts_of system.now) (slice_index system.now.source.now (i - 1)) }
+    ensures value { result ≡ redundant (lts_of system.now) i }
+    ensures forward_value_2 { forward.new ≡ marks_from (lts_of system.now) (slice_index system.now.source.now i) }
 {
-    let m = table.m as usize;
-    mark_from(
-        table,
-        source,
-        label,
-        target,
-        &back_target[m..],
-        i,
-        &mut *forward,
-        &mut *queue,
-    );
-    let u = at(target, i);
-    reach_back(
-        back,
-        back_source,
-        back_label,
-        back_target,
-        &back_label[m..],
-        true,
-        u,
-        &mut *backward,
-        queue,
-    );
-    is_redundant_transition(table, source, label, target, &*forward, &*backward, i)
+    let m = system.table.m as usize;
+    mark_from(system, &back.target[m..], i, &mut *forward, &mut *queue);
+    let u = at(system.target, i);
+    back.reach_back(&back.label[m..], true, u, &mut *backward, queue);
+    is_redundant_transition(system, &*forward, &*backward, i)
 }
 
 // The numbers of the rows that stay, ascending, over the first cells of `order`. Returns how many.
 fn list_remaining(
-    table: Table,
-    source: &[u16],
-    label: &[u16],
-    target: &[u16],
-    back: Table,
-    back_source: &[u16],
-    back_label: &[u16],
-    back_target: &[u16],
+    system: &Lts<'_>,
+    back: &Lts<'_>,
     order: &mut [u16],
     forward: &mut [u16],
     backward: &mut [u16],
     queue: &mut [u16],
 ) -> usize
-    requires turned_with_starts { TurnedWithStarts (lts table source.now label.now target.now) (lts back back_source.now back_label.now
-        back_target.now) }
-    requires m_in_bounds { (table.m ≤ length order.old) × (length forward.old ≡ table.n) }
-    requires backward_len { (length backward.old ≡ table.n) × (table.n ≤ length queue.old) }
-    ensures order_value { take result order.new ≡ members table.m (remains (lts table source.now label.now target.now)) }
-    ensures value { result ≡ many table.m (remains (lts table source.now label.now target.now)) }
+    requires turned_with_starts { TurnedWithStarts (lts_of system.now) (lts_of back.now) }
+    requires m_in_bounds { (system.now.table.m ≤ length order.old) × (length forward.old ≡ system.now.table.n) }
+    requires backward_len { (length backward.old ≡ system.now.table.n) × (system.now.table.n ≤ length queue.old) }
+    ensures order_value { take result order.new ≡ members system.now.table.m (remains (lts_of system.now)) }
+    ensures value { result ≡ many system.now.table.m (remains (lts_of system.now)) }
 {
-    let m = table.m as usize;
-    let mut i = 0;
+    let m = system.table.m as usize;
     let mut k = 0;
-    while i < m {
-        if row_goes(
-            table,
-            source,
-            label,
-            target,
-            back,
-            back_source,
-            back_label,
-            back_target,
-            i,
-            &mut *forward,
-            &mut *backward,
-            &mut *queue,
-        ) {
-            i += 1;
-        } else {
+    for i in 0..m {
+        if !row_goes(system, back, i, forward, backward, queue) {
             order[k] = i as u16;
             k += 1;
-            i += 1;
         }
     }
     k
@@ -219,10 +123,7 @@ fn list_remaining(
 
 // The same, by the rows alone: the three columns named `back` take the rows turned round.
 fn find_remaining(
-    table: Table,
-    source: &[u16],
-    label: &[u16],
-    target: &[u16],
+    system: &Lts<'_>,
     order: &mut [u16],
     back_source: &mut [u16],
     back_label: &mut [u16],
@@ -231,34 +132,31 @@ fn find_remaining(
     backward: &mut [u16],
     queue: &mut [u16],
 ) -> usize
-    requires valid { Valid (lts table source.now label.now target.now) × (table.m ≤ length order.old) }
-    requires m_in_bounds { (table.m ≤ length back_source.old) × (table.m ≤ length back_label.old) }
-    requires m_in_bounds_2 { (table.m ≤ length back_target.old) × (table.n ≤ length forward.old) × (table.n ≤ length backward.old) }
-    requires n_in_bounds { (table.n ≤ length queue.old) × (table.m ≤ 2 * length queue.old + 1) }
-    ensures order_value { take result order.new ≡ members table.m (remains (lts table source.now label.now target.now)) }
-    ensures value { result ≡ many table.m (remains (lts table source.now label.now target.now)) }
+    requires valid { Valid (lts_of system.now) × (system.now.table.m ≤ length order.old) }
+    requires m_in_bounds { (system.now.table.m ≤ length back_source.old) × (system.now.table.m ≤ length back_label.old) }
+    requires m_in_bounds_2 { (system.now.table.m ≤ length back_target.old) × (system.now.table.n ≤ length forward.old)
+        × (system.now.table.n ≤ length backward.old) }
+    requires n_in_bounds { (system.now.table.n ≤ length queue.old) × (system.now.table.m ≤ 2 * length queue.old + 1) }
+    ensures order_value { take result order.new ≡ members system.now.table.m (remains (lts_of system.now)) }
+    ensures value { result ≡ many system.now.table.m (remains (lts_of system.now)) }
 {
-    let n = table.n as usize;
-    let back = turn_rows(
-        table,
-        source,
-        label,
-        target,
+    let n = system.table.n as usize;
+    let table = system.turn_rows(
         &mut *back_source,
         &mut *back_label,
         &mut *back_target,
         &mut *order,
         &mut *queue,
     );
-    list_remaining(
+    let back = Lts {
         table,
-        source,
-        label,
-        target,
-        back,
-        &*back_source,
-        &*back_label,
-        &*back_target,
+        source: &*back_source,
+        label: &*back_label,
+        target: &*back_target,
+    };
+    list_remaining(
+        system,
+        &back,
         order,
         &mut forward[..n],
         &mut backward[..n],
@@ -269,10 +167,7 @@ fn find_remaining(
 // The rows that stay, in their order, over the first cells of the result columns. Returns how many. The seven work slices may hold
 // anything, and are zero then.
 pub fn remove_redundant_transitions(
-    table: Table,
-    source: &[u16],
-    label: &[u16],
-    target: &[u16],
+    system: &Lts<'_>,
     result_source: &mut [u16],
     result_label: &mut [u16],
     result_target: &mut [u16],
@@ -284,27 +179,23 @@ pub fn remove_redundant_transitions(
     backward: &mut [u16],
     queue: &mut [u16],
 ) -> usize
-    requires valid { Valid (lts table source.now label.now target.now) }
-    requires m_in_bounds { (table.m ≤ length result_source.old) × (table.m ≤ length result_label.old)
-        × (table.m ≤ length result_target.old) }
-    requires m_in_bounds_2 { (table.m ≤ length order.old) × (table.m ≤ length back_source.old) }
-    requires m_in_bounds_3 { (table.m ≤ length back_label.old) × (table.m ≤ length back_target.old) }
-    requires n_in_bounds { (table.n ≤ length forward.old) × (table.n ≤ length backward.old) }
-    requires n_in_bounds_2 { (table.n ≤ length queue.old) × (table.m ≤ 2 * length queue.old + 1) }
-    ensures value { result ≡ length (remaining_rows (lts table source.now label.now target.now)) }
-    ensures out_left_value { let system = lts table source.now label.now target.now in
-        let out : Three = (result_source.old, (result_label.old, result_target.old)) in
+    requires valid { Valid (lts_of system.now) }
+    requires m_in_bounds { (system.now.table.m ≤ length result_source.old) × (system.now.table.m ≤ length result_label.old)
+        × (system.now.table.m ≤ length result_target.old) }
+    requires m_in_bounds_2 { (system.now.table.m ≤ length order.old) × (system.now.table.m ≤ length back_source.old) }
+    requires m_in_bounds_3 { (system.now.table.m ≤ length back_label.old) × (system.now.table.m ≤ length back_target.old) }
+    requires n_in_bounds { (system.now.table.n ≤ length forward.old) × (system.now.table.n ≤ length backward.old) }
+    requires n_in_bounds_2 { (system.now.table.n ≤ length queue.old) × (system.now.table.m ≤ 2 * length queue.old + 1) }
+    ensures value { result ≡ length (remaining_rows (lts_of system.now)) }
+    ensures out_left_value { let out : Three = (result_source.old, (result_label.old, result_target.old)) in
         let out_left : Three = (result_source.new, (result_label.new, result_target.new)) in
-        out_left ≡ rows_over (remaining_rows system) out }
+        out_left ≡ rows_over (remaining_rows (lts_of system.now)) out }
     ensures cleared { Cleared order.old order.new × Cleared back_source.old back_source.new × Cleared back_label.old back_label.new ×
         Cleared back_target.old back_target.new }
     ensures cleared_2 { Cleared forward.old forward.new × Cleared backward.old backward.new × Cleared queue.old queue.new }
 {
     let r = find_remaining(
-        table,
-        source,
-        label,
-        target,
+        system,
         &mut *order,
         &mut *back_source,
         &mut *back_label,
@@ -313,23 +204,18 @@ pub fn remove_redundant_transitions(
         &mut *backward,
         &mut *queue,
     );
-    write_rows(
-        source,
-        label,
-        target,
-        &order[..r],
-        result_source,
-        result_label,
-        result_target,
-    );
-    clear_seven(
-        order,
-        back_source,
-        back_label,
-        back_target,
-        forward,
-        backward,
-        queue,
-    );
+    let rows = Keys {
+        first: system.source,
+        second: system.label,
+        third: system.target,
+    };
+    rows.write_rows(&order[..r], result_source, result_label, result_target);
+    clear(order);
+    clear(back_source);
+    clear(back_label);
+    clear(back_target);
+    clear(forward);
+    clear(backward);
+    clear(queue);
     r
 }

@@ -5,22 +5,18 @@
 ghost use Rattle.std.specs.Prelude.{◌≡◌, [], ◌∷◌};
 ghost use Rattle.quotient_redundant.specs.Call.{remove_redundant_transitions};
 ghost use Rattle.table.specs.Tables.{Three, said_table};
-ghost use Rattle.table.specs.Lts.{lts};
+ghost use Rattle.table.specs.Lts.{lts_of};
 
 pub mod cores;
 
-use table::Table;
-use table::answers::{TableAnswer, refusing_table, table_of};
-use table::checks::{check, room_for};
+use columns::answers::Answer;
+use table::{Lts, Table};
 
 // The rows that are not redundant, over the first cells of the result columns. A row (s, a, u) goes if s reaches t by hidden steps, some
 // other row (t, a, v) that is no hidden self-loop exists, and v reaches u by hidden steps. Every test is against the whole table. Answers
 // the header of what is left.
 pub fn remove_redundant_transitions(
-    table: Table,
-    source: &[u16],
-    label: &[u16],
-    target: &[u16],
+    system: &Lts<'_>,
     result_source: &mut [u16],
     result_label: &mut [u16],
     result_target: &mut [u16],
@@ -31,16 +27,15 @@ pub fn remove_redundant_transitions(
     forward: &mut [u16],
     backward: &mut [u16],
     queue: &mut [u16],
-) -> TableAnswer
-    ensures { let system = lts table source.now label.now target.now in
-        let left = order.new ∷ back_source.new ∷ back_label.new ∷ back_target.new ∷ forward.new ∷ backward.new ∷ queue.new ∷ [] in
+) -> Answer<Table>
+    ensures { let left = order.new ∷ back_source.new ∷ back_label.new ∷ back_target.new ∷ forward.new ∷ backward.new ∷ queue.new ∷ [] in
         let work = order.old ∷ back_source.old ∷ back_label.old ∷ back_target.old ∷ forward.old ∷ backward.old ∷ queue.old ∷ [] in
         let out : Three = (result_source.old, (result_label.old, result_target.old)) in
         let out_left : Three = (result_source.new, (result_label.new, result_target.new)) in
-        (said_table result, (out_left, left)) ≡ remove_redundant_transitions system out work }
+        (said_table result, (out_left, left)) ≡ remove_redundant_transitions (lts_of system.now) out work }
 {
-    let room = room_for(
-        table,
+    let table = system.table;
+    let room = table.room_for(
         table.m as usize,
         &[result_source.len(), result_label.len(), result_target.len()],
         &[
@@ -53,16 +48,11 @@ pub fn remove_redundant_transitions(
             queue.len(),
         ],
     );
-    let t = check(table, source, label, target, room);
-    let refused = t.number;
-    if refused != 0 {
-        return refusing_table(t);
+    if let Err(refusal) = system.check(room) {
+        return Answer::refused(refusal);
     }
     let m = cores::remove_redundant_transitions(
-        table,
-        source,
-        label,
-        target,
+        system,
         result_source,
         result_label,
         result_target,
@@ -74,10 +64,8 @@ pub fn remove_redundant_transitions(
         backward,
         queue,
     );
-    table_of(
-        table.n as u64,
-        table.labels as u64,
-        m as u64,
-        table.initial as u64,
-    )
+    Answer::done(Table {
+        m: m as u16,
+        ..table
+    })
 }

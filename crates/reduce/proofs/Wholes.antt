@@ -11,7 +11,7 @@ use lib.Seq.{length-take-le}
 use Rattle.columns.specs.Answers.{Said, refused}
 use Rattle.columns.specs.Due.{due}
 use Rattle.columns.specs.Limits.{max_rows}
-use Rattle.columns.specs.declared.answers.Refusal.{Refusal}
+use Rattle.columns.specs.Answers.{Refusal}
 use Rattle.columns.proofs.Chains.{passed_both}
 use Rattle.file.specs.Input.{header_in, file_tests, sized_tests, count_tests, long_refusal, held_refusal}
 use Rattle.file.specs.Layout.{input_rows, largest_input, counted}
@@ -21,7 +21,6 @@ use Rattle.file.proofs.Theorems.{held_whole}
 use Rattle.file_reduction.specs.Reducing.{reduce_file}
 use Rattle.file_reduction.proofs.Done.{refused_file}
 use Rattle.file_reduction.proofs.Ties.{largest, always_room}
-use Rattle.spelling.specs.Counts.{IsPrefixLen}
 use Rattle.reduce.specs.Held.{Heard, AsWhole, Enough}
 use Rattle.reduce.specs.declared.input.Got.{Got}
 
@@ -51,14 +50,12 @@ module _ (whole held : List ℕ) (got : Got) (h : Heard whole held got) where
 
 -- what the reader has read is enough
 pub read_enough :
-    (bytes : List ℕ) (got : Got) → got.used ≤ length bytes → (largest_input < got.size → input_rows ≤ got.used)
-    → (got.ended ≡ false → counted ≤ got.size) → IsPrefixLen got.used bytes × Enough (take got.used bytes) got
-read_enough bytes got fits header far =
-    let held = take got.used bytes in
-    let e = length-take-le got.used bytes fits in (
-      (fits, sym e),
-      record { header = λ h. omega (arith, header h, e); decides = λ whole heard. heard_decides whole held got heard far },
-    )
+    (bytes : List ℕ) (used : ℕ) (got : Got) → used ≤ length bytes → (largest_input < got.size → input_rows ≤ used)
+    → (got.ended ≡ false → counted ≤ got.size) → Enough (take used bytes) got
+read_enough bytes used got fits header far =
+    let held = take used bytes in
+    let e = length-take-le used bytes fits in
+    record { header = λ h. omega (arith, header h, e); decides = λ whole heard. heard_decides whole held got heard far }
 
 -- ---- what is reduced
 -- more bytes than the longest input has are always refused

@@ -33,10 +33,15 @@ unfoldable pub result_text : (blocks rows rounds : ℕ) → List ℕ
 unfolding counted
 result_text blocks rows rounds = counted blocks " blocks, " ++ counted rows " rows in " ++ counted rounds " rounds\n"
 
--- what is refused, where, and what that means
+-- what is refused, and where
+unfoldable pub place_text : (number place : ℕ) → List ℕ
+unfolding text counted
+place_text number place = text "refused " ++ counted number " at " ++ counted place ": "
+
+-- and what that means
 unfoldable pub refused_text : (number place : ℕ) → List ℕ
-unfolding text counted meaning
-refused_text number place = text "refused " ++ counted number " at " ++ counted place ": " ++ meaning number ++ text "\n"
+unfolding text meaning place_text
+refused_text number place = place_text number place ++ meaning number ++ text "\n"
 
 -- the line; of what is done, the first number, how many bytes are written, is not told
 unfoldable pub line_text : Said → List ℕ

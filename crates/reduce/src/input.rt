@@ -1,87 +1,51 @@
 // Standard input: its first bytes are held, the others counted as far as it matters.
-ghost use Rattle.std.specs.Prelude.{false, ◌≡◌, ◌≤◌, length, take};
+ghost use Rattle.std.specs.Prelude.{false, ◌≡◌, ◌≤◌, length, IfOk};
 ghost use Rattle.file.specs.Layout.{largest_input, counted};
-ghost use Rattle.spelling.specs.Counts.{IsPrefixLen};
 ghost use Rattle.reduce.specs.Held.{Enough};
 
 use file::layout::COUNTED;
-use std::io::{Read, Stdin};
+use std::io::{self, Read, Stdin};
 
-// What one read brought: how many bytes, none at the end of the input, and whether it did not fail.
-#[derive(Drop)]
-struct Brought {
-    good: bool,
-    count: usize,
-}
-
-// What was read: whether no read failed, whether the end was reached, how many bytes are held, and how many there were.
-#[derive(Drop)]
+// What was read: whether the end was reached, and how many bytes there were.
+#[derive(Clone, Copy)]
 pub struct Got {
-    pub good: bool,
     pub ended: bool,
-    pub used: usize,
     pub size: usize,
 }
 
-// One read.
-fn read_some(stdin: &mut Stdin, rest: &mut [u8]) -> Brought
-    ensures { result.count ≤ length rest.new }
-{
-    match stdin.read(rest) {
-        Ok(count) => Brought { good: true, count },
-        Err(_) => Brought {
-            good: false,
-            count: 0,
-        },
-    }
-}
-
 // Counts what comes behind the bytes held, until the input ends or as many are counted as matter.
-fn count_more(stdin: &mut Stdin, held: usize) -> Got
-    ensures { (result.used ≡ held) × (held ≤ result.size) × (result.ended ≡ false → counted ≤ result.size) }
+fn count_more(stdin: &mut Stdin, held: usize) -> io::Result<Got>
+    ensures { IfOk result (λ got. (held ≤ got.size) × (got.ended ≡ false → counted ≤ got.size)) }
 {
     let mut spare = [0u8; 4096];
     let mut size = held;
     while size < COUNTED {
-        let got = read_some(stdin, &mut spare);
-        let more = got.count;
+        let more = stdin.read(&mut spare)?;
         if more == 0 {
-            return Got {
-                good: got.good,
-                ended: true,
-                used: held,
-                size,
-            };
+            return Ok(Got { ended: true, size });
         }
         size += more;
     }
-    Got {
-        good: true,
-        ended: false,
-        used: held,
-        size,
-    }
+    Ok(Got { ended: false, size })
 }
 
-// Reads the first bytes until the input ends or there is no more room, and counts the others. A read that fails is told, and not taken for
-// the end.
-pub fn read_input(stdin: &mut Stdin, bytes: &mut [u8]) -> Got
-    ensures held { IsPrefixLen result.used bytes.new }
-    ensures enough { length bytes.old ≡ largest_input → Enough (take result.used bytes.new) result }
+// Reads the first bytes until the input ends or there is no more room, and counts the others: the bytes held. A read that fails is told,
+// and not taken for the end.
+pub fn read_input<'a>(stdin: &mut Stdin, bytes: &'a mut [u8]) -> io::Result<(&'a [u8], Got)>
+    ensures { length bytes.old ≡ largest_input → IfOk result (λ read. Enough read.0.now read.1) }
 {
     let mut used = 0;
     while used < bytes.len() {
-        let got = read_some(stdin, &mut bytes[used..]);
-        let more = got.count;
+        let more = stdin.read(&mut bytes[used..])?;
         if more == 0 {
-            return Got {
-                good: got.good,
+            let got = Got {
                 ended: true,
-                used,
                 size: used,
             };
+            return Ok((&bytes[..used], got));
         }
         used += more;
     }
-    count_more(stdin, used)
+    let got = count_more(stdin, used)?;
+    Ok((&bytes[..used], got))
 }

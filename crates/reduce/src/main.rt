@@ -16,14 +16,15 @@ mod line;
 
 use crate::input::{Got, read_input};
 use crate::line::{LINE, failed, line, say};
-use file::checks::long_refusal;
+use columns::answers::Answer;
+use file::checks::check_long;
 use file::layout::{LARGEST_INPUT, LARGEST_OUTPUT};
-use file_reduction::answers::{FileAnswer, FileOutcome, refusing_file};
+use file_reduction::answers::Written;
 use file_reduction::reduce_file;
 use std::io::{Print, Stderr, Stdout};
 
 // Writes the line of an answer.
-fn say_answer(stderr: Stderr, answer: FileAnswer) {
+fn say_answer(stderr: Stderr, answer: Answer<Written>) {
     let mut text = [0u8; LINE];
     let size = line(answer, &mut text);
     say(stderr, &text[..size]);
@@ -38,16 +39,17 @@ fn write_output(stdout: Stdout, input: &[u8], file: &[u8]) -> bool
 
 // Reduces what was read into the room that document 01 names. The answer and the output are those of the whole input, whichever it is that
 // was heard of, and a table's file is never refused; what is done is of what is held.
-fn reduce_into(held: &[u8], got: Got, output: &mut [u8]) -> FileAnswer
+fn reduce_into(held: &[u8], got: Got, output: &mut [u8]) -> Answer<Written>
     requires { Enough held.now got × (largest_output ≤ length output.old) }
     ensures by_index { (whole : List ℕ) → Heard whole held.now got → (said_file result, output.new) ≡ reduce_file whole output.old }
     ensures by_index_2 { (whole : List ℕ) → Heard whole held.now got → FileOf whole [] → said_file result ≡ done (file_numbers (table_in
         whole)) }
     ensures by_index_3 { (values : List ℕ) → said_file result ≡ done values → reduce_file held.now output.old ≡ (done values, output.new) }
 {
-    let size = got.size;
-    if LARGEST_INPUT < size {
-        return refusing_file(long_refusal(held, size));
+    if LARGEST_INPUT < got.size {
+        if let Err(refusal) = check_long(held, got.size) {
+            return Answer::refused(refusal);
+        }
     }
     reduce_file(held, output)
 }
@@ -58,27 +60,20 @@ fn reduce_input(rt: &HostRuntime, held: &[u8], got: Got)
 {
     let mut output = [0u8; LARGEST_OUTPUT];
     let answer = reduce_into(held, got, &mut output);
-    match &answer.outcome {
-        FileOutcome::Refused(_) => say_answer(rt.stderr(), answer),
-        FileOutcome::Done { bytes, .. } => {
-            let written = *bytes as usize;
-            if write_output(rt.stdout(), held, &output[..written]) {
-                say_answer(rt.stderr(), answer);
-            } else {
-                failed(rt.stderr(), b"the output could not be written");
-            }
+    if let Ok(written) = answer.outcome {
+        let size = written.bytes as usize;
+        if !write_output(rt.stdout(), held, &output[..size]) {
+            return failed(rt.stderr(), b"the output could not be written");
         }
     }
+    say_answer(rt.stderr(), answer);
 }
 
 fn main(rt: HostRuntime) {
     let mut stdin = rt.stdin();
     let mut bytes = [0u8; LARGEST_INPUT];
-    let got = read_input(&mut stdin, &mut bytes);
-    let used = got.used;
-    if got.good {
-        reduce_input(&rt, &bytes[..used], got);
-    } else {
-        failed(rt.stderr(), b"the input could not be read");
+    match read_input(&mut stdin, &mut bytes) {
+        Ok((held, got)) => reduce_input(&rt, held, got),
+        Err(_) => failed(rt.stderr(), b"the input could not be read"),
     }
 }

@@ -20,7 +20,8 @@ use Rattle.columns.proofs.Lists.{over_front}
 use Rattle.reduction.specs.Answers.{said_reduction}
 use Rattle.reduction.specs.Reducing.{Slices, result_lengths, work_lengths, reduction_refusal, reduction_numbers, reduction_left}
 use Rattle.reduction.specs.Reducing.{strong_reduction, answered_table, ReadyFor}
-use Rattle.reduction.specs.declared.answers.ReductionAnswer.{ReductionAnswer}
+use Rattle.columns.specs.declared.answers.Answer.{Answer}
+use Rattle.reduction.specs.declared.answers.Reduced.{Reduced}
 use Rattle.reduction.proofs.Calls as call
 use Rattle.reduction.proofs.Entries.{ready_of, never_refused, length-blocks}
 use Rattle.reduction.specs.contracts.strong_reduction.{signature, ended}
@@ -39,7 +40,7 @@ use Rattle.table.proofs.Sayings.{left-said}
 use Rattle.table.proofs.Tables.{laid-rows, laid_valid}
 
 -- a call on entry, its answer, and the call at return: any that the contract allows
-module _ (κs : Lfts 17) (entry : Args signature κs) (answer : ReductionAnswer) (exit : AtExit ended κs)
+module _ (κs : Lfts 16) (entry : Args signature κs) (answer : Answer Reduced) (exit : AtExit ended κs)
     (met : Post κs entry answer exit) where
   -- the table that is lent, the slices that are lent for writing, and these at return
   abbrev pub t : Lts

@@ -1,26 +1,27 @@
 -- Any two results that the contract of the reduction allows are equal.
 use Rattle.std.specs.Prelude.{◌≡◌}
-use mathlib.Core.Path.{sym, ap}
 use Rattle.columns.specs.OneResult.{OneResult}
 use Rattle.columns.proofs.OneResult.{skip, works, determined}
-use Rattle.columns.proofs.Saying.{same-refusal, apart}
-use Rattle.reduction.specs.Answers.{said_reduction_outcome, said_reduction}
-use Rattle.reduction.specs.declared.answers.ReductionAnswer.{ReductionAnswer}
-use Rattle.reduction.specs.declared.answers.ReductionOutcome.{ReductionOutcome}
-use Rattle.reduction.specs.declared.answers.ReductionOutcome.TheVariants as R
+use Rattle.columns.specs.declared.answers.Answer.{Answer}
+use Rattle.columns.proofs.Saying.{same_said}
+use Rattle.reduction.specs.Answers.{reduction_values, said_reduction}
+use Rattle.reduction.specs.declared.answers.Reduced.{Reduced}
 use Rattle.reduction.specs.contracts.strong_reduction as call_said
 use Rattle.reduction.proofs.strong_reduction as call
 
-same_outcome : (a b : ReductionOutcome) → said_reduction_outcome a ≡ said_reduction_outcome b → a ≡ b
-same_outcome (R.Done n l m i k) (R.Done n₁ l₁ m₁ i₁ k₁) e = cc
-same_outcome (R.Done n l m i k) (R.Refused q) e = absurd (apart _ _ _ e)
-same_outcome (R.Refused r) (R.Done n l m i k) e = absurd (apart _ _ _ (sym e))
-same_outcome (R.Refused r) (R.Refused q) e = ap R.Refused (same-refusal r q e)
+same_values : (a b : Reduced) → reduction_values a ≡ reduction_values b → a ≡ b
+same_values a b e =
+    let n : a.table.n ≡ b.table.n = cc in
+    let l : a.table.labels ≡ b.table.labels = cc in
+    let m : a.table.m ≡ b.table.m = cc in
+    let z : a.table.initial ≡ b.table.initial = cc in
+    let k : a.rounds ≡ b.rounds = cc in
+    λ i. record { table = record { n = n i; labels = l i; m = m i; initial = z i }; rounds = k i }
 
-pub same_reduction : (a b : ReductionAnswer) → said_reduction a ≡ said_reduction b → a ≡ b
-same_reduction a b e = λ i. record { outcome = same_outcome a.outcome b.outcome e i }
+pub same_reduction : (a b : Answer Reduced) → said_reduction a ≡ said_reduction b → a ≡ b
+same_reduction = same_said reduction_values same_values
 
 -- the columns of the rows, the block column, and the work slices
 pub strong_reduction_lem : OneResult call_said.ended call.Reads.Learnt
 strong_reduction_lem κs a r q x y =
-    determined same_reduction (λ c. skip 4 (c.0.0, (c.0.1.0, (c.0.1.1, (c.1.0, works 10 c.1.1))))) r q
+    determined same_reduction (λ c. skip 1 (c.0.0, (c.0.1.0, (c.0.1.1, (c.1.0, works 10 c.1.1))))) r q

@@ -5,7 +5,7 @@ use Rattle.columns.specs.Answers.{Said, leaving}
 use Rattle.columns.specs.Columns.{over, zeroed}
 use Rattle.columns.specs.Due.{due, all_long, Roomy}
 use Rattle.columns.specs.Rows.{rows_of}
-use Rattle.columns.specs.declared.answers.Refusal.{Refusal}
+use Rattle.columns.specs.Answers.{Refusal}
 use Rattle.refinement.specs.Blocks.{block_count}
 use Rattle.refinement_strong.specs.Reduction.{strong_blocks, strong_block, strong_rounds, strong_count, strong_rows}
 use Rattle.table.specs.Checks.{works_long, rows_long, bad_row, table_tests}

@@ -7,21 +7,18 @@ ghost use Rattle.refinement_rounds.specs.Rooms.{Room};
 ghost use Rattle.refinement_rounds.specs.Splitting.{Ended};
 ghost use Rattle.refinement_strong.specs.Reduction.{strong_blocks, strong_rounds, strong_count, strong_rows};
 ghost use Rattle.signatures.specs.Strong.{strong_signature};
-ghost use Rattle.table.specs.Lts.{Valid, lts};
+ghost use Rattle.table.specs.Lts.{Valid, lts_of};
 ghost use Rattle.table.specs.Tables.{Three, rows_over};
 
-use columns::clearing::{clear_five, clear_three};
+use columns::cells::clear;
 use quotient::cores::quotient_rows;
 use refinement_numbers::hand_out;
 use refinement_rounds::running::{RunEnd, run};
-use table::Table;
+use table::Lts;
 
 // All states in one block, and then rounds until nothing splits.
 fn refine(
-    table: Table,
-    source: &[u16],
-    label: &[u16],
-    target: &[u16],
+    system: &Lts<'_>,
     elements: &mut [u16],
     element_offset: &mut [u16],
     element_to_block: &mut [u16],
@@ -34,15 +31,15 @@ fn refine(
     blocks: &mut [u16],
     spare: &mut [u16],
 ) -> RunEnd
-    requires valid { Valid (lts table source.now label.now target.now)
-        × Long (parts elements.old element_offset.old element_to_block.old begin.old marked_split.old end.old table.n 1) }
-    requires room_now { Room table.n table.m elements.old element_offset.old begins.old numbers.old labels.old blocks.old spare.old }
-    ensures fact { let system = lts table source.now label.now target.now in
-        let left = parts elements.new element_offset.new element_to_block.new begin.new marked_split.new end.new table.n result.count in
-        Ended (strong_signature system) result.rounds left }
-    ensures room_is { Room table.n table.m elements.new element_offset.new begins.new numbers.new labels.new blocks.new spare.new }
+    requires valid { Valid (lts_of system.now)
+        × Long (parts elements.old element_offset.old element_to_block.old begin.old marked_split.old end.old system.now.table.n 1) }
+    requires room_now { Room system.now.table.n system.now.table.m elements.old element_offset.old begins.old numbers.old labels.old blocks.old spare.old }
+    ensures fact { let t = lts_of system.now in
+        let left = parts elements.new element_offset.new element_to_block.new begin.new marked_split.new end.new system.now.table.n result.count in
+        Ended (strong_signature t) result.rounds left }
+    ensures room_is { Room system.now.table.n system.now.table.m elements.new element_offset.new begins.new numbers.new labels.new blocks.new spare.new }
 {
-    let n = table.n as usize;
+    let n = system.table.n as usize;
     partition::cores::new(
         n,
         &mut *elements,
@@ -53,10 +50,7 @@ fn refine(
         &mut *end,
     );
     run(
-        table,
-        source,
-        label,
-        target,
+        system,
         &mut *elements,
         &mut *element_offset,
         &mut *element_to_block,
@@ -75,10 +69,7 @@ fn refine(
 // how many blocks there are. `element_to_block`, `begin`, `marked_split` and `end` have n cells or more, the other work slices n + m + 1:
 // all ten may hold anything, and are left with anything.
 pub fn strong_blocks(
-    table: Table,
-    source: &[u16],
-    label: &[u16],
-    target: &[u16],
+    system: &Lts<'_>,
     block: &mut [u16],
     elements: &mut [u16],
     element_offset: &mut [u16],
@@ -91,21 +82,20 @@ pub fn strong_blocks(
     blocks: &mut [u16],
     spare: &mut [u16],
 ) -> RunEnd
-    requires valid { Valid (lts table source.now label.now target.now) × (length block.old ≡ table.n) }
-    requires each_long { EachLong table.n (element_to_block.old ∷ begin.old ∷ marked_split.old ∷ end.old ∷ []) }
+    requires valid { Valid (lts_of system.now) × (length block.old ≡ system.now.table.n) }
+    requires each_long { EachLong system.now.table.n (element_to_block.old ∷ begin.old ∷ marked_split.old ∷ end.old ∷ []) }
     requires fact { let columns = elements.old ∷ element_offset.old ∷ numbers.old ∷ labels.old ∷ blocks.old ∷ spare.old ∷ [] in
-        EachLong (table.n + table.m + 1) columns }
-    ensures { let system = lts table source.now label.now target.now in
-        (result.rounds ≡ strong_rounds system) × (result.count ≡ strong_count system) × (block.new ≡ strong_blocks system) }
+        EachLong (system.now.table.n + system.now.table.m + 1) columns }
+    ensures { let t = lts_of system.now in
+        (result.rounds ≡ strong_rounds t) × (result.count ≡ strong_count t) × (block.new ≡ strong_blocks t) }
 {
-    let n = table.n as usize;
+    let n = system.table.n as usize;
     let h = n + 1;
-    clear_three(&mut *labels, &mut *blocks, &mut *spare);
+    clear(&mut *labels);
+    clear(&mut *blocks);
+    clear(&mut *spare);
     let r = refine(
-        table,
-        source,
-        label,
-        target,
+        system,
         &mut *elements,
         &mut *element_offset,
         &mut *element_to_block,
@@ -133,10 +123,7 @@ pub struct Reduction {
 // The reduced rows over the first cells of the result columns, and the number of each state's block in `block`, which has n cells. Every
 // cell of the ten work slices, of n + m + 1 cells or more, is zero then.
 pub fn reduce(
-    table: Table,
-    source: &[u16],
-    label: &[u16],
-    target: &[u16],
+    system: &Lts<'_>,
     result_source: &mut [u16],
     result_label: &mut [u16],
     result_target: &mut [u16],
@@ -152,27 +139,24 @@ pub fn reduce(
     blocks: &mut [u16],
     spare: &mut [u16],
 ) -> Reduction
-    requires valid { Valid (lts table source.now label.now target.now) × (length block.old ≡ table.n) }
-    requires each_long { EachLong table.m (result_source.old ∷ result_label.old ∷ result_target.old ∷ []) }
+    requires valid { Valid (lts_of system.now) × (length block.old ≡ system.now.table.n) }
+    requires each_long { EachLong system.now.table.m (result_source.old ∷ result_label.old ∷ result_target.old ∷ []) }
     requires fact { let columns = elements.old ∷ element_offset.old ∷ element_to_block.old ∷ begin.old ∷ marked_split.old ∷ end.old ∷ [] in
-        EachLong (table.n + table.m + 1) columns }
-    requires each_long_2 { EachLong (table.n + table.m + 1) (numbers.old ∷ labels.old ∷ blocks.old ∷ spare.old ∷ []) }
-    ensures fact_2 { let system = lts table source.now label.now target.now in
-        (result.count ≡ strong_count system) × (result.rows ≡ length (strong_rows system)) × (result.rounds ≡ strong_rounds system) }
-    ensures fact_3 { let system = lts table source.now label.now target.now in
+        EachLong (system.now.table.n + system.now.table.m + 1) columns }
+    requires each_long_2 { EachLong (system.now.table.n + system.now.table.m + 1) (numbers.old ∷ labels.old ∷ blocks.old ∷ spare.old ∷ []) }
+    ensures fact_2 { let t = lts_of system.now in
+        (result.count ≡ strong_count t) × (result.rows ≡ length (strong_rows t)) × (result.rounds ≡ strong_rounds t) }
+    ensures fact_3 { let t = lts_of system.now in
         let out : Three = (result_source.old, (result_label.old, result_target.old)) in
         let out_left : Three = (result_source.new, (result_label.new, result_target.new)) in
-        (block.new ≡ strong_blocks system) × (out_left ≡ rows_over (strong_rows system) out) }
+        (block.new ≡ strong_blocks t) × (out_left ≡ rows_over (strong_rows t) out) }
     ensures cleared { Cleared elements.old elements.new × Cleared element_offset.old element_offset.new × Cleared element_to_block.old
         element_to_block.new × Cleared begin.old begin.new × Cleared marked_split.old marked_split.new }
     ensures cleared_2 { Cleared end.old end.new × Cleared numbers.old numbers.new × Cleared labels.old labels.new × Cleared blocks.old
         blocks.new × Cleared spare.old spare.new }
 {
     let r = strong_blocks(
-        table,
-        source,
-        label,
-        target,
+        system,
         &mut *block,
         &mut *elements,
         &mut *element_offset,
@@ -186,10 +170,7 @@ pub fn reduce(
         &mut *spare,
     );
     let rows = quotient_rows(
-        table,
-        source,
-        label,
-        target,
+        system,
         &*block,
         false,
         false,
@@ -202,7 +183,11 @@ pub fn reduce(
         begin,
         marked_split,
     );
-    clear_five(end, numbers, labels, blocks, spare);
+    clear(end);
+    clear(numbers);
+    clear(labels);
+    clear(blocks);
+    clear(spare);
     Reduction {
         count: r.count,
         rows,

@@ -2,54 +2,41 @@
 #![tactic(auto)]
 
 ghost use Rattle.std.specs.Prelude.{◌≡◌, [], ◌∷◌};
+ghost use Rattle.columns.specs.Answers.{checked};
 ghost use Rattle.reduction.specs.Answers.{said_reduction};
 ghost use Rattle.reduction.specs.Reducing.{Slices, reduction_refusal, strong_reduction};
-ghost use Rattle.table.specs.Lts.{lts};
+ghost use Rattle.table.specs.Lts.{lts_of};
 
 pub mod answers;
 pub mod cores;
 
-use crate::answers::{ReductionAnswer, reduced, refusing_reduction};
+use crate::answers::Reduced;
 use crate::cores::reduce;
-use columns::answers::Refusal;
-use columns::cells::at;
+use columns::answers::{Answer, Refusal};
 use columns::checks::long;
-use table::Table;
-use table::checks::{check, works_long};
+use table::{Lts, Table};
 
-// The refusal of a call with the table, three result columns, a block column and work slices, given by their lengths.
-fn reduction_refusal(
-    table: Table,
-    source: &[u16],
-    label: &[u16],
-    target: &[u16],
+// What a call with the table refuses, three result columns, a block column and work slices, given by their lengths.
+fn check_reduction(
+    system: &Lts<'_>,
     results: &[usize],
     block: usize,
     works: &[usize],
-) -> Refusal
-    ensures { result ≡ reduction_refusal (lts table source.now label.now target.now) results.now block works.now }
+) -> Result<(), Refusal>
+    ensures { checked result ≡ reduction_refusal (lts_of system.now) results.now block works.now }
 {
-    let n = table.n as usize;
-    let m = table.m as usize;
+    let n = system.table.n as usize;
+    let m = system.table.m as usize;
     let fits = long(m, results);
-    let works_fit = works_long(table, works);
-    check(
-        table,
-        source,
-        label,
-        target,
-        fits & ((n <= block) & works_fit),
-    )
+    let works_fit = system.table.works_long(works);
+    system.check(fits & ((n <= block) & works_fit))
 }
 
 // The reduced table's rows over the first cells of the result columns, and the number of each state's block, by least member, over the
 // first n cells of `block`. Answers the header of the reduced table and how many rounds split something. Work: ten slices, the six
 // columns of the partition and four beside them.
 pub fn strong_reduction(
-    table: Table,
-    source: &[u16],
-    label: &[u16],
-    target: &[u16],
+    system: &Lts<'_>,
     result_source: &mut [u16],
     result_label: &mut [u16],
     result_target: &mut [u16],
@@ -64,16 +51,15 @@ pub fn strong_reduction(
     labels: &mut [u16],
     blocks: &mut [u16],
     spare: &mut [u16],
-) -> ReductionAnswer
-    ensures { let system = lts table source.now label.now target.now in
-        let given : Slices = (
-          (result_source.old, (result_label.old, result_target.old)),
-          (
-            block.old,
-            elements.old ∷ element_offset.old ∷ element_to_block.old ∷ begin.old ∷ marked_split.old ∷ end.old
-                ∷ numbers.old ∷ labels.old ∷ blocks.old ∷ spare.old ∷ [],
-          ),
-        ) in
+) -> Answer<Reduced>
+    ensures { let given : Slices = (
+      (result_source.old, (result_label.old, result_target.old)),
+      (
+        block.old,
+        elements.old ∷ element_offset.old ∷ element_to_block.old ∷ begin.old ∷ marked_split.old ∷ end.old
+            ∷ numbers.old ∷ labels.old ∷ blocks.old ∷ spare.old ∷ [],
+      ),
+    ) in
         let left : Slices = (
           (result_source.new, (result_label.new, result_target.new)),
           (
@@ -82,38 +68,27 @@ pub fn strong_reduction(
                 ∷ numbers.new ∷ labels.new ∷ blocks.new ∷ spare.new ∷ [],
           ),
         ) in
-        (said_reduction result, left) ≡ strong_reduction system given }
+        (said_reduction result, left) ≡ strong_reduction (lts_of system.now) given }
 {
-    let n = table.n as usize;
-    let t = reduction_refusal(
-        table,
-        source,
-        label,
-        target,
-        &[result_source.len(), result_label.len(), result_target.len()],
-        block.len(),
-        &[
-            elements.len(),
-            element_offset.len(),
-            element_to_block.len(),
-            begin.len(),
-            marked_split.len(),
-            end.len(),
-            numbers.len(),
-            labels.len(),
-            blocks.len(),
-            spare.len(),
-        ],
-    );
-    let number = t.number;
-    if number != 0 {
-        return refusing_reduction(t);
+    let n = system.table.n as usize;
+    let results = [result_source.len(), result_label.len(), result_target.len()];
+    let works = [
+        elements.len(),
+        element_offset.len(),
+        element_to_block.len(),
+        begin.len(),
+        marked_split.len(),
+        end.len(),
+        numbers.len(),
+        labels.len(),
+        blocks.len(),
+        spare.len(),
+    ];
+    if let Err(refusal) = check_reduction(system, &results, block.len(), &works) {
+        return Answer::refused(refusal);
     }
     let r = reduce(
-        table,
-        source,
-        label,
-        target,
+        system,
         result_source,
         result_label,
         result_target,
@@ -129,12 +104,14 @@ pub fn strong_reduction(
         blocks,
         spare,
     );
-    let initial = at(&*block, table.initial as usize);
-    reduced(
-        r.count as u64,
-        table.labels as u64,
-        r.rows as u64,
-        initial as u64,
-        r.rounds as u64,
-    )
+    let table = Table {
+        n: r.count as u16,
+        labels: system.table.labels,
+        m: r.rows as u16,
+        initial: block[system.table.initial as usize],
+    };
+    Answer::done(Reduced {
+        table,
+        rounds: r.rounds as u64,
+    })
 }

@@ -19,18 +19,15 @@ pub fn hand_out(n: usize, element_to_block: &[u16], block: &mut [u16], notes: &m
         × Cleared notes.old notes.new }
 {
     let mut next = 0;
-    let mut s = 0;
-    while s < n {
+    for s in 0..n {
         let b = at(element_to_block, s);
-        let k = at(&*notes, b);
+        let k = at(notes, b);
         if k == 0 {
             notes[b] = (next + 1) as u16;
             block[s] = next as u16;
             next += 1;
-            s += 1;
         } else {
             block[s] = (k - 1) as u16;
-            s += 1;
         }
     }
     clear(notes);

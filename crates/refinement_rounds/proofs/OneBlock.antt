@@ -12,7 +12,7 @@ use Rattle.columns.proofs.All.{all_of, same_or_not, lt-or-le}
 use Rattle.columns.proofs.Bools.{and_both, contra}
 use Rattle.columns.proofs.Counting.{first_law, many-le, many_strict}
 use Rattle.columns.proofs.Numbering.{Equivalence, number_same, number_differ, number_bound, number_onto}
-use Rattle.partition_division.specs.Divide.{home, divided, block_unmarked, partition_marked}
+use Rattle.partition_division.specs.Divide.{divided, block_unmarked, partition_marked}
 use Rattle.partition_division.specs.Marked.{numbered, absent, missing, denseb, len_at}
 use Rattle.partition.specs.Marked.{marked_in}
 use Rattle.partition_division.specs.Steps.{Dividable}

@@ -4,7 +4,7 @@ use mathlib.Core.Path.{sym, ap, ap₂, ◌∙◌}
 use native.Mathlib.Omega.{arith}
 use borrow.Rule.Slice.PartMut.{put_mid}
 use lib.ListN.{length-append, length-drop, length-replicate, take-append-drop, get_or-append}
-use lib.Seq.{take_at, drop_at, get_or-take, length-take-le}
+use lib.Seq.{drop_at, get_or-take, length-take-le}
 use Rattle.columns.specs.Columns.{zeros}
 use Rattle.columns.proofs.Parts.{part_end, put_end}
 use Rattle.partition.specs.Partition.{Partition, Sound, reordered}
@@ -12,7 +12,7 @@ use Rattle.partition.proofs.Changed.{order_sound}
 use Rattle.refinement_rounds.specs.Rooms.{ClearFront, store_behind}
 use Rattle.refinement_signing.specs.Stored.{store}
 
--- ---- the front lent, and zero again
+-- ---- the front lent
 module _ (n : ℕ) (l : List ℕ) (z : ClearFront n l) where
   pub front_length : length (take (n + 1) l) ≡ n + 1
   front_length = ap length z ∙ length-replicate {A = ℕ} (n + 1) 0
@@ -24,10 +24,6 @@ module _ (n : ℕ) (l : List ℕ) (z : ClearFront n l) where
   pub front_clear : take (n + 1) l ≡ zeros (length (take (n + 1) l))
   front_clear = z ∙ ap zeros (sym front_length)
 
-  pub front_back : (x : List ℕ) → x ≡ zeros (length (take (n + 1) l)) → x ++ drop (n + 1) l ≡ l
-  front_back x e =
-      ap (λ (y : List ℕ). y ++ drop (n + 1) l) (e ∙ sym front_clear) ∙ take-append-drop (n + 1) l
-
 -- ---- the cells behind it lent
 pub parts-behind :
     (n : ℕ) (labels blocks : List ℕ) (d : ℕ) (begins : List ℕ)
@@ -35,9 +31,6 @@ pub parts-behind :
     ≡ store_behind n labels blocks d begins
 parts-behind n labels blocks d begins =
     ap₂ (λ (l b : List ℕ). store n l b d begins) (part_end (n + 1) labels) (part_end (n + 1) blocks)
-
-pub behind_room : (n m : ℕ) (l : List ℕ) → n + m < length l → m ≤ length (take (length l - (n + 1)) (drop (n + 1) l))
-behind_room n m l w = omega (arith, ap length (part_end (n + 1) l), length-drop (n + 1) l, w)
 
 -- they come back as x
 module _ (n m : ℕ) (l x : List ℕ) (w : n + m < length l) where
@@ -52,9 +45,6 @@ module _ (n m : ℕ) (l x : List ℕ) (w : n + m < length l) where
 
   pub lent-behind : drop (n + 1) lent ≡ x
   lent-behind = ap (drop (n + 1)) is-lent ∙ drop_at (take (n + 1) l) x (n + 1) (length-take-le (n + 1) l fits)
-
-  pub lent_clear : ClearFront n l → ClearFront n lent
-  lent_clear z = ap (take (n + 1)) is-lent ∙ take_at (take (n + 1) l) x (n + 1) (length-take-le (n + 1) l fits) ∙ z
 
   pub lent-cell : (i : ℕ) → i < n → get_or lent i 0 ≡ get_or l i 0
   lent-cell i k =

@@ -4,18 +4,15 @@ ghost use Rattle.partition.specs.Partition.{Sound, parts};
 ghost use Rattle.refinement_rounds.specs.Rooms.{Room};
 ghost use Rattle.refinement_rounds.specs.Splitting.{Rounded, Ended};
 ghost use Rattle.signatures.specs.Strong.{strong_signature};
-ghost use Rattle.table.specs.Lts.{Valid, lts};
+ghost use Rattle.table.specs.Lts.{Valid, lts_of};
 
 use crate::splitting::split_all;
 use refinement_signing::signing::sign_all;
-use table::Table;
+use table::Lts;
 
 // A round: every block is split by strong signature under the partition as it is given. Returns the number of blocks then.
 pub fn round(
-    table: Table,
-    source: &[u16],
-    label: &[u16],
-    target: &[u16],
+    system: &Lts<'_>,
     count: usize,
     elements: &mut [u16],
     element_offset: &mut [u16],
@@ -29,22 +26,22 @@ pub fn round(
     blocks: &mut [u16],
     spare: &mut [u16],
 ) -> usize
-    requires valid { Valid (lts table source.now label.now target.now)
-        × Sound (parts elements.old element_offset.old element_to_block.old begin.old marked_split.old end.old table.n count) }
-    requires room_now { Room table.n table.m elements.old element_offset.old begins.old numbers.old labels.old blocks.old spare.old }
-    ensures fact { let system = lts table source.now label.now target.now in
-        let given = parts elements.old element_offset.old element_to_block.old begin.old marked_split.old end.old table.n count in
-        let left = parts elements.new element_offset.new element_to_block.new begin.new marked_split.new end.new table.n result in
-        Rounded (strong_signature system) given left }
-    ensures room_is { Room table.n table.m elements.new element_offset.new begins.new numbers.new labels.new blocks.new spare.new }
+    requires valid { Valid (lts_of system.now)
+        × Sound (parts elements.old element_offset.old element_to_block.old begin.old marked_split.old end.old
+        system.now.table.n count) }
+    requires room_now { Room system.now.table.n system.now.table.m elements.old element_offset.old begins.old numbers.old labels.old
+        blocks.old spare.old }
+    ensures fact { let n = system.now.table.n in
+        let given = parts elements.old element_offset.old element_to_block.old begin.old marked_split.old end.old n count in
+        let left = parts elements.new element_offset.new element_to_block.new begin.new marked_split.new end.new n result in
+        Rounded (strong_signature (lts_of system.now)) given left }
+    ensures room_is { Room system.now.table.n system.now.table.m elements.new element_offset.new begins.new numbers.new labels.new
+        blocks.new spare.new }
 {
-    let n = table.n as usize;
+    let n = system.table.n as usize;
     let h = n + 1;
     let d = sign_all(
-        table,
-        source,
-        label,
-        target,
+        system,
         &*element_to_block,
         &mut labels[h..],
         &mut blocks[h..],
@@ -81,10 +78,7 @@ pub struct RunEnd {
 
 // Rounds, from one block of all states, until nothing splits.
 pub fn run(
-    table: Table,
-    source: &[u16],
-    label: &[u16],
-    target: &[u16],
+    system: &Lts<'_>,
     elements: &mut [u16],
     element_offset: &mut [u16],
     element_to_block: &mut [u16],
@@ -97,41 +91,39 @@ pub fn run(
     blocks: &mut [u16],
     spare: &mut [u16],
 ) -> RunEnd
-    requires valid { Valid (lts table source.now label.now target.now)
-        × Sound (parts elements.old element_offset.old element_to_block.old begin.old marked_split.old end.old table.n 1) }
-    requires room_now { Room table.n table.m elements.old element_offset.old begins.old numbers.old labels.old blocks.old spare.old }
-    ensures fact { let system = lts table source.now label.now target.now in
-        let left = parts elements.new element_offset.new element_to_block.new begin.new marked_split.new end.new table.n result.count in
-        Ended (strong_signature system) result.rounds left }
-    ensures room_is { Room table.n table.m elements.new element_offset.new begins.new numbers.new labels.new blocks.new spare.new }
+    requires valid { Valid (lts_of system.now)
+        × Sound (parts elements.old element_offset.old element_to_block.old begin.old marked_split.old end.old
+        system.now.table.n 1) }
+    requires room_now { Room system.now.table.n system.now.table.m elements.old element_offset.old begins.old numbers.old labels.old
+        blocks.old spare.old }
+    ensures fact { let n = system.now.table.n in
+        let left = parts elements.new element_offset.new element_to_block.new begin.new marked_split.new end.new n result.count in
+        Ended (strong_signature (lts_of system.now)) result.rounds left }
+    ensures room_is { Room system.now.table.n system.now.table.m elements.new element_offset.new begins.new numbers.new labels.new
+        blocks.new spare.new }
 {
-    let n = table.n as usize;
+    let n = system.table.n as usize;
     let mut count = 1;
-    let mut rounds = 0;
-    while rounds < n {
+    for rounds in 0..n {
         let c = round(
-            table,
-            source,
-            label,
-            target,
+            system,
             count,
-            &mut *elements,
-            &mut *element_offset,
-            &mut *element_to_block,
-            &mut *begin,
-            &mut *marked_split,
-            &mut *end,
-            &mut *begins,
-            &mut *numbers,
-            &mut *labels,
-            &mut *blocks,
-            &mut *spare,
+            elements,
+            element_offset,
+            element_to_block,
+            begin,
+            marked_split,
+            end,
+            begins,
+            numbers,
+            labels,
+            blocks,
+            spare,
         );
         if c == count {
             return RunEnd { rounds, count: c };
         }
         count = c;
-        rounds += 1;
     }
-    RunEnd { rounds, count }
+    RunEnd { rounds: n, count }
 }

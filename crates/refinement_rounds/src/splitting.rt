@@ -15,8 +15,7 @@ fn mark_all(begin: &[u16], marked_split: &mut [u16], b: usize)
     requires { (b < length begin.now) × (b < length marked_split.old) }
     ensures { marked_split.new ≡ slice_set marked_split.old b (slice_index begin.now b) }
 {
-    let x = begin[b];
-    marked_split[b] = x;
+    marked_split[b] = begin[b];
 }
 
 // Divides block b by the signatures of its states, d pairs in all, which stand behind the first n + 1 cells of `labels` and `blocks`.
@@ -106,26 +105,24 @@ pub fn split_all(
     ensures labels_value { (labels.new ≡ labels.old) × (blocks.new ≡ blocks.old) × (spare.new ≡ spare.old) }
 {
     let mut c = count;
-    let mut b = 0;
-    while b < count {
+    for b in 0..count {
         c = split_block(
             n,
             c,
-            &mut *elements,
-            &mut *element_offset,
-            &mut *element_to_block,
-            &mut *begin,
-            &mut *marked_split,
-            &mut *end,
+            elements,
+            element_offset,
+            element_to_block,
+            begin,
+            marked_split,
+            end,
             b,
             begins,
-            &mut *numbers,
-            &mut *labels,
-            &mut *blocks,
+            numbers,
+            labels,
+            blocks,
             d,
-            &mut *spare,
+            spare,
         );
-        b += 1;
     }
     c
 }

@@ -1,21 +1,18 @@
 -- Two stored signatures are one exactly if they have as many pairs, and the same ones.
 use mathlib.Core.Path.{◌≡◌, sym, ap, ◌∙◌}
-use mathlib.Core.Bool.{Bool, true, false, cond}
-use mathlib.Core.List.{List}
-use Prim.Native.Nat.{ℕ, ◌+◌, ◌-◌, ◌≤◌, ◌<◌}
+use mathlib.Core.Bool.{true, false}
+use Prim.Native.Nat.{ℕ, ◌+◌, ◌-◌}
 use native.Mathlib.Omega.{arith}
-use borrow.Author.Tests.{lt-ltb, le-ltb, eq-eqb, ne_eqb}
-use lib.Dec.{eqb}
 use lib.ListN.{length, get_or}
 use Rattle.columns.specs.Columns.{listed}
 use Rattle.columns.specs.Sets.{Pair, pair_eq, same}
 use Rattle.columns.proofs.All.{all_at, all_of}
-use Rattle.columns.proofs.Bools.{fails, bool_ext, and_no_left}
+use Rattle.columns.proofs.Bools.{fails, bool_ext}
 use Rattle.columns.proofs.Lists.{length-listed, listed_cong, listed_same}
 use Rattle.columns.proofs.Sets.{same_eq, same_refl, pair_eq_eq, pair_eq_refl}
 use Rattle.columns.specs.Rows.{pairs_between}
 use Rattle.columns.specs.Counting.{all}
-use Rattle.refinement_signing.specs.Stored.{Store, start_of, end_in, stored_end, stored, alike, pair_same}
+use Rattle.refinement_signing.specs.Stored.{Store, start_of, stored_end, stored, alike, pair_same}
 
 -- ---- lists given by index
 module _ (f g : ℕ → Pair) where
@@ -61,24 +58,3 @@ module _ (σ : Store) where
       where
         pair_from : ℕ → ℕ → Pair
         pair_from x i = (get_or σ.labels (x + i) 0, get_or σ.blocks (x + i) 0)
-
--- ---- what is read
-module _ (labels blocks : List ℕ) (i j a b : ℕ) (ea : a ≡ get_or labels i 0) (eb : b ≡ get_or labels j 0) where
-  pub pair_differs : (a ≡ b → ⊥) → false ≡ pair_same labels blocks i j
-  unfolding pair_same pair_eq
-  pair_differs h =
-      sym (and_no_left (eqb (get_or labels i 0) (get_or labels j 0)) (eqb (get_or blocks i 0) (get_or blocks j 0))
-      (ne_eqb _ _ (λ e. h (ea ∙ e ∙ sym eb))))
-
-  pub pair_rest : a ≡ b → (x y : ℕ) → x ≡ get_or blocks i 0 → y ≡ get_or blocks j 0 → eqb x y ≡ pair_same labels blocks i j
-  unfolding pair_same pair_eq
-  pair_rest h x y ex ey = rw (eq-eqb (get_or labels i 0) (get_or labels j 0) (sym ea ∙ h ∙ eb), ex, ey)
-
-module _ (n d : ℕ) (begins : List ℕ) (s : ℕ) where
-  pub end_next : s + 1 < n → (r : ℕ) → r ≡ get_or begins (s + 1) 0 → r ≡ end_in n d begins s
-  unfolding end_in
-  end_next h r e = e ∙ ap (λ (b : Bool). cond b (get_or begins (s + 1) 0) d) (sym (lt-ltb (s + 1) n h))
-
-  pub end_last : n ≤ s + 1 → d ≡ end_in n d begins s
-  unfolding end_in
-  end_last h = ap (λ (b : Bool). cond b (get_or begins (s + 1) 0) d) (sym (le-ltb (s + 1) n h))

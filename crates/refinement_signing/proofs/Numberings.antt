@@ -16,7 +16,7 @@ use Rattle.columns.proofs.Counting.{many-none, many_hit, many_miss, many-le}
 use Rattle.columns.proofs.Numbering.{Equivalence, least_le, least_eq, number_same}
 use Rattle.refinement_signing.specs.Numbered.{alike_at, Numbered}
 use Rattle.partition.specs.Stand.{Stand}
-use Rattle.refinement_signing.specs.Stored.{Store, stored, alike}
+use Rattle.refinement_signing.specs.Stored.{Store, stored}
 use Rattle.refinement_signing.proofs.Comparisons.{alike_in, alike_out}
 
 -- ---- to have one signature is an equivalence
@@ -31,13 +31,6 @@ module _ (elements : List ℕ) (σ : Store) (x : ℕ) where
   pub at_out : (i j : ℕ) → alike_at elements σ x i j ≡ true → sig_at i ≡ sig_at j
   unfolding alike_at
   at_out i j e = alike_out σ (get_or elements (x + i) 0) (get_or elements (x + j) 0) e
-
-  -- the test as it is made
-  pub at_tested :
-      (i j u s : ℕ) (r : Bool) → u ≡ get_or elements (x + i) 0 → s ≡ get_or elements (x + j) 0 → r ≡ alike σ u s
-      → r ≡ alike_at elements σ x i j
-  unfolding alike_at
-  at_tested i j u s r eu es e = rw (eu, es) at e
 
   pub alike_equivalence : Equivalence (alike_at elements σ x)
   alike_equivalence = record {

@@ -1,100 +1,64 @@
 -- The rows of one state after the other: where they end, and the pairs that they give.
-use mathlib.Core.Path.{◌≡◌, refl, sym, ap, ap₂, ◌∙◌}
+use mathlib.Core.Path.{◌≡◌, sym, ap, ap₂, ◌∙◌}
 use mathlib.Core.Logic.{⊎_elim}
 use mathlib.Core.Bool.{Bool, true, false}
 use mathlib.Core.List.{List, [], ◌∷◌, ◌++◌, map}
 use Prim.Native.Nat.{ℕ, zero, suc, ◌+◌, ◌-◌, ◌≤◌, ◌<◌, ◌*◌, ◌/◌}
 use native.Mathlib.Numerals.{add-one}
 use native.Mathlib.Omega.{arith}
-use lib.ListN.{length, get_or, set, take, length-set}
+use lib.ListN.{length, get_or, set, take}
 use borrow.Rule.Slice.PartMut.{put_mid}
 use Rattle.columns.specs.Columns.{listed, over, wiped, zeros, NeverFalls}
 use Rattle.columns.specs.Counting.{members}
 use Rattle.columns.specs.Rows.{pairs_of, first_of, last_of}
 use Rattle.columns.specs.Sets.{Pair}
-use Rattle.columns.proofs.All.{top_or-below, lt-or-le, not-below}
+use Rattle.columns.proofs.All.{lt-or-le, not-below}
 use Rattle.columns.proofs.Lists.{map-listed, wiped-zeros}
 use Rattle.columns.proofs.Members.{members_hit, members-rest, members-none}
 use Rattle.columns.proofs.Parts.{put_end}
-use Rattle.columns.proofs.TwoColumns.{length_pairs, pairs-none, pairs_more, pairs-behind}
+use Rattle.columns.proofs.TwoColumns.{length_pairs, pairs_more, pairs-behind}
 use Rattle.refinement_signing.specs.Stored.{row_pairs}
 use Rattle.signatures.specs.Pairs.{Columns, signature, pairs_over}
 use Rattle.signatures.proofs.Sigs.{sig_few}
 use Rattle.signatures.specs.Strong.{own_rows, row_pair, strong_pushed}
 use Rattle.table.specs.Lts.{Lts}
 use Rattle.table.specs.Stretch.{first_row}
-use Rattle.table.proofs.RowsOf.{own_row, RowsFrom, first_row_is, first_row_most, before_row, from_row}
+use Rattle.table.proofs.RowsOf.{own_row, RowsFrom, first_row_is, before_row, from_row}
 
--- ---- where the rows of s end: those before i are of s, or of a state before it
-pub record Passing (source : List ℕ) (m s first i : ℕ) : Type 0 where
-  pub low : first ≤ i
-  pub high : i ≤ m
-  pub past : (k : ℕ) → k < i → get_or source k 0 < s + 1
-
+-- ---- where the rows of s end: behind rows of s, at the first that is not one, or at m
 module _ (source : List ℕ) (m : ℕ) (up : NeverFalls source m) (s first : ℕ) (e : first ≡ first_row source m s) where
-  pub pass_start : Passing source m s first first
-  pass_start = record {
-    low = omega arith;
-    high = omega (arith, first_row_most source m s);
-    past = λ k l.
-        let w : k < m = omega (arith, e, l, first_row_most source m s) in
-        ⊎_elim (λ (q : get_or source k 0 < s). omega (arith, q))
-        (λ (q : s ≤ get_or source k 0). absurd (omega (arith, from_row source m up s k w q, l, e))) (lt-or-le (get_or source k 0) s);
-  }
+  -- rows of s, and those before them
+  past :
+      (i : ℕ) → i ≤ m → ((k : ℕ) → first ≤ k → k < i → get_or source k 0 ≡ s) → (k : ℕ) → k < i → get_or source k 0 < s + 1
+  past i h own k l =
+      ⊎_elim
+      (λ (w : k < first).
+      ⊎_elim (λ (q : get_or source k 0 < s). omega (arith, q))
+      (λ (q : s ≤ get_or source k 0). absurd (omega (arith, from_row source m up s k (omega arith) q)))
+      (lt-or-le (get_or source k 0) s))
+      (λ (w : first ≤ k). omega (arith, own k w l)) (lt-or-le k first)
 
-  module _ (i : ℕ) (p : Passing source m s first i) where
-    pub pass_more : i < m → get_or source i 0 ≡ s → Passing source m s first (i + 1)
-    pass_more l q = record {
-      low = omega (arith, p.low);
-      high = omega (arith, l);
-      past = λ k w.
-          ⊎_elim (λ (z : k ≡ i). omega (arith, ap (λ (x : ℕ). get_or source x 0) z, q)) (p.past k) (top_or-below (omega (arith, w)));
-    }
+  pub ends_at_m : ((k : ℕ) → first ≤ k → k < m → get_or source k 0 ≡ s) → m ≡ first_row source m (s + 1)
+  ends_at_m own = first_row_is source m (s + 1) m (omega arith) (past m (omega arith) own) (λ k a b. absurd (omega arith))
 
-    pub pass_end : m ≤ i → i ≡ first_row source m (s + 1)
-    pass_end l = first_row_is source m (s + 1) i p.high p.past (λ k a b. absurd (omega (arith, l, a, b)))
+  pub ends_before :
+      (i : ℕ) → first ≤ i → i < m → (get_or source i 0 ≡ s → ⊥) → ((k : ℕ) → first ≤ k → k < i → get_or source k 0 ≡ s)
+      → i ≡ first_row source m (s + 1)
+  ends_before i a l q own =
+      first_row_is source m (s + 1) i (omega arith) (past i (omega arith) own) (λ k x y. omega (arith, up i k x y, here))
+    where
+      here : s < get_or source i 0
+      here =
+          let w : s ≤ get_or source i 0 = not-below (λ z. omega (arith, before_row source m up s i l z, a, e)) in
+          ⊎_elim (λ (z : s < get_or source i 0). z) (λ z. absurd (q (omega (arith, w, z)))) (lt-or-le s (get_or source i 0))
 
-    pub pass_stop : i < m → (get_or source i 0 ≡ s → ⊥) → i ≡ first_row source m (s + 1)
-    pass_stop l q = first_row_is source m (s + 1) i p.high p.past (λ k a b. omega (arith, up i k a b, here))
-      where
-        here : s < get_or source i 0
-        here =
-            let w : s ≤ get_or source i 0 = not-below (λ z. omega (arith, before_row source m up s i l z, p.low, e)) in
-            ⊎_elim (λ (z : s < get_or source i 0). z) (λ z. absurd (q (omega (arith, w, z)))) (lt-or-le s (get_or source i 0))
-
--- ---- a pair for each number from `first` to before `end`
-pub record Copying (f : ℕ → Pair) (first end : ℕ) (a₀ b₀ : List ℕ) (i d : ℕ) (a b : List ℕ) : Type 0 where
-  pub at : i ≡ first + d
-  pub high : i ≤ end
-  pub pairs : pairs_of d a b ≡ listed d (λ k. f (first + k))
-  pub left : length a ≡ length a₀
-  pub right : length b ≡ length b₀
-
-module _ (f : ℕ → Pair) (first end : ℕ) (a₀ b₀ : List ℕ) where
-  pub copy_start : first ≤ end → Copying f first end a₀ b₀ first 0 a₀ b₀
-  unfolding listed
-  copy_start h = record { at = omega arith; high = h; pairs = pairs-none a₀ b₀; left = refl; right = refl }
-
-  module _ (i d : ℕ) (a b : List ℕ) (p : Copying f first end a₀ b₀ i d a b) where
-    pub copy_more :
-        i < end → (x y : ℕ) → f i ≡ (x, y) → d < length a → d < length b
-        → Copying f first end a₀ b₀ (i + 1) (d + 1) (set a d x) (set b d y)
-    unfolding listed
-    copy_more l x y e ha hb = record {
-      at = omega (arith, p.at);
-      high = omega (arith, l);
-      pairs =
-          pairs_more d a b x y ha hb
-          ∙ ap₂ (λ (l : List Pair) (q : Pair). l ++ (q ∷ [])) p.pairs (sym e ∙ ap f p.at)
-          ∙ ap (λ (k : ℕ). listed k (λ k. f (first + k))) (sym (add-one d));
-      left = length-set a d x ∙ p.left;
-      right = length-set b d y ∙ p.right;
-    }
-
-    pub copy_done : end ≤ i → pairs_of (end - first) a b ≡ listed (end - first) (λ k. f (first + k))
-    copy_done h =
-        let e : end - first ≡ d = omega (arith, p.at, p.high, h) in
-        ap (λ (k : ℕ). pairs_of k a b) e ∙ p.pairs ∙ ap (λ (k : ℕ). listed k (λ k. f (first + k))) (sym e)
+-- ---- one pair more of those that f gives, number by number
+pub copy_more :
+    (f : ℕ → Pair) (d : ℕ) (a b : List ℕ) → pairs_of d a b ≡ listed d f → d < length a → d < length b → (x y : ℕ) → f d ≡ (x, y)
+    → pairs_of (d + 1) (set a d x) (set b d y) ≡ listed (d + 1) f
+unfolding listed
+copy_more f d a b p ha hb x y e =
+    pairs_more d a b x y ha hb ∙ ap₂ (λ (l : List Pair) (q : Pair). l ++ (q ∷ [])) p (sym e) ∙ ap (λ (k : ℕ). listed k f) (sym (add-one d))
 
 -- ---- the numbers of a stretch that passes
 stretch-members :

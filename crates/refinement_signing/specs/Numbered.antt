@@ -1,6 +1,6 @@
 -- The states of a block, numbered by their signatures as they stand: the first one gets 0, and each whose signature did not come before
 -- gets the next number.
-use Rattle.std.specs.Prelude.{◌≡◌, Bool, List, ℕ, ◌+◌, ◌≤◌, ◌<◌, get_or}
+use Rattle.std.specs.Prelude.{◌≡◌, Bool, List, ℕ, ◌+◌, ◌<◌, get_or}
 use Rattle.columns.specs.Counting.{many}
 use Rattle.columns.specs.Number.{leads, number}
 use Rattle.refinement_signing.specs.Stored.{Store, alike}

@@ -6,14 +6,12 @@ ghost use Rattle.refinement_signing.specs.Stored.{end_in, Held, alike, pair_same
 use columns::cells::at;
 
 // Whether the pairs at i and at j are the same.
+#[tactic(auto, unfolding(crate::specs::Stored::pair_same, columns::specs::Sets::pair_eq))]
 fn pair_same(labels: &[u16], blocks: &[u16], i: usize, j: usize) -> bool
     requires { (i < length labels.now) × (i < length blocks.now) × (j < length labels.now) × (j < length blocks.now) }
     ensures { result ≡ pair_same labels.now blocks.now i j }
 {
-    if at(labels, i) != at(labels, j) {
-        return false;
-    }
-    at(blocks, i) == at(blocks, j)
+    at(labels, i) == at(labels, j) && at(blocks, i) == at(blocks, j)
 }
 
 // Whether the k pairs from x on are those from v on.
@@ -22,26 +20,17 @@ fn same_pairs(labels: &[u16], blocks: &[u16], x: usize, v: usize, k: usize) -> b
         × (v + k ≤ length blocks.now) }
     ensures { result ≡ all k (λ i. pair_same labels.now blocks.now (x + i) (v + i)) }
 {
-    let mut i = 0;
-    while i < k {
-        if !pair_same(labels, blocks, x + i, v + i) {
-            return false;
-        }
-        i += 1;
-    }
-    true
+    (0..k).all(|i| pair_same(labels, blocks, x + i, v + i))
 }
 
 // Where the signature of state s ends, of n that have d pairs together.
+#[tactic(auto, unfolding(crate::specs::Stored::end_in))]
 fn end_of(n: usize, d: usize, begins: &[u16], s: usize) -> usize
     requires { (s < n) × (n ≤ length begins.now) }
     ensures { result ≡ end_in n d begins.now s }
 {
     let next = s + 1;
-    if next < n {
-        return at(begins, next);
-    }
-    d
+    if next < n { at(begins, next) } else { d }
 }
 
 // Whether two states have one signature.
@@ -62,8 +51,5 @@ pub fn same_signature(
     let v = at(begins, u);
     let w = end_of(n, d, begins, u);
     let k = z - x;
-    if w - v != k {
-        return false;
-    }
-    same_pairs(labels, blocks, x, v, k)
+    w - v == k && same_pairs(labels, blocks, x, v, k)
 }

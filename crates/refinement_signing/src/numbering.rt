@@ -23,15 +23,9 @@ fn first_alike(
     ensures { result ≡ least (alike_at elements.now (store n labels.now blocks.now d begins.now) x) j }
 {
     let s = at(elements, x + j);
-    let mut i = 0;
-    while i < j {
-        let u = at(elements, x + i);
-        if same_signature(n, labels, blocks, d, begins, u, s) {
-            return i;
-        }
-        i += 1;
-    }
-    i
+    (0..j)
+        .find(|&i| same_signature(n, labels, blocks, d, begins, at(elements, x + i), s))
+        .unwrap_or(j)
 }
 
 // The number of the state at x + j, where those before it have theirs, `next` of them. Returns how many there are then.
@@ -57,13 +51,12 @@ fn number_next(
     let s = at(elements, x + j);
     let i = first_alike(n, elements, labels, blocks, d, begins, x, j);
     if i < j {
-        let u = at(elements, x + i);
-        let k = numbers[u];
-        numbers[s] = k;
-        return next;
+        numbers[s] = numbers[at(elements, x + i)];
+        next
+    } else {
+        numbers[s] = next as u16;
+        next + 1
     }
-    numbers[s] = next as u16;
-    next + 1
 }
 
 // The numbers of the states that stand from x to before z; those of the others stay. Returns how many there are.
@@ -85,23 +78,9 @@ pub fn number_block(
     ensures by_index { (s : ℕ) → ((i : ℕ) → i < z - x → get_or elements.now (x + i) 0 ≡ s → ⊥) → get_or numbers.new s 0 ≡ get_or
         numbers.old s 0 }
 {
-    let k = z - x;
-    let mut j = 0;
     let mut next = 0;
-    while j < k {
-        next = number_next(
-            n,
-            elements,
-            labels,
-            blocks,
-            d,
-            begins,
-            x,
-            j,
-            &mut *numbers,
-            next,
-        );
-        j += 1;
+    for j in 0..z - x {
+        next = number_next(n, elements, labels, blocks, d, begins, x, j, numbers, next);
     }
     next
 }

@@ -5,27 +5,20 @@ ghost use Rattle.columns.specs.Rows.{pairs_of};
 ghost use Rattle.refinement_signing.specs.Stored.{row_pairs, AllSigned, store};
 ghost use Rattle.signatures.specs.Pairs.{signature};
 ghost use Rattle.signatures.specs.Strong.{strong_signature};
-ghost use Rattle.table.specs.Lts.{Valid, lts};
+ghost use Rattle.table.specs.Lts.{Valid, lts_of};
 ghost use Rattle.columns.specs.Columns.{NeverFalls, laid};
 ghost use Rattle.table.specs.Stretch.{first_row};
 
 use columns::cells::at;
 use signatures::flat::flatten;
-use table::Table;
+use table::Lts;
 
 // Where the rows of s end, which begin at `first`.
 fn row_end(source: &[u16], m: usize, s: usize, first: usize) -> usize
     requires { (m ≤ length source.now) × NeverFalls source.now m × (first ≡ first_row source.now m s) }
     ensures { result ≡ first_row source.now m (s + 1) }
 {
-    let mut i = first;
-    while i < m {
-        if at(source, i) != s {
-            return i;
-        }
-        i += 1;
-    }
-    i
+    (first..m).find(|&i| at(source, i) != s).unwrap_or(m)
 }
 
 // The pairs of the rows from `first` to before `end`, over the first cells of two columns.
@@ -43,14 +36,10 @@ fn push_rows(
     requires first_in_bounds { (end - first ≤ length pushed_labels.old) × (end - first ≤ length pushed_blocks.old) }
     ensures { pairs_of (end - first) pushed_labels.new pushed_blocks.new ≡ row_pairs label.now target.now home.now first end }
 {
-    let mut i = first;
-    let mut d = 0;
-    while i < end {
-        let u = at(target, i);
+    for d in 0..end - first {
+        let i = first + d;
         pushed_labels[d] = label[i];
-        pushed_blocks[d] = home[u];
-        d += 1;
-        i += 1;
+        pushed_blocks[d] = home[at(target, i)];
     }
 }
 
@@ -104,10 +93,7 @@ fn sign_rows(
 // each begins. Returns how many pairs they have together. Work: the pairs pushed for one state, and two columns for the sort, of which
 // `spare` is zero before and after.
 pub fn sign_all(
-    table: Table,
-    source: &[u16],
-    label: &[u16],
-    target: &[u16],
+    system: &Lts<'_>,
     home: &[u16],
     labels: &mut [u16],
     blocks: &mut [u16],
@@ -117,40 +103,37 @@ pub fn sign_all(
     order: &mut [u16],
     spare: &mut [u16],
 ) -> usize
-    requires valid { Valid (lts table source.now label.now target.now) × (table.n ≤ length home.now) × (table.n ≤ length begins.old) }
-    requires m_in_bounds { (table.m ≤ length labels.old) × (table.m ≤ length blocks.old) × (table.m ≤ length pushed_labels.old)
-        × (table.m ≤ length pushed_blocks.old) }
-    requires m_in_bounds_2 { (table.m ≤ length order.old) × (table.m ≤ 2 * length spare.old + 1) × Clear spare.old }
-    ensures { let system = lts table source.now label.now target.now in
-        let sig = strong_signature system home.now in
-        AllSigned (store table.n labels.new blocks.new result begins.new) sig × (result ≤ table.m) × Cleared spare.old spare.new
-        × (pairs_of result labels.new blocks.new ≡ laid sig table.n)
-        × ((s : ℕ) → s < table.n → get_or begins.new s 0 ≡ length (laid sig s)) }
+    requires valid { Valid (lts_of system.now) × (system.now.table.n ≤ length home.now) × (system.now.table.n ≤ length begins.old) }
+    requires m_in_bounds { (system.now.table.m ≤ length labels.old) × (system.now.table.m ≤ length blocks.old)
+        × (system.now.table.m ≤ length pushed_labels.old) × (system.now.table.m ≤ length pushed_blocks.old) }
+    requires m_in_bounds_2 { (system.now.table.m ≤ length order.old) × (system.now.table.m ≤ 2 * length spare.old + 1) × Clear spare.old }
+    ensures { let n = system.now.table.n in
+        let sig = strong_signature (lts_of system.now) home.now in
+        AllSigned (store n labels.new blocks.new result begins.new) sig × (result ≤ system.now.table.m) × Cleared spare.old spare.new
+        × (pairs_of result labels.new blocks.new ≡ laid sig n) × ((s : ℕ) → s < n → get_or begins.new s 0 ≡ length (laid sig s)) }
 {
-    let n = table.n as usize;
-    let m = table.m as usize;
-    let mut s = 0;
+    let n = system.table.n as usize;
+    let m = system.table.m as usize;
     let mut i = 0;
     let mut d = 0;
-    while s < n {
-        let end = row_end(source, m, s, i);
+    for s in 0..n {
+        let end = row_end(system.source, m, s, i);
         begins[s] = d as u16;
         d = sign_rows(
-            label,
-            target,
+            system.label,
+            system.target,
             home,
             i,
             end,
-            &mut *labels,
-            &mut *blocks,
+            labels,
+            blocks,
             d,
-            &mut *pushed_labels,
-            &mut *pushed_blocks,
-            &mut *order,
-            &mut *spare,
+            pushed_labels,
+            pushed_blocks,
+            order,
+            spare,
         );
         i = end;
-        s += 1;
     }
     d
 }

@@ -6,8 +6,7 @@ mod line;
 
 use crate::answer::answer;
 use crate::line::next_line;
-use replay_lines::input;
-use replay_lines::input::{Input, Source};
+use replay_lines::input::{Input, TURNS};
 use replay_lines::output::{Sink, flush};
 use replay_slots::case::{Bytes, Narrow, Wide};
 use replay_slots::slots::{Slot, Text};
@@ -16,25 +15,17 @@ use std::io::Print;
 // How many bytes are kept before they are written, at the end of a line.
 const MANY: usize = 32768;
 
-// The output at the end of a line.
-#[derive(Drop)]
-struct Output {
-    good: bool,
-    used: usize,
-}
-
-// Writes what is not written yet if it is much.
-fn written(out: &mut Sink, used: usize) -> Output {
+// Writes what is not written yet if it is much: how many bytes are not written then, unless the write fails.
+fn written(out: &mut Sink, used: usize) -> Option<usize> {
     if used < MANY {
-        return Output { good: true, used };
+        return Some(used);
     }
-    let good = flush(out, used);
-    Output { good, used: 0 }
+    flush(out, used).then_some(0)
 }
 
 // All lines, as long as the answers can be written; whether they are.
 fn replay_all(
-    buffer: &mut Source,
+    input: &mut Input,
     out: &mut Sink,
     narrow: &mut Narrow,
     wide: &mut Wide,
@@ -50,45 +41,24 @@ fn replay_all(
     h: &mut Slot,
     i: &mut Slot,
 ) -> bool {
-    let first = Input::new(buffer);
-    let mut line = next_line(first, buffer);
-    let mut output = Output {
-        good: true,
-        used: 0,
-    };
-    let mut turns = input::TURNS;
-    while 0 < turns && !line.ended {
-        turns -= 1;
+    let mut used = 0;
+    for _ in 0..TURNS {
+        let Some(line) = next_line(input) else {
+            break;
+        };
         let answered = answer(
-            line,
-            buffer,
-            narrow,
-            wide,
-            bytes,
-            text,
-            a,
-            b,
-            c,
-            d,
-            e,
-            f,
-            g,
-            h,
-            i,
-            out,
-            output.used,
+            line, input, narrow, wide, bytes, text, a, b, c, d, e, f, g, h, i, out, used,
         );
-        output = written(out, answered.used);
-        if !output.good {
+        let Some(left) = written(out, answered) else {
             return false;
-        }
-        line = next_line(answered.rest, buffer);
+        };
+        used = left;
     }
-    flush(out, output.used)
+    flush(out, used)
 }
 
 fn main(rt: HostRuntime) {
-    let mut buffer = Source::new(rt.stdin());
+    let mut input = Input::new(rt.stdin());
     let mut out = Sink::new(rt.stdout());
     let mut narrow = [0u16; 1400000];
     let mut wide = [0u32; 70000];
@@ -104,7 +74,7 @@ fn main(rt: HostRuntime) {
     let mut h = [0u16; 70000];
     let mut i = [0u16; 70000];
     let good = replay_all(
-        &mut buffer,
+        &mut input,
         &mut out,
         &mut narrow,
         &mut wide,

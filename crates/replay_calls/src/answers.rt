@@ -3,20 +3,25 @@ ghost use Rattle.std.specs.Prelude.{◌≡◌};
 ghost use Rattle.replay_lines.specs.Told.{told};
 ghost use Rattle.table.specs.Tables.{said_table};
 
-use replay_lines::answers::{Said, done_with, refused};
-use table::answers::{TableAnswer, TableOutcome};
+use columns::answers::Answer;
+use replay_lines::answers::{Said, done_with};
+use table::Table;
 
-pub fn header(answer: TableAnswer) -> Said
+pub fn header(answer: Answer<Table>) -> Said
     ensures { told result ≡ said_table answer }
 {
-    let outcome = answer.outcome;
-    match outcome {
-        TableOutcome::Done {
-            n,
-            labels,
-            m,
-            initial,
-        } => done_with(4, [n, labels, m, initial, 0, 0, 0, 0]),
-        TableOutcome::Refused(refusal) => refused(refusal),
-    }
+    let table = answer.outcome?;
+    done_with(
+        4,
+        [
+            table.n as u64,
+            table.labels as u64,
+            table.m as u64,
+            table.initial as u64,
+            0,
+            0,
+            0,
+            0,
+        ],
+    )
 }

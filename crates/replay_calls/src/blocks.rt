@@ -1,23 +1,20 @@
 // The operations on numbers alone: a block given by value, and tau_hat.
 use crate::headers::block as given;
-use crate::operations::{
-    BLOCK_HAS_MARKED, BLOCK_HAS_UNMARKED, BLOCK_LEN, BLOCK_LEN_MARKED, BLOCK_NEW,
-    BLOCK_NEW_UNMARKED, TAU_HAT,
-};
+use crate::operations::Operation;
 use partition::block::Block;
 use replay_lines::answers::{Said, block, flag, number};
 use replay_slots::case::Case;
 use signatures::tau_hat::{is_tau_hat, tau_hat};
 
-pub fn of_numbers(operation: usize, case: Case) -> Said {
+pub fn of_numbers(operation: Operation, case: Case) -> Said {
     match operation {
-        BLOCK_NEW => block(Block::new(case.number(0), case.number(1))),
-        BLOCK_NEW_UNMARKED => block(Block::new_unmarked(case.number(0), case.number(1))),
-        BLOCK_LEN => number(given(case).len()),
-        BLOCK_LEN_MARKED => number(given(case).len_marked()),
-        BLOCK_HAS_MARKED => flag(given(case).has_marked()),
-        BLOCK_HAS_UNMARKED => flag(given(case).has_unmarked()),
-        TAU_HAT => number(tau_hat(case.number(0))),
+        Operation::BlockNew => block(Block::new(case.number(0), case.number(1))),
+        Operation::BlockNewUnmarked => block(Block::new_unmarked(case.number(0), case.number(1))),
+        Operation::BlockLen => number(given(case).len()),
+        Operation::BlockLenMarked => number(given(case).len_marked()),
+        Operation::BlockHasMarked => flag(given(case).has_marked()),
+        Operation::BlockHasUnmarked => flag(given(case).has_unmarked()),
+        Operation::TauHat => number(tau_hat(case.number(0))),
         _ => flag(is_tau_hat(case.number(1), case.number(0))),
     }
 }

@@ -1,11 +1,12 @@
-// What travels beside the columns.
-ghost use Rattle.std.specs.Prelude.{◌≡◌};
+// What travels beside the columns, and the columns that are read together.
+ghost use Rattle.std.specs.Prelude.{◌≡◌, ◌<◌};
 ghost use Rattle.replay_slots.specs.Cases.{number_of};
 
+use partition::PartitionColumns;
 use partition::block::Block;
 use partition_calls::BlockPartition;
-use replay_slots::case::Case;
-use table::Table;
+use replay_slots::case::{Case, column};
+use table::{Lts, Table};
 
 // The block of the first three numbers.
 pub fn block(case: Case) -> Block
@@ -38,5 +39,29 @@ pub fn table(case: Case) -> Table
         labels: case.number(1),
         m: case.number(2),
         initial: case.number(3),
+    }
+}
+
+// That table with its rows: the first three slices that are only read.
+pub fn system(case: Case, cells: &[u16]) -> Lts<'_> {
+    Lts {
+        table: table(case),
+        source: column(cells, case, 0),
+        label: column(cells, case, 1),
+        target: column(cells, case, 2),
+    }
+}
+
+// The six columns of a partition, from slice `first` of those that are only read on.
+pub fn six_columns(case: Case, cells: &[u16], first: usize) -> PartitionColumns<'_>
+    requires { first < 16 }
+{
+    PartitionColumns {
+        elements: column(cells, case, first),
+        element_offset: column(cells, case, first + 1),
+        element_to_block: column(cells, case, first + 2),
+        begin: column(cells, case, first + 3),
+        marked_split: column(cells, case, first + 4),
+        end: column(cells, case, first + 5),
     }
 }

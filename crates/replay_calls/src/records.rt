@@ -15,55 +15,11 @@ use replay_lines::slices::column as column_text;
 use replay_slots::case::{Case, column};
 use replay_slots::slots::Filled;
 
-// Field k of record i, or 0 where there is none.
-fn field(records: &[u16], i: usize, k: usize) -> u16 {
-    if i < MAX_STATES {
-        if k < 3 {
-            let at = 3 * i + k;
-            if at < records.len() {
-                return records[at];
-            }
-        }
-    }
-    0
-}
-
-// Field k of record i is changed.
-fn change(records: &mut [u16], i: usize, k: usize, value: u16) {
-    if i < MAX_STATES {
-        if k < 3 {
-            let at = 3 * i + k;
-            if at < records.len() {
-                records[at] = value;
-            }
-        }
-    }
-}
-
-// The block of record i.
-fn block_at(records: &[u16], i: usize) -> Block {
-    Block {
-        begin: field(records, i, 0),
-        marked_split: field(records, i, 1),
-        end: field(records, i, 2),
-    }
-}
-
-// Record i is changed to a block.
-fn change_to(records: &mut [u16], i: usize, block: Block) {
-    change(records, i, 0, block.begin);
-    change(records, i, 1, block.marked_split);
-    change(records, i, 2, block.end);
-}
-
 // How many records that many cells make up, as many as a table has room for at most.
 fn number_of(cells: usize) -> usize
     ensures { result ≤ max_states }
 {
-    if cells / 3 < MAX_STATES {
-        return cells / 3;
-    }
-    MAX_STATES
+    (cells / 3).min(MAX_STATES)
 }
 
 // `unmark_all` on the block of the first three numbers: the answer, and the block at return.
@@ -82,20 +38,22 @@ pub fn unmarked(case: Case, out: &mut Sink, used: usize) -> usize {
 // The records of a list in a table.
 fn table_of(records: &[u16]) -> [Block; MAX_STATES] {
     let mut table = empty_table();
-    let mut i = 0;
-    while i < MAX_STATES {
-        table[i] = block_at(records, i);
-        i += 1;
+    let (fields, _) = records.as_chunks::<3>();
+    for (block, field) in table.iter_mut().zip(fields) {
+        *block = Block {
+            begin: field[0],
+            marked_split: field[1],
+            end: field[2],
+        };
     }
     table
 }
 
 // The records of a list become those of a table.
 fn put_back(table: [Block; MAX_STATES], records: &mut [u16]) {
-    let mut i = 0;
-    while i < MAX_STATES {
-        change_to(&mut *records, i, table[i]);
-        i += 1;
+    let (fields, _) = records.as_chunks_mut::<3>();
+    for (field, block) in fields.iter_mut().zip(&table) {
+        *field = [block.begin, block.marked_split, block.end];
     }
 }
 
@@ -103,7 +61,7 @@ fn put_back(table: [Block; MAX_STATES], records: &mut [u16]) {
 fn swapped(case: Case, cells: &[u16], element_to_block: &mut [u16], records: &mut [u16]) -> Said {
     let elements = column(cells, case, 0);
     let element_offset = column(cells, case, 1);
-    let table = table_of(&*records);
+    let table = table_of(records);
     let done = swap_here(
         partition(case),
         elements,

@@ -1,17 +1,17 @@
 // The operations that change four to six slices of u16 and write no signature.
 ghost use Rattle.spelling.specs.Counts.{IsPrefixLen};
 
-use crate::headers::{partition, table};
-use crate::operations::{BLOCKPARTITION_NEW, MARK_BACKWARD_CLOSURE, SWAP_BLOCKS};
+use crate::headers::{partition, system};
+use crate::operations::Operation;
 use partition_calls::BlockPartition;
 use partition_split::split_marked;
 use replay_lines::answers::{Said, number, partition as made, plain};
-use replay_slots::case::{Case, byte_column, column};
+use replay_slots::case::{Case, column};
 use replay_slots::slots::Filled;
 use table_closure::mark_backward_closure;
 
 fn called(
-    operation: usize,
+    operation: Operation,
     case: Case,
     cells: &[u16],
     bytes: &[u8],
@@ -24,13 +24,13 @@ fn called(
 ) -> Said {
     let p = partition(case);
     match operation {
-        BLOCKPARTITION_NEW => {
-            let elements = &mut *a;
-            let element_offset = &mut *b;
-            let element_to_block = &mut *c;
-            let begin = &mut *d;
-            let marked_split = &mut *e;
-            let end = &mut *f;
+        Operation::BlockPartitionNew => {
+            let elements = a;
+            let element_offset = b;
+            let element_to_block = c;
+            let begin = d;
+            let marked_split = e;
+            let end = f;
             made(BlockPartition::new(
                 p.n,
                 elements,
@@ -41,13 +41,13 @@ fn called(
                 end,
             ))
         }
-        SWAP_BLOCKS => {
+        Operation::SwapBlocks => {
             let elements = column(cells, case, 0);
             let element_offset = column(cells, case, 1);
-            let element_to_block = &mut *a;
-            let begin = &mut *b;
-            let marked_split = &mut *c;
-            let end = &mut *d;
+            let element_to_block = a;
+            let begin = b;
+            let marked_split = c;
+            let end = d;
             plain(p.swap_blocks(
                 elements,
                 element_offset,
@@ -59,24 +59,18 @@ fn called(
                 case.number(3),
             ))
         }
-        MARK_BACKWARD_CLOSURE => {
-            let source = column(cells, case, 0);
-            let label = column(cells, case, 1);
-            let target = column(cells, case, 2);
+        Operation::MarkBackwardClosure => {
             let element_to_block = column(cells, case, 3);
             let begin = column(cells, case, 4);
             let end = column(cells, case, 5);
             let count = case.number(4);
-            let elements = &mut *a;
-            let element_offset = &mut *b;
-            let marked_split = &mut *c;
-            let order = &mut *d;
-            let spare = &mut *e;
+            let elements = a;
+            let element_offset = b;
+            let marked_split = c;
+            let order = d;
+            let spare = e;
             plain(mark_backward_closure(
-                table(case),
-                source,
-                label,
-                target,
+                &system(case, cells),
                 count,
                 elements,
                 element_offset,
@@ -90,13 +84,13 @@ fn called(
             ))
         }
         _ => {
-            let choice = byte_column(bytes, case, 0);
-            let elements = &mut *a;
-            let element_offset = &mut *b;
-            let element_to_block = &mut *c;
-            let begin = &mut *d;
-            let marked_split = &mut *e;
-            let end = &mut *f;
+            let choice = column(bytes, case, 0);
+            let elements = a;
+            let element_offset = b;
+            let element_to_block = c;
+            let begin = d;
+            let marked_split = e;
+            let end = f;
             number(split_marked(
                 p,
                 elements,
@@ -114,7 +108,7 @@ fn called(
 
 // The call, with as much of each slot as is filled.
 pub fn six(
-    operation: usize,
+    operation: Operation,
     case: Case,
     cells: &[u16],
     bytes: &[u8],

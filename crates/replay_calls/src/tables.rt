@@ -3,45 +3,27 @@ ghost use Rattle.std.specs.Prelude.{◌≡◌};
 ghost use Rattle.replay_lines.specs.Told.{told};
 ghost use Rattle.table.specs.Transitions.{said_stretch};
 
-use crate::headers::table;
-use crate::operations::{NEXT_INCOMING, OUTGOING_TRANSITIONS};
+use crate::headers::system;
+use crate::operations::Operation;
+use columns::answers::Answer;
 use pairs::is_subset_of;
-use replay_lines::answers::{Said, done, flag, number, refused};
+use replay_lines::answers::{Said, done, flag, number};
 use replay_slots::case::{Case, column};
-use table::transitions::{StretchAnswer, StretchOutcome, next_incoming, outgoing_transitions};
+use table::cores::Stretch;
 
 // The answer of `outgoing_transitions` as numbers.
-fn stretch(answer: StretchAnswer) -> Said
+fn stretch(answer: Answer<Stretch>) -> Said
     ensures { told result ≡ said_stretch answer }
 {
-    let outcome = answer.outcome;
-    match outcome {
-        StretchOutcome::Done { first, end } => done(2, first, end, 0),
-        StretchOutcome::Refused(refusal) => refused(refusal),
-    }
+    let rows = answer.outcome?;
+    done(2, rows.first as u64, rows.end as u64, 0)
 }
 
-pub fn of_table(operation: usize, case: Case, cells: &[u16]) -> Said {
-    let t = table(case);
-    let source = column(cells, case, 0);
-    let label = column(cells, case, 1);
-    let target = column(cells, case, 2);
+pub fn of_table(operation: Operation, case: Case, cells: &[u16]) -> Said {
+    let system = system(case, cells);
     match operation {
-        OUTGOING_TRANSITIONS => stretch(outgoing_transitions(
-            t,
-            source,
-            label,
-            target,
-            case.number(4),
-        )),
-        NEXT_INCOMING => number(next_incoming(
-            t,
-            source,
-            label,
-            target,
-            case.number(4),
-            case.number(5),
-        )),
+        Operation::OutgoingTransitions => stretch(system.outgoing_transitions(case.number(4))),
+        Operation::NextIncoming => number(system.next_incoming(case.number(4), case.number(5))),
         _ => subset(case, cells),
     }
 }

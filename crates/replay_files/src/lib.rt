@@ -10,13 +10,13 @@ pub mod writing;
 use crate::reading::read;
 use crate::reducing::reduce;
 use crate::writing::write;
-use replay_calls::operations::{READ_FILE, WRITE_FILE};
+use replay_calls::operations::Operation;
 use replay_lines::output::Sink;
 use replay_slots::case::Case;
 
 // The answer to a case, and what may have changed, at return.
 pub fn filing(
-    operation: usize,
+    operation: Operation,
     case: Case,
     cells: &[u16],
     bytes: &[u8],
@@ -24,8 +24,8 @@ pub fn filing(
     used: usize,
 ) -> usize {
     match operation {
-        READ_FILE => read(case, cells, bytes, out, used),
-        WRITE_FILE => write(case, cells, bytes, out, used),
+        Operation::ReadFile => read(case, cells, bytes, out, used),
+        Operation::WriteFile => write(case, cells, bytes, out, used),
         _ => reduce(case, bytes, out, used),
     }
 }

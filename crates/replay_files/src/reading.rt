@@ -2,7 +2,7 @@
 use file::reading::read_file;
 use replay_calls::answers::header;
 use replay_lines::output::{Sink, said};
-use replay_slots::case::{Case, HELD_ROOM, byte_column};
+use replay_slots::case::{Case, HELD_ROOM, column};
 use replay_slots::held::{lend, show_three};
 
 pub fn read(case: Case, cells: &[u16], bytes: &[u8], out: &mut Sink, used: usize) -> usize {
@@ -10,7 +10,7 @@ pub fn read(case: Case, cells: &[u16], bytes: &[u8], out: &mut Sink, used: usize
     let mut label = [0u16; HELD_ROOM];
     let mut target = [0u16; HELD_ROOM];
     let answer = read_file(
-        byte_column(bytes, case, 0),
+        column(bytes, case, 0),
         lend(case, cells, 0, &mut source),
         lend(case, cells, 1, &mut label),
         lend(case, cells, 2, &mut target),

@@ -1,7 +1,6 @@
 -- Bytes put one after the other: one byte, with room in the buffer and without; a text after a text; and the texts of
 -- numbers, which a loop puts one by one.
 use Prim.Native.Nat.{ℕ, ◌+◌, ◌<◌, ◌≤◌}
-use native.Mathlib.Nat.{le_trans}
 use native.Mathlib.Numerals.{add-one}
 use mathlib.Core.Bool.{cond}
 use mathlib.Core.List.{List, [], ◌∷◌, ◌++◌, append_assoc, append-nil}
@@ -59,7 +58,7 @@ unfolding spelled_all
 listed_snoc [] x = append-nil (spelled x)
 listed_snoc (y ∷ l) x = ap (spelled y ++◌) (listed_snoc l x) ∙⁻¹ append_assoc (spelled y) (spelled_all l) (spelled x)
 
--- the loop over the first `count` numbers of a list
+-- the loop over the numbers of a list
 pub listed-none : {s : ℕ × List ℕ} → s ≡ puts (spelled_all []) s
 unfolding spelled_all puts
 listed-none = refl
@@ -69,12 +68,6 @@ pub listed_turn : (l : List ℕ) (i : ℕ) (s : ℕ × List ℕ) {t u : ℕ × L
 listed_turn l i s f g h =
     rw (add-one, take-suc l i 0, listed_snoc) (puts_then (spelled_all (take i l)) (spelled (get_or l i 0)) s f g)
 
--- it stops at the count, or at the end of the list
-pub listed_stop : (l : List ℕ) (i count : ℕ) (s : ℕ × List ℕ) {t : ℕ × List ℕ}
-    → t ≡ puts (spelled_all (take i l)) s → i ≡ count → t ≡ puts (spelled_all (take count l)) s
-listed_stop l i count s f e = f ∙ ap (λ k. puts (spelled_all (take k l)) s) e
-
-pub listed_end : (l : List ℕ) (i count : ℕ) (s : ℕ × List ℕ) {t : ℕ × List ℕ}
-    → t ≡ puts (spelled_all (take i l)) s → length l ≤ i → i ≤ count → t ≡ puts (spelled_all (take count l)) s
-listed_end l i count s f h k =
-    f ∙ ap (λ w. puts (spelled_all w) s) (take_all i l h ∙⁻¹ take_all count l (le_trans h k))
+pub listed_end : (l : List ℕ) (i : ℕ) (s : ℕ × List ℕ) {t : ℕ × List ℕ}
+    → t ≡ puts (spelled_all (take i l)) s → length l ≤ i → t ≡ puts (spelled_all l) s
+listed_end l i s f h = f ∙ ap (λ w. puts (spelled_all w) s) (take_all i l h)

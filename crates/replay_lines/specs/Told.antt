@@ -1,7 +1,9 @@
--- What the numbers of an answer say.
-use Rattle.std.specs.Prelude.{cond, get_or, take}
-use Rattle.columns.specs.Answers.{Said, done, refused}
-use Rattle.replay_lines.specs.declared.answers.Said as lines
+-- What an answer says that is handed on: its numbers, or its refusal.
+use Rattle.std.specs.Prelude.{Result, Ok, Err, take}
+use Rattle.columns.specs.Answers.{Said, done, refused, refusal_of}
+use Rattle.columns.specs.declared.answers.Refusal as code
+use Rattle.replay_lines.specs.declared.answers.Numbers as lines
 
-unfoldable pub told : lines.Said → Said
-told s = cond s.refused (refused (get_or s.numbers 0 0) (get_or s.numbers 1 0)) (done (take s.count s.numbers))
+unfoldable pub told : Result lines.Numbers code.Refusal → Said
+told (Ok n) = done (take n.count n.numbers)
+told (Err r) = refused (refusal_of r).number (refusal_of r).place

@@ -1,5 +1,5 @@
-// Standard input, byte by byte out of a lent source, and where its lines end.
-ghost use Rattle.std.specs.Prelude.{cond, true, false, ◌≡◌};
+// Standard input, byte by byte, and where its lines end.
+ghost use Rattle.std.specs.Prelude.{not, ◌≡◌};
 ghost use Rattle.spelling.specs.Counts.{IsPrefixLen};
 ghost use Rattle.replay_lines.specs.Places.{in_line, filled, Next};
 
@@ -8,151 +8,97 @@ use std::io::{Read, Stdin};
 // What is read at once, and what is written at once.
 pub type Buffer = [u8; 65536];
 
-// Standard input, with the bytes that were read of it last.
+// More turns than any loop takes. Nothing says that the input ends, so loops over it take at most these.
+pub const TURNS: u64 = u64::MAX;
+
+// Standard input at a place: its byte, none once the input has ended, and the bytes after it, which are the cells at..end of those that
+// were read last.
 #[derive(Drop)]
-pub struct Source {
+pub struct Input {
     pub bytes: Buffer,
+    pub at: usize,
+    pub end: usize,
+    pub byte: Option<u8>,
     stdin: Stdin,
 }
 
-impl Source {
-    // Nothing is read.
-    pub fn new(stdin: Stdin) -> Source {
-        Source {
+impl Input {
+    // The first place.
+    pub fn new(stdin: Stdin) -> Input
+        ensures { (result.at, result.byte) ≡ filled result.bytes result.end }
+    {
+        let mut input = Input {
             bytes: [0; 65536],
+            at: 0,
+            end: 0,
+            byte: None,
             stdin,
-        }
+        };
+        input.refill();
+        input
     }
 
     // Reads some bytes into the buffer's front, and says how many: none at the end of the input, or where the read fails.
     fn read_some(&mut self) -> usize
         ensures { IsPrefixLen result self.new.bytes }
     {
-        match self.stdin.read(&mut self.bytes) {
-            Ok(count) => count,
-            Err(_) => 0,
+        self.stdin.read(&mut self.bytes).unwrap_or(0)
+    }
+
+    // Goes to the place after the last byte that was read: the buffer is filled anew.
+    fn refill(&mut self)
+        ensures { (self.new.at, self.new.byte) ≡ filled self.new.bytes self.new.end }
+    {
+        let end = self.read_some();
+        self.end = end;
+        if end == 0 {
+            self.at = 0;
+            self.byte = None;
+        } else {
+            self.at = 1;
+            self.byte = Some(self.bytes[0]);
         }
     }
-}
 
-// More turns than any loop takes. Nothing says that the input ends, so loops over it count down from here.
-pub const TURNS: u64 = u64::MAX;
-
-// What stands for a byte once the input has ended.
-pub const END: u16 = 256;
-
-pub const BLANK: u16 = 32;
-
-pub const NEWLINE: u16 = 10;
-
-// A place in the input: its byte, and the bytes after it, which are the source's cells at..end. `good` says whether the
-// line is a case's as far as it is read; once it is not, no more of it is read.
-#[derive(Clone, Copy)]
-pub struct Input {
-    pub at: usize,
-    pub end: usize,
-    pub byte: u16,
-    pub good: bool,
-}
-
-fn wide(byte: u8) -> u16
-    ensures { result ≡ byte }
-{
-    byte as u16
-}
-
-// The place after the last byte that was read: the source is filled anew.
-fn refill(buffer: &mut Source, good: bool) -> Input
-    ensures { result ≡ filled good buffer.new.bytes result.end }
-{
-    let end = buffer.read_some();
-    if end == 0 {
-        return Input {
-            at: 0,
-            end: 0,
-            byte: END,
-            good,
-        };
-    }
-    Input {
-        at: 1,
-        end,
-        byte: wide(buffer.bytes[0]),
-        good,
-    }
-}
-
-impl Input {
-    // The first place.
-    pub fn new(buffer: &mut Source) -> Input
-        ensures { result ≡ filled true buffer.new.bytes result.end }
-    {
-        refill(buffer, true)
-    }
-
-    // The place after this one.
-    pub fn next(self, buffer: &mut Source) -> Input
-        ensures { Next self buffer.old.bytes result buffer.new.bytes }
+    // Goes to the place after this one.
+    pub fn next(&mut self)
+        ensures { Next self.old self.new }
     {
         let at = self.at;
-        if at < self.end {
-            if at < 65536 {
-                return Input {
-                    at: at + 1,
-                    end: self.end,
-                    byte: wide(buffer.bytes[at]),
-                    good: self.good,
-                };
+        if at < self.end && at < 65536 {
+            self.byte = Some(self.bytes[at]);
+            self.at = at + 1;
+        } else {
+            self.refill();
+        }
+    }
+
+    // Goes to the first place of the next line.
+    pub fn skip_line(&mut self) {
+        for _ in 0..TURNS {
+            if !in_line(self.byte) {
+                break;
             }
+            self.next();
         }
-        refill(buffer, self.good)
-    }
-
-    // The same place, on a line that is good or not.
-    pub fn judged(self, good: bool) -> Input
-        ensures { (result.good ≡ good) × (result.at ≡ self.at) × (result.end ≡ self.end) × (result.byte ≡ self.byte) }
-    {
-        Input {
-            at: self.at,
-            end: self.end,
-            byte: self.byte,
-            good,
+        if self.byte == Some(b'\n') {
+            self.next();
         }
     }
 
-    // The first place of the next line.
-    pub fn skip_line(self, buffer: &mut Source) -> Input
-        ensures { result.good ≡ self.good }
+    // Goes to the first place of the next line, and says whether this one ends here.
+    pub fn end_line(&mut self) -> bool
+        ensures { result ≡ not (in_line self.old.byte) }
     {
-        let mut input = self;
-        let mut turns = TURNS;
-        while 0 < turns && in_line(input.byte) {
-            input = input.next(buffer);
-            turns -= 1;
-        }
-        if input.byte == NEWLINE {
-            return input.next(buffer);
-        }
-        input
-    }
-
-    // The first place of the next line; good if this one is, and ends here.
-    pub fn end_line(self, buffer: &mut Source) -> Input
-        ensures { result.good ≡ cond (in_line self.byte) false self.good }
-    {
-        if in_line(self.byte) {
-            return self.judged(false).skip_line(buffer);
-        }
-        self.skip_line(buffer)
+        let ends = !in_line(self.byte);
+        self.skip_line();
+        ends
     }
 }
 
 // Whether a byte is within a line.
-pub fn in_line(byte: u16) -> bool
+pub fn in_line(byte: Option<u8>) -> bool
     ensures { result ≡ in_line byte }
 {
-    if byte == NEWLINE {
-        return false;
-    }
-    byte != END
+    byte.is_some_and(|b| b != b'\n')
 }

@@ -4,86 +4,57 @@ ghost use Rattle.replay_lines.specs.Places.{in_word};
 ghost use Rattle.replay_lines.specs.Text.{put_byte, puts};
 ghost use Rattle.replay_lines.specs.Spelling.{bad_text};
 
-use crate::input::{BLANK, Input, NEWLINE, Source, TURNS, in_line};
-use crate::numbers::Cells;
+use crate::input::{Input, TURNS, in_line};
 use crate::output::{Sink, byte, number, word};
 
-const SHARP: u16 = 35;
-
-// A line that is answered: the first place of the next one, and how many bytes of the output are not written yet.
-#[derive(Drop)]
-pub struct Answered {
-    pub rest: Input,
-    pub used: usize,
-}
-
 // Whether a line that starts with this byte has no answer.
-fn is_silent(byte: u16) -> bool {
-    if byte == NEWLINE {
-        return true;
-    }
-    byte == SHARP
+fn is_silent(byte: Option<u8>) -> bool {
+    byte.is_some_and(|b| b == b'\n' || b == b'#')
 }
 
-// The first place of the next line that has an answer, or the end.
-pub fn skip_silent(first: Input, buffer: &mut Source) -> Input
-    ensures { result.good ≡ first.good }
-{
-    let mut input = first;
-    let mut turns = TURNS;
-    while 0 < turns && is_silent(input.byte) {
-        input = input.skip_line(buffer);
-        turns -= 1;
+// Goes to the first place of the next line that has an answer, or to the end.
+pub fn skip_silent(input: &mut Input) {
+    for _ in 0..TURNS {
+        if !is_silent(input.byte) {
+            break;
+        }
+        input.skip_line();
     }
-    input
 }
 
 // Whether a byte belongs to a word.
-pub fn in_word(byte: u16) -> bool
+pub fn in_word(byte: Option<u8>) -> bool
     ensures { result ≡ in_word byte }
 {
-    if byte == BLANK {
-        return false;
-    }
-    in_line(byte)
+    byte != Some(b' ') && in_line(byte)
 }
 
 // The word that starts here, or as much of it as `into` has room for.
-pub fn read_word(first: Input, buffer: &mut Source, into: &mut [u8]) -> Cells
-    ensures count_in_bounds { result.count ≤ length into.new }
-    ensures good_value { result.input.good ≡ first.good }
+pub fn read_word<'a>(input: &mut Input, into: &'a mut [u8]) -> &'a [u8]
+    ensures { length result.now ≤ length into.old }
 {
-    let mut input = first;
-    let mut count = 0;
-    while count < into.len() {
-        if !in_word(input.byte) {
-            return Cells { input, count };
+    for i in 0..into.len() {
+        match input.byte {
+            Some(byte) if in_word(input.byte) => into[i] = byte,
+            _ => return &into[..i],
         }
-        into[count] = (input.byte % 256) as u8;
-        input = input.next(buffer);
-        count += 1;
+        input.next();
     }
-    Cells { input, count }
+    into
 }
 
 // A line whose answer is written up to its end.
-pub fn end_case(rest: Input, out: &mut Sink, used: usize) -> Answered
-    ensures { (result.rest ≡ rest) × ((result.used, out.new.bytes) ≡ put_byte out.old.bytes used 10) }
+pub fn end_case(out: &mut Sink, used: usize) -> usize
+    ensures { (result, out.new.bytes) ≡ put_byte out.old.bytes used 10 }
 {
-    Answered {
-        rest,
-        used: byte(b'\n', out, used),
-    }
+    byte(b'\n', out, used)
 }
 
 // A line that is no case: the place of the first word that is wrong, missing or too many, the name's being 0.
-pub fn bad_case(rest: Input, place: usize, out: &mut Sink, used: usize) -> Answered
-    ensures { (result.rest ≡ rest) × ((result.used, out.new.bytes) ≡ puts (bad_text place) (used, out.old.bytes)) }
+pub fn bad_case(place: usize, out: &mut Sink, used: usize) -> usize
+    ensures { (result, out.new.bytes) ≡ puts (bad_text place) (used, out.old.bytes) }
 {
     let said = word(b"bad", out, used);
     let at = number(place as u64, out, said);
-    Answered {
-        rest,
-        used: byte(b'\n', out, at),
-    }
+    byte(b'\n', out, at)
 }

@@ -1,6 +1,6 @@
 // Standard output, byte by byte through a lent sink, of which the first `used` cells are not written yet.
-ghost use Rattle.std.specs.Prelude.{◌≡◌, ◌∷◌, take};
-ghost use Rattle.columns.specs.Answers.{refused as refused_with};
+ghost use Rattle.std.specs.Prelude.{◌≡◌, ◌∷◌};
+ghost use Rattle.columns.specs.Answers.{refused as refused_with, refusal_of};
 ghost use Rattle.spelling.specs.Digits.{digits};
 ghost use Rattle.replay_lines.specs.Text.{put_byte, puts};
 ghost use Rattle.replay_lines.specs.Told.{told};
@@ -8,6 +8,7 @@ ghost use Rattle.replay_lines.specs.Spelling.{spelled, spelled_all, said_text};
 
 use crate::answers::Said;
 use crate::input::Buffer;
+use columns::answers::Refusal;
 use spelling::decimal;
 use std::io::{Print, Stdout};
 
@@ -32,13 +33,7 @@ impl Sink {
 
 // Writes the first bytes, and says whether that is done.
 fn write_front(out: &Sink, used: usize) -> bool {
-    if out.broken {
-        return false;
-    }
-    if 65536 < used {
-        return false;
-    }
-    Print::write_all(&out.stdout, &out.bytes[..used]).is_ok()
+    !out.broken && used <= 65536 && Print::write_all(&out.stdout, &out.bytes[..used]).is_ok()
 }
 
 // Writes what is not written yet, and says whether that is done. Where it is not, the output is broken.
@@ -70,10 +65,8 @@ pub fn word(word: &[u8], out: &mut Sink, used: usize) -> usize
     ensures { (result, out.new.bytes) ≡ puts word.now (used, out.old.bytes) }
 {
     let mut at = used;
-    let mut i = 0;
-    while i < word.len() {
-        at = byte(word[i], out, at);
-        i += 1;
+    for letter in word {
+        at = byte(*letter, out, at);
     }
     at
 }
@@ -83,9 +76,8 @@ pub fn marked(mark: u8, value: u64, out: &mut Sink, used: usize) -> usize
     ensures { (result, out.new.bytes) ≡ puts (mark ∷ digits value) (used, out.old.bytes) }
 {
     let mut text = [0u8; 20];
-    let count = decimal(value, &mut text);
     let at = byte(mark, out, used);
-    word(&text[..count], out, at)
+    word(decimal(value, &mut text), out, at)
 }
 
 // A blank and a number.
@@ -95,39 +87,35 @@ pub fn number(value: u64, out: &mut Sink, used: usize) -> usize
     marked(b' ', value, out, used)
 }
 
-// The first `count` numbers of an answer.
-fn numbers(numbers: [u64; 8], count: usize, out: &mut Sink, used: usize) -> usize
-    ensures { (result, out.new.bytes) ≡ puts (spelled_all (take count numbers)) (used, out.old.bytes) }
+// Numbers, with a blank before each.
+fn numbers(numbers: &[u64], out: &mut Sink, used: usize) -> usize
+    ensures { (result, out.new.bytes) ≡ puts (spelled_all numbers.now) (used, out.old.bytes) }
 {
     let mut at = used;
-    let mut i = 0;
-    while i < 8 {
-        if i == count {
-            return at;
-        }
-        at = number(numbers[i], out, at);
-        i += 1;
+    for value in numbers {
+        at = number(*value, out, at);
     }
     at
 }
 
 // What is refused: a number and a place.
-fn refused(refusal: u64, place: u64, out: &mut Sink, used: usize) -> usize
-    ensures { (result, out.new.bytes) ≡ puts (said_text (refused_with refusal place)) (used, out.old.bytes) }
+fn refused(refusal: Refusal, out: &mut Sink, used: usize) -> usize
+    ensures { (result, out.new.bytes) ≡ puts (said_text (refused_with (refusal_of refusal).number (refusal_of refusal).place)) (used, out.old.bytes) }
 {
     let a = word(b"refused", out, used);
-    let b = number(refusal, out, a);
-    number(place, out, b)
+    let b = number(refusal.number(), out, a);
+    number(refusal.place(), out, b)
 }
 
 // What an answer says.
 pub fn said(said: Said, out: &mut Sink, used: usize) -> usize
     ensures { (result, out.new.bytes) ≡ puts (said_text (told said)) (used, out.old.bytes) }
 {
-    let given = said.numbers;
-    if said.refused {
-        return refused(given[0], given[1], out, used);
+    match said {
+        Ok(done) => {
+            let at = word(b"done", out, used);
+            numbers(&done.numbers[..done.count.min(8)], out, at)
+        }
+        Err(refusal) => refused(refusal, out, used),
     }
-    let at = word(b"done", out, used);
-    numbers(given, said.count, out, at)
 }

@@ -1,12 +1,8 @@
 // Cells in runs: equal ones, or each one more than the one before.
-ghost use Rattle.std.specs.Prelude.{◌≡◌, ◌+◌, ◌<◌, ◌≤◌};
+ghost use Rattle.std.specs.Prelude.{◌≡◌, ◌+◌, ◌<◌, ◌≤◌, IfSome};
 ghost use Rattle.replay_lines.specs.Runs.{none, alone, longer, rest, repeats, ascends, last_cell};
 
-use crate::input::{Input, Source};
-
-const STAR: u16 = 42;
-
-const PLUS: u16 = 43;
+use crate::input::Input;
 
 // The first cell, how many there are, and by how much each is more than the one before: 0 or 1, and 0 for one cell.
 #[derive(Clone, Copy)]
@@ -67,33 +63,20 @@ impl Run {
     pub fn repeats(self, x: u64) -> bool
         ensures { result ≡ repeats self x }
     {
-        if self.step != 0 {
-            return false;
-        }
-        x == self.first
+        self.step == 0 && x == self.first
     }
 
     // Whether a cell goes on with the run as one more than the one before.
     pub fn ascends(self, x: u64) -> bool
         ensures { result ≡ ascends self x }
     {
-        if x < self.first {
-            return false;
-        }
-        if x - self.first != self.count {
-            return false;
-        }
-        if self.count == 1 {
-            return true;
-        }
-        self.step == 1
+        self.first <= x && x - self.first == self.count && (self.count == 1 || self.step == 1)
     }
 }
 
-// The cells that a word stands for, whether it is written as a run, and the place after it.
-#[derive(Drop)]
+// The cells that a word stands for, and whether it is written as a run.
+#[derive(Clone, Copy)]
 pub struct Word {
-    pub input: Input,
     pub run: Run,
     pub short: bool,
 }
@@ -103,53 +86,36 @@ fn ascending(first: u64, largest: u64, room: u64) -> u64
     requires { (first ≤ largest) × (largest ≤ 4294967295) }
     ensures { first + result ≤ largest + 1 }
 {
-    if largest - first < room {
-        return largest - first + 1;
-    }
-    room
+    room.min(largest - first + 1)
 }
 
 impl Input {
-    // The sign of a run, and how many cells it has, from 1 to `most`.
-    fn counted(self, first: u64, step: u64, most: u64, buffer: &mut Source) -> Word
-        ensures { (result.run.first ≡ first) × (result.run.count ≤ most) × (result.run.step ≡ step) }
+    // The sign of a run, and how many cells it has, from 1 to `most`, if they are there.
+    fn counted(&mut self, first: u64, step: u64, most: u64) -> Option<Word>
+        ensures { IfSome result (λ word. (word.run.first ≡ first) × (word.run.count ≤ most) × (word.run.step ≡ step)) }
     {
-        let read = self.next(buffer).number_here(buffer, most);
-        let mut input = read.input;
-        if read.value == 0 {
-            input = input.judged(false);
+        self.next();
+        let count = self.number_here(most)?;
+        if count == 0 {
+            return None;
         }
-        let run = Run {
-            first,
-            count: read.value,
-            step,
-        };
-        Word {
-            input,
-            run,
-            short: true,
-        }
+        let run = Run { first, count, step };
+        Some(Word { run, short: true })
     }
 
-    // A blank, and a number or a run of at most `room` cells, of which none is above `largest`.
-    pub fn word(self, largest: u64, room: u64, buffer: &mut Source) -> Word
+    // A blank, and a number or a run of at most `room` cells, of which none is above `largest`, if they are there.
+    pub fn word(&mut self, largest: u64, room: u64) -> Option<Word>
         requires { largest ≤ 4294967295 }
-        ensures { last_cell result.run ≤ largest }
+        ensures { IfSome result (λ word. last_cell word.run ≤ largest) }
     {
-        let read = self.number(buffer, largest);
-        let input = read.input;
-        let first = read.value;
-        if input.byte == STAR {
-            return input.counted(first, 0, room, buffer);
-        }
-        if input.byte == PLUS {
-            return input.counted(first, 1, ascending(first, largest, room), buffer);
-        }
-        let run = Run::alone(first);
-        Word {
-            input,
-            run,
-            short: false,
+        let first = self.number(largest)?;
+        match self.byte {
+            Some(b'*') => self.counted(first, 0, room),
+            Some(b'+') => self.counted(first, 1, ascending(first, largest, room)),
+            _ => {
+                let run = Run::alone(first);
+                Some(Word { run, short: false })
+            }
         }
     }
 }

@@ -61,22 +61,14 @@ fn show_cell(shown: Shown, short: bool, x: u64, out: &mut Sink) -> Shown
     start_run(shown, x, out)
 }
 
-fn wide(cell: u16) -> u64
-    ensures { result ≡ cell }
-{
-    cell as u64
-}
-
 // The cells of a slice.
 fn cells(cells: &[u16], short: bool, out: &mut Sink, used: usize) -> usize
     ensures { (result, out.new.bytes) ≡ puts (cells_text short cells.now) (used, out.old.bytes) }
 {
     let run = Run::none();
     let mut shown = Shown { run, used };
-    let mut i = 0;
-    while i < cells.len() {
-        shown = show_cell(shown, short, wide(cells[i]), out);
-        i += 1;
+    for cell in cells {
+        shown = show_cell(shown, short, u64::from(*cell), out);
     }
     show_run(shown.run, out, shown.used)
 }
@@ -98,22 +90,14 @@ pub fn part(part: &[u16], short: bool, out: &mut Sink, used: usize) -> usize
     cells(part, short, out, b)
 }
 
-fn widest(byte: u8) -> u64
-    ensures { result ≡ byte }
-{
-    byte as u64
-}
-
 // The cells of a slice of bytes, as numbers.
 fn byte_cells(cells: &[u8], short: bool, out: &mut Sink, used: usize) -> usize
     ensures { (result, out.new.bytes) ≡ puts (cells_text short cells.now) (used, out.old.bytes) }
 {
     let run = Run::none();
     let mut shown = Shown { run, used };
-    let mut i = 0;
-    while i < cells.len() {
-        shown = show_cell(shown, short, widest(cells[i]), out);
-        i += 1;
+    for cell in cells {
+        shown = show_cell(shown, short, u64::from(*cell), out);
     }
     show_run(shown.run, out, shown.used)
 }

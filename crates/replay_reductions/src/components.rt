@@ -1,9 +1,9 @@
 // `tau_scc_decomposition`.
 use quotient_components::tau_scc_decomposition;
-use replay_calls::headers::table;
+use replay_calls::headers::system;
 use replay_lines::answers::number;
 use replay_lines::output::{Sink, said};
-use replay_slots::case::{Case, HELD_ROOM, column};
+use replay_slots::case::{Case, HELD_ROOM};
 use replay_slots::held::{lend, show, show_three};
 
 pub fn components(case: Case, cells: &[u16], out: &mut Sink, used: usize) -> usize {
@@ -16,10 +16,7 @@ pub fn components(case: Case, cells: &[u16], out: &mut Sink, used: usize) -> usi
     let mut backward = [0u16; HELD_ROOM];
     let mut queue = [0u16; HELD_ROOM];
     let answer = tau_scc_decomposition(
-        table(case),
-        column(cells, case, 0),
-        column(cells, case, 1),
-        column(cells, case, 2),
+        &system(case, cells),
         lend(case, cells, 0, &mut numbers),
         lend(case, cells, 1, &mut order),
         lend(case, cells, 2, &mut back_source),

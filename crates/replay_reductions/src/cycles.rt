@@ -1,9 +1,9 @@
 // `tau_cycle_elimination_and_reorder`.
 use crate::answers::reordered;
 use quotient_cycles::tau_cycle_elimination_and_reorder;
-use replay_calls::headers::table;
+use replay_calls::headers::system;
 use replay_lines::output::{Sink, said};
-use replay_slots::case::{Case, HELD_ROOM, column};
+use replay_slots::case::{Case, HELD_ROOM};
 use replay_slots::held::{lend, show, show_three};
 
 pub fn cycles(case: Case, cells: &[u16], out: &mut Sink, used: usize) -> usize {
@@ -20,10 +20,7 @@ pub fn cycles(case: Case, cells: &[u16], out: &mut Sink, used: usize) -> usize {
     let mut order = [0u16; HELD_ROOM];
     let mut spare = [0u16; HELD_ROOM];
     let answer = tau_cycle_elimination_and_reorder(
-        table(case),
-        column(cells, case, 0),
-        column(cells, case, 1),
-        column(cells, case, 2),
+        &system(case, cells),
         case.number(4),
         case.flag(5),
         lend(case, cells, 0, &mut result_source),

@@ -14,21 +14,24 @@ use crate::cycles::cycles;
 use crate::quotients::{block, naive};
 use crate::redundant::redundant;
 use crate::strong::strong;
-use replay_calls::operations::{
-    QUOTIENT_LTS_BLOCK, QUOTIENT_LTS_NAIVE, REMOVE_REDUNDANT_TRANSITIONS,
-    TAU_CYCLE_ELIMINATION_AND_REORDER, TAU_SCC_DECOMPOSITION,
-};
+use replay_calls::operations::Operation;
 use replay_lines::output::Sink;
 use replay_slots::case::Case;
 
 // The answer to a case, and what may have changed, at return.
-pub fn reducing(operation: usize, case: Case, cells: &[u16], out: &mut Sink, used: usize) -> usize {
+pub fn reducing(
+    operation: Operation,
+    case: Case,
+    cells: &[u16],
+    out: &mut Sink,
+    used: usize,
+) -> usize {
     match operation {
-        QUOTIENT_LTS_NAIVE => naive(case, cells, out, used),
-        QUOTIENT_LTS_BLOCK => block(case, cells, out, used),
-        REMOVE_REDUNDANT_TRANSITIONS => redundant(case, cells, out, used),
-        TAU_SCC_DECOMPOSITION => components(case, cells, out, used),
-        TAU_CYCLE_ELIMINATION_AND_REORDER => cycles(case, cells, out, used),
+        Operation::QuotientLtsNaive => naive(case, cells, out, used),
+        Operation::QuotientLtsBlock => block(case, cells, out, used),
+        Operation::RemoveRedundantTransitions => redundant(case, cells, out, used),
+        Operation::TauSccDecomposition => components(case, cells, out, used),
+        Operation::TauCycleEliminationAndReorder => cycles(case, cells, out, used),
         _ => strong(case, cells, out, used),
     }
 }

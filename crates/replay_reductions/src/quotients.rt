@@ -2,9 +2,9 @@
 use quotient::quotient_lts_naive;
 use quotient_block::quotient_lts_block;
 use replay_calls::answers::header;
-use replay_calls::headers::table;
+use replay_calls::headers::{six_columns, system};
 use replay_lines::output::{Sink, said};
-use replay_slots::case::{Case, HELD_ROOM, column};
+use replay_slots::case::{Case, HELD_ROOM};
 use replay_slots::held::{lend, show, show_three};
 
 pub fn naive(case: Case, cells: &[u16], out: &mut Sink, used: usize) -> usize {
@@ -17,17 +17,9 @@ pub fn naive(case: Case, cells: &[u16], out: &mut Sink, used: usize) -> usize {
     let mut order = [0u16; HELD_ROOM];
     let mut spare = [0u16; HELD_ROOM];
     let answer = quotient_lts_naive(
-        table(case),
-        column(cells, case, 0),
-        column(cells, case, 1),
-        column(cells, case, 2),
+        &system(case, cells),
         case.number(4),
-        column(cells, case, 3),
-        column(cells, case, 4),
-        column(cells, case, 5),
-        column(cells, case, 6),
-        column(cells, case, 7),
-        column(cells, case, 8),
+        &six_columns(case, cells, 3),
         case.flag(5),
         case.flag(6),
         lend(case, cells, 0, &mut result_source),
@@ -65,17 +57,9 @@ pub fn block(case: Case, cells: &[u16], out: &mut Sink, used: usize) -> usize {
     let mut spare = [0u16; HELD_ROOM];
     let mut chosen = [0u16; HELD_ROOM];
     let answer = quotient_lts_block(
-        table(case),
-        column(cells, case, 0),
-        column(cells, case, 1),
-        column(cells, case, 2),
+        &system(case, cells),
         case.number(4),
-        column(cells, case, 3),
-        column(cells, case, 4),
-        column(cells, case, 5),
-        column(cells, case, 6),
-        column(cells, case, 7),
-        column(cells, case, 8),
+        &six_columns(case, cells, 3),
         case.flag(5),
         case.flag(6),
         lend(case, cells, 0, &mut result_source),

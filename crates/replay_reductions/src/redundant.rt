@@ -1,9 +1,9 @@
 // `remove_redundant_transitions`.
 use quotient_redundant::remove_redundant_transitions;
 use replay_calls::answers::header;
-use replay_calls::headers::table;
+use replay_calls::headers::system;
 use replay_lines::output::{Sink, said};
-use replay_slots::case::{Case, HELD_ROOM, column};
+use replay_slots::case::{Case, HELD_ROOM};
 use replay_slots::held::{lend, show, show_three};
 
 pub fn redundant(case: Case, cells: &[u16], out: &mut Sink, used: usize) -> usize {
@@ -18,10 +18,7 @@ pub fn redundant(case: Case, cells: &[u16], out: &mut Sink, used: usize) -> usiz
     let mut backward = [0u16; HELD_ROOM];
     let mut queue = [0u16; HELD_ROOM];
     let answer = remove_redundant_transitions(
-        table(case),
-        column(cells, case, 0),
-        column(cells, case, 1),
-        column(cells, case, 2),
+        &system(case, cells),
         lend(case, cells, 0, &mut result_source),
         lend(case, cells, 1, &mut result_label),
         lend(case, cells, 2, &mut result_target),

@@ -1,9 +1,9 @@
 // `strong_reduction`.
 use crate::answers::reduced;
 use reduction::strong_reduction;
-use replay_calls::headers::table;
+use replay_calls::headers::system;
 use replay_lines::output::{Sink, said};
-use replay_slots::case::{Case, HELD_ROOM, column};
+use replay_slots::case::{Case, HELD_ROOM};
 use replay_slots::held::{lend, show, show_three};
 
 pub fn strong(case: Case, cells: &[u16], out: &mut Sink, used: usize) -> usize {
@@ -22,10 +22,7 @@ pub fn strong(case: Case, cells: &[u16], out: &mut Sink, used: usize) -> usize {
     let mut blocks = [0u16; HELD_ROOM];
     let mut spare = [0u16; HELD_ROOM];
     let answer = strong_reduction(
-        table(case),
-        column(cells, case, 0),
-        column(cells, case, 1),
-        column(cells, case, 2),
+        &system(case, cells),
         lend(case, cells, 0, &mut result_source),
         lend(case, cells, 1, &mut result_label),
         lend(case, cells, 2, &mut result_target),

@@ -1,3 +1,2 @@
 pub mod Parts
 pub mod Showing
-pub mod Naming

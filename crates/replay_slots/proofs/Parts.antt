@@ -9,7 +9,7 @@ use lib.ListN.{length, take, drop}
 use denote.Ref.{Bor}
 use Rattle.replay_slots.specs.Parts.{fits, between, beginning, Part}
 
-module _ (cells : List ℕ) (start end : ℕ) where
+module _ {A : Type 0} (cells : List A) (start end : ℕ) where
   -- there is no part that ends before it starts, or beyond the last cell
   pub fits_turned : end < start → fits cells start end ≡ false
   unfolding fits
@@ -19,7 +19,7 @@ module _ (cells : List ℕ) (start end : ℕ) where
   unfolding fits
   fits_beyond h = rw (lt-leb end (length cells) h) (and-false (leb start end))
 
-module _ {size : ℕ} {r x : Bor (List ℕ)} where
+module _ {A : Type 0} {size : ℕ} {r x : Bor (List A)} where
   -- places that are equal to those that are meant
   pub part_of : {a b start end : ℕ} → a ≡ start → b ≡ end → Part size r x a b → Part size r x start end
   part_of e f p = rw (e, f) at p

@@ -2,4 +2,3 @@ pub mod Parts
 pub mod Cases
 pub mod Sizes
 pub mod Shown
-pub mod Names

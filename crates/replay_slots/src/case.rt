@@ -10,7 +10,9 @@ ghost use Rattle.replay_slots.specs.Cases.{
   numbered,
   placed,
 };
+ghost use Rattle.std.specs.Mem.{type_size};
 ghost use Rattle.replay_slots.specs.Parts.{Part};
+ghost use Rattle.replay_slots.specs.Sizes.{largest_of};
 
 use columns::limits::MAX_STATES;
 
@@ -21,12 +23,26 @@ pub type Wide = [u32; 70000];
 
 pub type Bytes = [u8; 140000];
 
-// The types of cells, each by its largest value.
-pub const NARROW: u64 = 65535;
+// The type of a slice's cells: u16, u32 or a byte.
+#[derive(Clone, Copy, PartialEq, Eq)]
+pub enum Cell {
+    Narrow,
+    Wide,
+    Byte,
+}
 
-pub const WIDE: u64 = 4294967295;
-
-pub const BYTE: u64 = 255;
+impl Cell {
+    // The largest cell of this type.
+    pub fn largest(self) -> u64
+        ensures { result ≡ largest_of self }
+    {
+        match self {
+            Cell::Narrow => u64::from(u16::MAX),
+            Cell::Wide => u64::from(u32::MAX),
+            Cell::Byte => u64::from(u8::MAX),
+        }
+    }
+}
 
 // The longest slice; the longest of an operation that changes many, which lie in arrays of its own; and the longest list of records.
 pub const ROOM: usize = 70000;
@@ -140,8 +156,8 @@ impl Case {
 }
 
 // The cells from a place to another.
-pub fn between(cells: &[u16], start: usize, end: usize) -> &[u16]
-    ensures { Part 2 result cells.entry start end }
+pub fn between<T>(cells: &[T], start: usize, end: usize) -> &[T]
+    ensures { Part (type_size T.row) result cells.entry start end }
 {
     if start <= end {
         if end <= cells.len() {
@@ -152,54 +168,18 @@ pub fn between(cells: &[u16], start: usize, end: usize) -> &[u16]
 }
 
 // The slice at place k.
-pub fn column(cells: &[u16], case: Case, k: usize) -> &[u16]
-    ensures { Part 2 result cells.entry (start_of case k) (end_of case k) }
+pub fn column<T>(cells: &[T], case: Case, k: usize) -> &[T]
+    ensures { Part (type_size T.row) result cells.entry (start_of case k) (end_of case k) }
 {
     between(cells, case.start(k), case.end(k))
 }
 
 // Slice k of those that may change, as the case has it.
-pub fn changed(cells: &[u16], case: Case, k: usize) -> &[u16]
-    ensures { Part 2 result cells.entry (start_of case (16 + k)) (end_of case (16 + k)) }
+pub fn changed<T>(cells: &[T], case: Case, k: usize) -> &[T]
+    ensures { Part (type_size T.row) result cells.entry (start_of case (16 + k)) (end_of case (16 + k)) }
 {
     if k < 16 {
         return column(cells, case, CHANGED + k);
     }
     &cells[0..0]
-}
-
-fn between_wide(cells: &[u32], start: usize, end: usize) -> &[u32]
-    ensures { Part 4 result cells.entry start end }
-{
-    if start <= end {
-        if end <= cells.len() {
-            return &cells[start..end];
-        }
-    }
-    &cells[0..0]
-}
-
-// The slice of u32 at place k.
-pub fn wide_column(cells: &[u32], case: Case, k: usize) -> &[u32]
-    ensures { Part 4 result cells.entry (start_of case k) (end_of case k) }
-{
-    between_wide(cells, case.start(k), case.end(k))
-}
-
-pub fn between_bytes(cells: &[u8], start: usize, end: usize) -> &[u8]
-    ensures { Part 1 result cells.entry start end }
-{
-    if start <= end {
-        if end <= cells.len() {
-            return &cells[start..end];
-        }
-    }
-    &cells[0..0]
-}
-
-// The slice of bytes at place k.
-pub fn byte_column(cells: &[u8], case: Case, k: usize) -> &[u8]
-    ensures { Part 1 result cells.entry (start_of case k) (end_of case k) }
-{
-    between_bytes(cells, case.start(k), case.end(k))
 }

@@ -3,16 +3,16 @@ ghost use Rattle.std.specs.Prelude.{◌++◌, ◌≡◌, ◌+◌, ◌<◌};
 ghost use Rattle.replay_lines.specs.Text.{puts};
 ghost use Rattle.replay_slots.specs.Shown.{slice_text};
 
-use crate::case::{Case, HELD_ROOM, between, changed};
-use crate::slots::copy;
+use crate::case::{Case, HELD_ROOM, between};
+use crate::slots::fill;
 use replay_lines::output::Sink;
 use replay_lines::slices::column as show_column;
 
 pub type Held = [u16; HELD_ROOM];
 
 // Slice k of those that may change, filled with what the case has.
-pub fn lend<'a>(case: Case, cells: &[u16], k: usize, array: &'a mut [u16]) -> &'a mut [u16] {
-    let to = copy(changed(cells, case, k), array);
+pub fn lend<'a, T: Copy>(case: Case, cells: &[T], k: usize, array: &'a mut [T]) -> &'a mut [T] {
+    let to = fill(case, cells, k, array);
     &mut array[..to]
 }
 

@@ -1,87 +1,45 @@
-// A line read by the kinds of its parameters: n a number, f a flag, c a slice of u16, w of u32, b of bytes; and those that may change, m a
-// slice of u16, s one of an operation that changes many, t of bytes, r a list of records of three numbers.
-ghost use Rattle.std.specs.Prelude.{◌≤◌};
+// A line read by the kinds of its parameters.
+ghost use Rattle.std.specs.Prelude.{◌≤◌, IfOk};
 
-use crate::case::{
-    BYTE, Bytes, CHANGED, Case, HELD_ROOM, NARROW, Narrow, RECORDS, ROOM, WIDE, Wide,
-};
+use crate::case::{Bytes, CHANGED, Case, Cell, HELD_ROOM, Narrow, RECORDS, ROOM, Wide};
 use crate::cells::{Feed, plus, read_cells, whole};
-use crate::names::Kinds;
-use replay_lines::input::{Input, Source};
+use crate::kinds::Kind;
+use replay_lines::input::Input;
 
-// Whether a slice of this kind may change.
-fn changes(kind: u8) -> bool {
-    match kind {
-        b'm' => true,
-        b'r' => true,
-        b's' => true,
-        b't' => true,
-        _ => false,
-    }
-}
-
-// The largest value of its cells' type.
-fn largest(kind: u8) -> u64
-    ensures { result ≤ 4294967295 }
-{
-    match kind {
-        b'w' => WIDE,
-        b'b' => BYTE,
-        b't' => BYTE,
-        _ => NARROW,
-    }
-}
-
-// Its greatest length.
-fn longest(kind: u8) -> usize {
-    match kind {
-        b's' => HELD_ROOM,
-        _ => ROOM,
-    }
-}
-
-// How many cells of the type with this largest value a line may have.
-fn all(largest: u64) -> usize {
-    match largest {
-        NARROW => 1400000,
-        WIDE => 70000,
-        _ => 140000,
+// How many cells of this type a line may have.
+fn all(cell: Cell) -> usize {
+    match cell {
+        Cell::Narrow => 1400000,
+        Cell::Wide => 70000,
+        Cell::Byte => 140000,
     }
 }
 
 // How long a slice of at most that many cells may be where so many of all are taken.
 fn room(longest: usize, taken: usize, all: usize) -> u64 {
-    if all < taken {
-        return 0;
-    }
-    let left = all - taken;
-    if longest < left {
-        return longest as u64;
-    }
-    left as u64
+    longest.min(all.saturating_sub(taken)) as u64
 }
 
-// What is read of a line: how many words, numbers, slices that are only read, slices that may change, and cells of each type.
+// What is read of a line: how many words, numbers, slices that are only read, slices that may change, and cells of each type. Where a word
+// is wrong, the methods answer how many there are before it.
 #[derive(Clone, Copy)]
-pub struct Reading {
-    pub case: Case,
-    pub input: Input,
-    pub words: usize,
-    pub numbers: usize,
-    pub read: usize,
-    pub changed: usize,
-    pub narrow: usize,
-    pub wide: usize,
-    pub bytes: usize,
+struct Reading {
+    case: Case,
+    words: usize,
+    numbers: usize,
+    read: usize,
+    changed: usize,
+    narrow: usize,
+    wide: usize,
+    bytes: usize,
 }
 
 impl Reading {
     // Nothing but the name is read.
-    pub fn new(input: Input) -> Reading {
+    fn new() -> Reading {
         let case = Case::new();
         Reading {
             case,
-            input,
             words: 1,
             numbers: 0,
             read: 0,
@@ -92,21 +50,21 @@ impl Reading {
         }
     }
 
-    // How many cells of the type with this largest value are taken.
-    fn taken(self, largest: u64) -> usize {
-        match largest {
-            NARROW => self.narrow,
-            WIDE => self.wide,
-            _ => self.bytes,
+    // How many cells of this type are taken.
+    fn taken(self, cell: Cell) -> usize {
+        match cell {
+            Cell::Narrow => self.narrow,
+            Cell::Wide => self.wide,
+            Cell::Byte => self.bytes,
         }
     }
 
-    // With the cells of that type taken up to a place.
-    fn taking(mut self, largest: u64, end: usize) -> Reading {
-        match largest {
-            NARROW => self.narrow = end,
-            WIDE => self.wide = end,
-            _ => self.bytes = end,
+    // With the cells of this type taken up to a place.
+    fn taking(mut self, cell: Cell, end: usize) -> Reading {
+        match cell {
+            Cell::Narrow => self.narrow = end,
+            Cell::Wide => self.wide = end,
+            Cell::Byte => self.bytes = end,
         }
         self
     }
@@ -114,137 +72,144 @@ impl Reading {
     // With a slice more, from a place to another.
     fn placed(mut self, changes: bool, start: usize, end: usize) -> Reading {
         if changes {
-            let case = self.case.placed(plus(CHANGED, self.changed), start, end);
-            self.case = case;
+            self.case = self.case.placed(plus(CHANGED, self.changed), start, end);
             self.changed = plus(self.changed, 1);
-            return self;
+        } else {
+            self.case = self.case.placed(self.read, start, end);
+            self.read = plus(self.read, 1);
         }
-        let case = self.case.placed(self.read, start, end);
-        self.case = case;
-        self.read = plus(self.read, 1);
         self
     }
 
-    // With a word more, unless it is none.
-    fn word(mut self, input: Input) -> Reading {
-        self.input = input;
-        if input.good {
-            self.words = plus(self.words, 1);
+    // A word more: a number of at most `most`.
+    fn word(&mut self, most: u64, input: &mut Input) -> Result<u64, usize>
+        ensures { IfOk result (λ value. value ≤ most) }
+    {
+        match input.number(most) {
+            Some(value) if whole(input) => {
+                self.words = plus(self.words, 1);
+                Ok(value)
+            }
+            _ => Err(self.words),
         }
-        self
     }
 
     // With the words of a slice's cells.
     fn fed(mut self, feed: Feed) -> Reading {
-        let input = feed.input;
-        self.input = input;
         self.words = plus(self.words, feed.words);
-        if feed.short {
-            self.case.short = true;
-        }
+        self.case.short = self.case.short || feed.short;
         self
     }
 
     // A number.
-    fn number(self, most: u64, buffer: &mut Source) -> Reading {
-        let read = self.input.number(buffer, most);
-        let mut after = self.word(whole(read.input));
-        let value = (read.value % 65536) as u16;
-        let case = after.case.numbered(after.numbers, value);
-        after.case = case;
-        after.numbers = plus(after.numbers, 1);
-        after
+    fn number(mut self, most: u64, input: &mut Input) -> Result<Reading, usize>
+        requires { most ≤ 65535 }
+    {
+        let value = self.word(most, input)?;
+        self.case = self.case.numbered(self.numbers, value as u16);
+        self.numbers = plus(self.numbers, 1);
+        Ok(self)
     }
 
     // The cells of a slice, up to a place.
     fn cells(
         self,
-        kind: u8,
+        cell: Cell,
+        changes: bool,
         end: usize,
-        buffer: &mut Source,
+        input: &mut Input,
         narrow: &mut Narrow,
         wide: &mut Wide,
         bytes: &mut Bytes,
-    ) -> Reading {
-        let largest = largest(kind);
-        let start = self.taken(largest);
-        let feed = read_cells(self.input, largest, start, end, buffer, narrow, wide, bytes);
-        self.placed(changes(kind), start, end)
-            .taking(largest, end)
-            .fed(feed)
+    ) -> Result<Reading, usize> {
+        let start = self.taken(cell);
+        match read_cells(input, cell, start, end, narrow, wide, bytes) {
+            Ok(feed) => Ok(self.placed(changes, start, end).taking(cell, end).fed(feed)),
+            Err(words) => Err(plus(self.words, words)),
+        }
     }
 
-    // A slice: its length, and its cells.
+    // A slice of at most `longest` cells: its length, and its cells.
     fn slice(
-        self,
-        kind: u8,
-        buffer: &mut Source,
+        mut self,
+        cell: Cell,
+        changes: bool,
+        longest: usize,
+        input: &mut Input,
         narrow: &mut Narrow,
         wide: &mut Wide,
         bytes: &mut Bytes,
-    ) -> Reading {
-        let largest = largest(kind);
-        let start = self.taken(largest);
-        let most = room(longest(kind), start, all(largest));
-        let read = self.input.number(buffer, most);
-        let end = plus(start, read.value as usize);
-        self.word(whole(read.input))
-            .cells(kind, end, buffer, narrow, wide, bytes)
+    ) -> Result<Reading, usize> {
+        let start = self.taken(cell);
+        let most = room(longest, start, all(cell));
+        let length = self.word(most, input)?;
+        let end = plus(start, length as usize);
+        self.cells(cell, changes, end, input, narrow, wide, bytes)
     }
 
     // A list of records: how many, and the three cells of each.
     fn records(
-        self,
-        kind: u8,
-        buffer: &mut Source,
+        mut self,
+        input: &mut Input,
         narrow: &mut Narrow,
         wide: &mut Wide,
         bytes: &mut Bytes,
-    ) -> Reading {
-        let read = self.input.number(buffer, RECORDS);
-        let end = plus(self.narrow, read.value as usize * 3);
-        self.word(whole(read.input))
-            .cells(kind, end, buffer, narrow, wide, bytes)
+    ) -> Result<Reading, usize> {
+        let count = self.word(RECORDS, input)?;
+        let end = plus(self.narrow, count as usize * 3);
+        self.cells(Cell::Narrow, true, end, input, narrow, wide, bytes)
     }
 
     // A parameter of this kind.
     fn parameter(
         self,
-        kind: u8,
-        buffer: &mut Source,
+        kind: Kind,
+        input: &mut Input,
         narrow: &mut Narrow,
         wide: &mut Wide,
         bytes: &mut Bytes,
-    ) -> Reading {
+    ) -> Result<Reading, usize> {
         match kind {
-            b'n' => self.number(65535, buffer),
-            b'f' => self.number(1, buffer),
-            b'r' => self.records(kind, buffer, narrow, wide, bytes),
-            _ => self.slice(kind, buffer, narrow, wide, bytes),
+            Kind::Number => self.number(65535, input),
+            Kind::Flag => self.number(1, input),
+            Kind::Read(cell) => self.slice(cell, false, ROOM, input, narrow, wide, bytes),
+            Kind::Changed(cell) => self.slice(cell, true, ROOM, input, narrow, wide, bytes),
+            Kind::Held => self.slice(Cell::Narrow, true, HELD_ROOM, input, narrow, wide, bytes),
+            Kind::Records => self.records(input, narrow, wide, bytes),
         }
+    }
+
+    // A parameter of each of these kinds.
+    fn parameters(
+        mut self,
+        kinds: &[u8],
+        input: &mut Input,
+        narrow: &mut Narrow,
+        wide: &mut Wide,
+        bytes: &mut Bytes,
+    ) -> Result<Reading, usize> {
+        for letter in kinds {
+            self = self.parameter(Kind::of(*letter), input, narrow, wide, bytes)?;
+        }
+        Ok(self)
     }
 }
 
-// A line after its name, whose parameters are of these kinds, up to its end.
+// A line after its name, whose parameters are of these kinds, up to its end. Where it is no case, the place of the first word that is
+// wrong, missing or too many.
 pub fn load(
-    first: Input,
-    kinds: &Kinds,
-    buffer: &mut Source,
+    input: &mut Input,
+    kinds: &[u8],
     narrow: &mut Narrow,
     wide: &mut Wide,
     bytes: &mut Bytes,
-) -> Reading {
-    let mut reading = Reading::new(first);
-    let mut i = 0;
-    while i < 64 {
-        let kind = kinds[i];
-        if kind == 0 {
-            break;
-        }
-        reading = reading.parameter(kind, buffer, narrow, wide, bytes);
-        i += 1;
+) -> Result<Case, usize> {
+    let read = Reading::new().parameters(kinds, input, narrow, wide, bytes);
+    let ends = input.end_line();
+    let reading = read?;
+    if ends {
+        Ok(reading.case)
+    } else {
+        Err(reading.words)
     }
-    let rest = reading.input.end_line(buffer);
-    reading.input = rest;
-    reading
 }

@@ -1,8 +1,8 @@
 // The slices that an operation may change, in slots: filled with what the case has, and shown as they are at return.
 ghost use Rattle.spelling.specs.Counts.{IsPrefixLen};
 
-use crate::case::{CHANGED, Case, between, byte_column, changed};
-use crate::names::Kinds;
+use crate::case::{CHANGED, Case, Cell, between, changed};
+use crate::kinds::Kind;
 use crate::texts::show as show_bytes;
 use replay_lines::output::Sink;
 use replay_lines::slices::column;
@@ -12,49 +12,19 @@ pub type Slot = [u16; 70000];
 pub type Text = [u8; 70000];
 
 // Copies cells to a slot, and says how many.
-pub fn copy(from: &[u16], into: &mut [u16]) -> usize
+pub fn copy<T: Copy>(from: &[T], into: &mut [T]) -> usize
     ensures { IsPrefixLen result into.new }
 {
-    let mut i = 0;
-    while i < from.len() {
-        if into.len() <= i {
-            return i;
-        }
-        into[i] = from[i];
-        i += 1;
-    }
-    i
+    let count = from.len().min(into.len());
+    into[..count].copy_from_slice(&from[..count]);
+    count
 }
 
 // Slice k of those that may change, into its slot.
-pub fn fill(case: Case, cells: &[u16], k: usize, slot: &mut Slot) -> usize
+pub fn fill<T: Copy>(case: Case, cells: &[T], k: usize, slot: &mut [T]) -> usize
     ensures { IsPrefixLen result slot.new }
 {
     copy(changed(cells, case, k), slot)
-}
-
-pub fn copy_bytes(from: &[u8], into: &mut [u8]) -> usize
-    ensures { IsPrefixLen result into.new }
-{
-    let mut i = 0;
-    while i < from.len() {
-        if into.len() <= i {
-            return i;
-        }
-        into[i] = from[i];
-        i += 1;
-    }
-    i
-}
-
-// The bytes that may change.
-pub fn fill_text(case: Case, cells: &[u8], k: usize, text: &mut Text) -> usize
-    ensures { IsPrefixLen result text.new }
-{
-    if k < 16 {
-        return copy_bytes(byte_column(cells, case, CHANGED + k), text);
-    }
-    copy_bytes(&cells[0..0], text)
 }
 
 // How many cells of each slot are filled.
@@ -139,7 +109,7 @@ fn show_slot(
 
 // The text at return, where the kinds have it.
 fn show_kind(
-    kind: u8,
+    kind: Kind,
     case: Case,
     k: usize,
     a: &Slot,
@@ -156,34 +126,25 @@ fn show_kind(
     used: usize,
 ) -> usize {
     match kind {
-        b'm' => show_slot(case, k, a, b, c, d, e, f, g, h, i, out, used),
-        b'r' => show_slot(case, k, a, b, c, d, e, f, g, h, i, out, used),
-        b't' => show_bytes(case, text, out, used),
+        Kind::Changed(Cell::Byte) => show_bytes(case, text, out, used),
+        Kind::Changed(_) | Kind::Records => show_slot(
+            case, k, a, b, c, d, e, f, g, h, i, out, used,
+        ),
         _ => used,
     }
 }
 
-fn changes(kind: u8) -> bool {
-    match kind {
-        b'm' => true,
-        b'r' => true,
-        b't' => true,
-        _ => false,
-    }
+fn changes(kind: Kind) -> bool {
+    matches!(kind, Kind::Changed(_) | Kind::Records)
 }
 
-fn next_slot(k: usize, kind: u8) -> usize {
-    if changes(kind) {
-        if k < 100 {
-            return k + 1;
-        }
-    }
-    k
+fn next_slot(k: usize, kind: Kind) -> usize {
+    if changes(kind) && k < 100 { k + 1 } else { k }
 }
 
 // What may have changed, at return, in the order of the parameters.
 pub fn show(
-    kinds: &Kinds,
+    kinds: &[u8],
     case: Case,
     a: &Slot,
     b: &Slot,
@@ -200,15 +161,10 @@ pub fn show(
 ) -> usize {
     let mut at = used;
     let mut k = 0;
-    let mut p = 0;
-    while p < 64 {
-        let kind = kinds[p];
-        if kind == 0 {
-            break;
-        }
+    for letter in kinds {
+        let kind = Kind::of(*letter);
         at = show_kind(kind, case, k, a, b, c, d, e, f, g, h, i, text, out, at);
         k = next_slot(k, kind);
-        p += 1;
     }
     at
 }

@@ -4,25 +4,19 @@ ghost use Rattle.spelling.specs.Counts.{IsPrefixLen};
 ghost use Rattle.partition_division.specs.Division.{said_division};
 ghost use Rattle.replay_lines.specs.Told.{told};
 
-use partition_division::{DivisionAnswer, DivisionOutcome, partition_marked_with};
+use columns::answers::Answer;
+use partition_division::{Division, partition_marked_with};
 use replay_calls::headers::partition;
-use replay_lines::answers::{Said, done, refused};
+use replay_lines::answers::{Said, done};
 use replay_slots::case::{Case, column};
 use replay_slots::slots::Filled;
 
 // Its answer as numbers.
-fn divided(answer: DivisionAnswer) -> Said
+fn divided(answer: Answer<Division>) -> Said
     ensures { told result ≡ said_division answer }
 {
-    let outcome = answer.outcome;
-    match outcome {
-        DivisionOutcome::Done {
-            index,
-            first,
-            count,
-        } => done(3, index, first, count),
-        DivisionOutcome::Refused(refusal) => refused(refusal),
-    }
+    let division = answer.outcome?;
+    done(3, division.index, division.first, division.count)
 }
 
 pub fn dividing(

@@ -1,8 +1,8 @@
 // The signatures of a state's own steps, strong and inductive.
 ghost use Rattle.spelling.specs.Counts.{IsPrefixLen};
 
-use replay_calls::headers::table;
-use replay_calls::operations::STRONG_BISIM_SIGNATURE;
+use replay_calls::headers::{six_columns, system};
+use replay_calls::operations::Operation;
 use replay_lines::answers::{Said, number};
 use replay_slots::case::{Case, column};
 use replay_slots::slots::Filled;
@@ -10,7 +10,7 @@ use signatures::inductive::branching_bisim_signature_inductive;
 use signatures::strong::strong_bisim_signature;
 
 fn called(
-    operation: usize,
+    operation: Operation,
     case: Case,
     cells: &[u16],
     labels: &mut [u16],
@@ -20,31 +20,15 @@ fn called(
     order: &mut [u16],
     spare: &mut [u16],
 ) -> Said {
-    let t = table(case);
-    let source = column(cells, case, 0);
-    let label = column(cells, case, 1);
-    let target = column(cells, case, 2);
-    let elements = column(cells, case, 3);
-    let element_offset = column(cells, case, 4);
-    let element_to_block = column(cells, case, 5);
-    let begin = column(cells, case, 6);
-    let marked_split = column(cells, case, 7);
-    let end = column(cells, case, 8);
+    let system = system(case, cells);
+    let columns = six_columns(case, cells, 3);
     let count = case.number(4);
     let state = case.number(5);
     match operation {
-        STRONG_BISIM_SIGNATURE => number(strong_bisim_signature(
-            t,
-            source,
-            label,
-            target,
+        Operation::StrongBisimSignature => number(strong_bisim_signature(
+            &system,
             count,
-            elements,
-            element_offset,
-            element_to_block,
-            begin,
-            marked_split,
-            end,
+            &columns,
             state,
             labels,
             blocks,
@@ -56,17 +40,9 @@ fn called(
         _ => {
             let state_to_key = column(cells, case, 9);
             number(branching_bisim_signature_inductive(
-                t,
-                source,
-                label,
-                target,
+                &system,
                 count,
-                elements,
-                element_offset,
-                element_to_block,
-                begin,
-                marked_split,
-                end,
+                &columns,
                 state,
                 state_to_key,
                 labels,
@@ -82,7 +58,7 @@ fn called(
 
 // The call, with as much of each slot as is filled.
 pub fn signing(
-    operation: usize,
+    operation: Operation,
     case: Case,
     cells: &[u16],
     to: Filled,

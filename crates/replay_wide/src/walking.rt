@@ -1,16 +1,16 @@
 // The branching signature, and the one that takes given lists.
 ghost use Rattle.spelling.specs.Counts.{IsPrefixLen};
 
-use replay_calls::headers::table;
-use replay_calls::operations::BRANCHING_BISIM_SIGNATURE;
+use replay_calls::headers::{six_columns, system};
+use replay_calls::operations::Operation;
 use replay_lines::answers::{Said, number};
-use replay_slots::case::{Case, column, wide_column};
+use replay_slots::case::{Case, column};
 use replay_slots::slots::Filled;
 use signatures_branching::branching_bisim_signature;
 use signatures_sorted::branching_bisim_signature_sorted;
 
 fn called(
-    operation: usize,
+    operation: Operation,
     case: Case,
     cells: &[u16],
     lists: &[u32],
@@ -24,40 +24,24 @@ fn called(
     h: &mut [u16],
     i: &mut [u16],
 ) -> Said {
-    let t = table(case);
-    let source = column(cells, case, 0);
-    let label = column(cells, case, 1);
-    let target = column(cells, case, 2);
-    let elements = column(cells, case, 3);
-    let element_offset = column(cells, case, 4);
-    let element_to_block = column(cells, case, 5);
-    let begin = column(cells, case, 6);
-    let marked_split = column(cells, case, 7);
-    let end = column(cells, case, 8);
+    let system = system(case, cells);
+    let columns = six_columns(case, cells, 3);
     let count = case.number(4);
     let state = case.number(5);
     match operation {
-        BRANCHING_BISIM_SIGNATURE => {
-            let labels = &mut *a;
-            let blocks = &mut *b;
-            let pushed_labels = &mut *c;
-            let pushed_blocks = &mut *d;
-            let order = &mut *e;
-            let spare = &mut *f;
-            let marks = &mut *g;
-            let queue = &mut *h;
+        Operation::BranchingBisimSignature => {
+            let labels = a;
+            let blocks = b;
+            let pushed_labels = c;
+            let pushed_blocks = d;
+            let order = e;
+            let spare = f;
+            let marks = g;
+            let queue = h;
             number(branching_bisim_signature(
-                t,
-                source,
-                label,
-                target,
+                &system,
                 count,
-                elements,
-                element_offset,
-                element_to_block,
-                begin,
-                marked_split,
-                end,
+                &columns,
                 state,
                 labels,
                 blocks,
@@ -70,30 +54,22 @@ fn called(
             ))
         }
         _ => {
-            let starts = wide_column(lists, case, 9);
+            let starts = column(lists, case, 9);
             let given_labels = column(cells, case, 10);
             let given_blocks = column(cells, case, 11);
-            let labels = &mut *a;
-            let blocks = &mut *b;
-            let own_labels = &mut *c;
-            let own_blocks = &mut *d;
-            let high = &mut *e;
-            let low = &mut *f;
-            let end_high = &mut *g;
-            let end_low = &mut *h;
-            let tree = &mut *i;
+            let labels = a;
+            let blocks = b;
+            let own_labels = c;
+            let own_blocks = d;
+            let high = e;
+            let low = f;
+            let end_high = g;
+            let end_low = h;
+            let tree = i;
             number(branching_bisim_signature_sorted(
-                t,
-                source,
-                label,
-                target,
+                &system,
                 count,
-                elements,
-                element_offset,
-                element_to_block,
-                begin,
-                marked_split,
-                end,
+                &columns,
                 state,
                 starts,
                 given_labels,
@@ -114,7 +90,7 @@ fn called(
 
 // The call, with as much of each slot as is filled.
 pub fn walking(
-    operation: usize,
+    operation: Operation,
     case: Case,
     cells: &[u16],
     lists: &[u32],

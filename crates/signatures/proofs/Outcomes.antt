@@ -1,7 +1,6 @@
 -- The ways out of a call that writes a signature.
 use Rattle.std.specs.Prelude.{◌≡◌, ℕ, true, false, List, [], ◌∷◌, length}
-use mathlib.Core.Path.{refl}
-use Rattle.columns.specs.declared.answers.Refusal.{Refusal}
+use Rattle.columns.specs.Answers.{Refusal}
 use Rattle.columns.specs.Answers.{Said, done, refused}
 use Rattle.columns.specs.Columns.{zeroed}
 use Rattle.columns.specs.Sets.{Pair}
@@ -10,20 +9,21 @@ use Rattle.columns.proofs.Saying.{unless_refused, unless_on}
 use Rattle.signatures.specs.Pairs.{Columns, fits, pairs_over}
 use Rattle.signatures.specs.Signing.{Left, writing, finishing, signing}
 
-module _ (r : Refusal) (pushed : ℕ) (pairs : List Pair) (out : Columns) (works : List (List ℕ)) where
-  pub signing_refused : (s : Said) → (r.number ≡ 0 → ⊥) → s ≡ refused r.number r.place →
+-- its checks have answered t
+module _ (r t : Refusal) (e : t ≡ r) (pushed : ℕ) (pairs : List Pair) (out : Columns) (works : List (List ℕ)) where
+  pub signing_refused : (s : Said) → (t.number ≡ 0 → ⊥) → s ≡ refused t.number t.place →
       ◌≡◌ {A = Said × Left} (s, (out, works)) (signing r pushed pairs out works)
   unfolding signing
-  signing_refused s n e = unless_refused r r refl (out, works) (finishing pushed pairs out works) s n e
+  signing_refused s n f = unless_refused r t e (out, works) (finishing pushed pairs out works) s n f
 
   -- a call whose checks are passed writes its signature, or has no room
   pub signing_on :
-      (d : ℕ) (l : List Pair) (w : List (List ℕ)) → r.number ≡ 0 → d ≡ pushed → l ≡ pairs → zeroed w ≡ zeroed works
+      (d : ℕ) (l : List Pair) (w : List (List ℕ)) → t.number ≡ 0 → d ≡ pushed → l ≡ pairs → zeroed w ≡ zeroed works
       → finishing d l out w ≡ signing r pushed pairs out works
   unfolding finishing signing
-  signing_on d l w z e f g =
-      unless_on r r refl (out, works) (finishing pushed pairs out works) (finishing d l out w) z
-      (λ i. ((writing (e i) (f i) out).0, ((writing (e i) (f i) out).1, g i)))
+  signing_on d l w z f g h =
+      unless_on r t e (out, works) (finishing pushed pairs out works) (finishing d l out w) z
+      (λ i. ((writing (f i) (g i) out).0, ((writing (f i) (g i) out).1, h i)))
 
 module _ (pushed : ℕ) (pairs : List Pair) (out : Columns) where
   pub wrote_none : (s : Said) → fits pushed out ≡ false → s ≡ refused no_room pushed →

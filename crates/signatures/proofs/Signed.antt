@@ -5,7 +5,7 @@ use borrow.Author.Tests.{leb-true}
 use mathlib.Core.Path.{refl, ap, ap₂, sym, subst, ◌∙◌}
 use lib.ListN.{length-map}
 use lib.Seq.{drop_at}
-use Rattle.columns.specs.declared.answers.Refusal.{Refusal}
+use Rattle.columns.specs.Answers.{Refusal}
 use Rattle.columns.specs.Answers.{Said, done, refused}
 use Rattle.columns.specs.Columns.{over, zeroed}
 use Rattle.columns.specs.Rows.{pairs_of, first_of, last_of}

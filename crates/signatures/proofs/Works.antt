@@ -1,14 +1,19 @@
 -- Work slices, however many: that each is long enough, and what they are left as.
-use Rattle.std.specs.Prelude.{◌≡◌, ℕ, ◌+◌, ◌≤◌, Bool, true, leb, List, [], ◌∷◌, ◌++◌, map, length}
+use Rattle.std.specs.Prelude.{◌≡◌, ℕ, ◌+◌, ◌<◌, ◌≤◌, Bool, true, ◌&&◌, leb, List, [], ◌∷◌, ◌++◌, map, length}
 use mathlib.Core.Path.{refl, ap, ap₂, sym, ◌∙◌}
 use mathlib.Core.List.{map-id, map-map, map-append}
+use Rattle.columns.specs.Answers.{Refusal, none}
 use Rattle.columns.specs.Columns.{zeros, zeroed}
 use Rattle.columns.specs.Due.{Roomy}
 use Rattle.columns.proofs.Rooms.{roomy_of}
 use Rattle.columns.proofs.Bools.{and_left, and_right}
-use Rattle.signatures.specs.Signing.{works_fit}
+use Rattle.partition.specs.Partition.{Partition, Sound}
+use Rattle.signatures.specs.Signing.{works_fit, signature_refusal}
 use Rattle.signatures.specs.Pairs.{room_for}
-use Rattle.table.specs.Lts.{Lts}
+use Rattle.table.specs.Checks.{works_long}
+use Rattle.table.specs.Lts.{Lts, Valid}
+use Rattle.table_partition.specs.Checks.{both_argument_refusal}
+use Rattle.table_partition.proofs.Refusals.{both_ready}
 use borrow.Author.Tests.{leb-true}
 
 -- ---- they are long enough
@@ -19,6 +24,34 @@ Wide t works = Roomy (t.n + t.m + 1) (map (λ w. length w) works)
 pub wide_of : (t : Lts) (works : List (List ℕ)) → works_fit t works ≡ true → Wide t works
 unfolding works_fit
 wide_of t works e = roomy_of (t.n + t.m + 1) (map (λ w. length w) works) e
+
+-- ---- the checks of a call that writes a signature; `more` is what it asks of its other slices
+module _ (t : Lts) (p : Partition) (s : ℕ) (more : Bool) (works : List (List ℕ)) where
+  -- what a call goes by whose checks refuse nothing
+  pub record Signable : Type 0 where
+    pub valid : Valid t
+    pub sound : Sound p
+    pub known : s < t.n
+    pub enough : more ≡ true
+    pub wide : Wide t works
+
+  -- the checks are made with b, what was found of the lengths of the work slices
+  module _ (b : Bool) (f : b ≡ works_long t (map (λ w. length w) works)) where
+    pub asked_long : (r : Refusal) → r ≡ both_argument_refusal t p s t.n (more && b) → r ≡ signature_refusal t p s (more && works_fit t works)
+    unfolding signature_refusal works_fit
+    asked_long r e = e ∙ ap (λ (x : Bool). both_argument_refusal t p s t.n (more && x)) f
+
+    pub signable : p.n ≡ t.n → none ≡ both_argument_refusal t p s t.n (more && b) → Signable
+    unfolding signature_refusal
+    signable same e =
+        let q = both_ready t p same s t.n (more && works_fit t works) none (asked_long none e) refl in
+        record {
+          valid = q.valid;
+          sound = q.sound;
+          known = q.known;
+          enough = and_left more (works_fit t works) q.enough;
+          wide = wide_of t works (and_right more (works_fit t works) q.enough);
+        }
 
 -- ---- what they are left as
 -- two lists, slice by slice

@@ -1,6 +1,6 @@
 -- What a call refuses, says and leaves that writes a signature.
 use Rattle.std.specs.Prelude.{ℕ, Bool, cond, List, [], ◌∷◌, map, length}
-use Rattle.columns.specs.declared.answers.Refusal.{Refusal}
+use Rattle.columns.specs.Answers.{Refusal}
 use Rattle.columns.specs.Answers.{Said, done, refused, unless}
 use Rattle.columns.specs.Columns.{zeroed}
 use Rattle.columns.specs.Due.{all_long}

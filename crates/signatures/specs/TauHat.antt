@@ -1,6 +1,6 @@
 -- tau_hat, a label beside those of the table: the number of labels.
 use Rattle.std.specs.Prelude.{ℕ, [], ◌∷◌, ◌==◌}
-use Rattle.columns.specs.declared.answers.Refusal.{Refusal}
+use Rattle.columns.specs.Answers.{Refusal}
 use Rattle.columns.specs.Answers.{Said, answering}
 use Rattle.columns.specs.Counting.{bit}
 use Rattle.columns.specs.Due.{due, labels_test}

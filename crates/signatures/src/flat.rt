@@ -6,20 +6,17 @@ ghost use Rattle.columns.specs.Rows.{pairs_of};
 ghost use Rattle.signatures.specs.Pairs.{signature, pairs_over, room_for};
 ghost use Rattle.signatures.specs.Signing.{finishing};
 
-use columns::answers::{NumberAnswer, number, refuse, refusing_number};
+use columns::answers::{Answer, Refusal};
 use columns::cells::clear;
-use columns::clearing::clear_four;
-use columns::limits::NO_ROOM;
-use columns::rows::{gather, pick_rows};
+use columns::rows::gather;
+use columns::sorting::Keys;
 
 // Whether two columns have room for d pairs.
+#[tactic(auto, unfolding(crate::specs::Pairs::room_for))]
 pub fn has_room(d: usize, labels: usize, blocks: usize) -> bool
     ensures { result ≡ room_for d labels blocks }
 {
-    if labels < d {
-        return false;
-    }
-    if blocks < d { false } else { true }
+    d <= labels && d <= blocks
 }
 
 // The pairs that the numbers of `order` name, over the first cells of x and y.
@@ -50,13 +47,12 @@ pub fn flatten(
         ≡ pairs_over (signature (pairs_of d pushed_labels.now pushed_blocks.now)) (labels.old, blocks.old) }
     ensures order_value { (order.new ≡ wiped d order.old) × (spare.new ≡ wiped (d / 2) spare.old) }
 {
-    let r = pick_rows(
-        pushed_labels,
-        pushed_blocks,
-        pushed_blocks,
-        &mut order[..d],
-        spare,
-    );
+    let keys = Keys {
+        first: pushed_labels,
+        second: pushed_blocks,
+        third: pushed_blocks,
+    };
+    let r = keys.pick_rows(&mut order[..d], spare);
     write_pairs(pushed_labels, pushed_blocks, &order[..r], labels, blocks);
     clear(&mut order[..d]);
     r
@@ -72,7 +68,7 @@ pub fn sign(
     d: usize,
     order: &mut [u16],
     spare: &mut [u16],
-) -> NumberAnswer
+) -> Answer<u64>
     requires d_in_bounds { (d ≤ length pushed_labels.old) × (d ≤ length pushed_blocks.old) }
     requires d_in_bounds_2 { (d ≤ length order.old) × (d ≤ 2 * length spare.old + 1) × (d ≤ 65536) }
     ensures { let work = pushed_labels.old ∷ pushed_blocks.old ∷ order.old ∷ spare.old ∷ [] in
@@ -80,19 +76,23 @@ pub fn sign(
         (said_number result, ((labels.new, blocks.new), work_left))
         ≡ finishing d (signature (pairs_of d pushed_labels.old pushed_blocks.old)) (labels.old, blocks.old) work }
 {
-    if !has_room(d, labels.len(), blocks.len()) {
-        clear_four(pushed_labels, pushed_blocks, order, spare);
-        return refusing_number(refuse(NO_ROOM, d as u64));
-    }
-    let r = flatten(
-        &*pushed_labels,
-        &*pushed_blocks,
-        d,
-        labels,
-        blocks,
-        &mut *order,
-        &mut *spare,
-    );
-    clear_four(pushed_labels, pushed_blocks, order, spare);
-    number(r as u64)
+    let answer = if has_room(d, labels.len(), blocks.len()) {
+        let r = flatten(
+            &*pushed_labels,
+            &*pushed_blocks,
+            d,
+            labels,
+            blocks,
+            &mut *order,
+            &mut *spare,
+        );
+        Answer::done(r as u64)
+    } else {
+        Answer::refused(Refusal::NoRoom { needed: d as u64 })
+    };
+    clear(pushed_labels);
+    clear(pushed_blocks);
+    clear(order);
+    clear(spare);
+    answer
 }

@@ -2,30 +2,22 @@
 ghost use Rattle.std.specs.Prelude.{◌≡◌, [], ◌∷◌};
 ghost use Rattle.columns.specs.Answers.{said_number};
 ghost use Rattle.signatures.specs.Inductive.{branching_bisim_signature_inductive};
-ghost use Rattle.partition.specs.Partition.{parts};
-ghost use Rattle.table.specs.Lts.{lts};
+ghost use Rattle.partition.specs.Partition.{parts_of};
+ghost use Rattle.table.specs.Lts.{lts_of};
 
 use crate::cores::push_inductive;
 use crate::flat::sign;
-use columns::answers::{NumberAnswer, refusing_number};
-use table::Table;
-use table::checks::works_long;
-use table_partition::argument_refusal;
+use columns::answers::Answer;
+use partition::PartitionColumns;
+use table::Lts;
+use table_partition::check_argument;
 
 // (tau_hat, key of t) for each hidden step of a state to a marked state of its block, and (a, block of t) for each other step; tau_hat is
 // the number of labels. Work: the pairs pushed, and two columns for the sort.
 pub fn branching_bisim_signature_inductive(
-    table: Table,
-    source: &[u16],
-    label: &[u16],
-    target: &[u16],
+    system: &Lts<'_>,
     count: u16,
-    elements: &[u16],
-    element_offset: &[u16],
-    element_to_block: &[u16],
-    begin: &[u16],
-    marked_split: &[u16],
-    end: &[u16],
+    columns: &PartitionColumns<'_>,
     state: u16,
     state_to_key: &[u16],
     labels: &mut [u16],
@@ -34,54 +26,28 @@ pub fn branching_bisim_signature_inductive(
     pushed_blocks: &mut [u16],
     order: &mut [u16],
     spare: &mut [u16],
-) -> NumberAnswer
-    ensures { let system = lts table source.now label.now target.now in
-        let given = parts elements.now element_offset.now element_to_block.now begin.now marked_split.now end.now table.n count in
+) -> Answer<u64>
+    ensures { let given = parts_of columns.now system.now.table.n count in
         let work = pushed_labels.old ∷ pushed_blocks.old ∷ order.old ∷ spare.old ∷ [] in
         let work_left = pushed_labels.new ∷ pushed_blocks.new ∷ order.new ∷ spare.new ∷ [] in
         (said_number result, ((labels.new, blocks.new), work_left))
-        ≡ branching_bisim_signature_inductive system given state state_to_key.now (labels.old, blocks.old) work }
+        ≡ branching_bisim_signature_inductive (lts_of system.now) given state state_to_key.now (labels.old, blocks.old) work }
 {
-    let n = table.n as usize;
+    let n = system.table.n as usize;
     let s = state as usize;
-    let room = works_long(
-        table,
-        &[
-            pushed_labels.len(),
-            pushed_blocks.len(),
-            order.len(),
-            spare.len(),
-        ],
-    );
+    let room = system.table.works_long(&[
+        pushed_labels.len(),
+        pushed_blocks.len(),
+        order.len(),
+        spare.len(),
+    ]);
     let keys = n <= state_to_key.len();
-    let t = argument_refusal(
-        table,
-        source,
-        label,
-        target,
-        count as usize,
-        elements,
-        element_offset,
-        element_to_block,
-        begin,
-        marked_split,
-        end,
-        s,
-        n,
-        keys & room,
-    );
-    let number = t.number;
-    if number != 0 {
-        return refusing_number(t);
+    if let Err(refusal) = check_argument(system, count as usize, columns, s, n, keys & room) {
+        return Answer::refused(refusal);
     }
     let d = push_inductive(
-        table,
-        source,
-        label,
-        target,
-        element_offset,
-        element_to_block,
-        marked_split,
+        system,
+        columns,
         s,
         state_to_key,
         &mut *pushed_labels,

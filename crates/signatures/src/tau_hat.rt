@@ -3,29 +3,25 @@ ghost use Rattle.std.specs.Prelude.{◌≡◌};
 ghost use Rattle.columns.specs.Answers.{said_number, said_flag};
 ghost use Rattle.signatures.specs.TauHat.{tau_hat, is_tau_hat};
 
-use columns::answers::{FlagAnswer, NumberAnswer, flag, number_of, refusing_flag, refusing_number};
-use columns::checks::labels_refusal;
+use columns::answers::Answer;
+use columns::checks::check_labels;
 
 // The label tau_hat of a table with this number of labels.
-pub fn tau_hat(labels: u16) -> NumberAnswer
+pub fn tau_hat(labels: u16) -> Answer<u64>
     ensures { said_number result ≡ tau_hat labels }
 {
-    let t = labels_refusal(labels as usize);
-    let number = t.number;
-    if number != 0 {
-        return refusing_number(t);
+    if let Err(refusal) = check_labels(labels as usize) {
+        return Answer::refused(refusal);
     }
-    number_of(labels)
+    Answer::done(labels as u64)
 }
 
 // Whether a label is tau_hat.
-pub fn is_tau_hat(labels: u16, label: u16) -> FlagAnswer
+pub fn is_tau_hat(labels: u16, label: u16) -> Answer<bool>
     ensures { said_flag result ≡ is_tau_hat labels label }
 {
-    let t = labels_refusal(labels as usize);
-    let number = t.number;
-    if number != 0 {
-        return refusing_flag(t);
+    if let Err(refusal) = check_labels(labels as usize) {
+        return Answer::refused(refusal);
     }
-    flag(label == labels)
+    Answer::done(label == labels)
 }

@@ -1,5 +1,4 @@
 pub mod Visited
-pub mod Unmarking
 pub mod Endings
 pub mod MoreWorks
 pub mod BranchingSigs
@@ -10,3 +9,4 @@ pub mod Theorems
 pub mod Examples
 pub mod Determined
 pub mod OneResult
+pub mod Outer

@@ -1,5 +1,5 @@
 -- A call with more work slices than the one that signs the pairs is lent: they are zero by then.
-use Rattle.std.specs.Prelude.{◌≡◌, ℕ, List, [], ◌∷◌, ◌++◌}
+use Rattle.std.specs.Prelude.{◌≡◌, ℕ, List, ◌++◌}
 use mathlib.Core.Path.{ap}
 use Rattle.columns.specs.Answers.{Said}
 use Rattle.columns.specs.Columns.{zeroed}

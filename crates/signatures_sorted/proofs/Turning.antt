@@ -29,7 +29,7 @@ pub record Opening
   pub same_end_high : length end_high ≡ length endHigh₀
   pub same_end_low : length end_low ≡ length endLow₀
 
-module _ (starts : List ℕ) (g : ℕ → ℕ) (f : ℕ → Bool) (first end : ℕ) (high₀ low₀ endHigh₀ endLow₀ : List ℕ) where
+module _ {starts : List ℕ} {g : ℕ → ℕ} {f : ℕ → Bool} {first end : ℕ} {high₀ low₀ endHigh₀ endLow₀ : List ℕ} where
   pub opening_start :
       first ≤ end → ((k : ℕ) → k < first → f k ≡ false)
       → Opening starts g f first end high₀ low₀ endHigh₀ endLow₀ first 0 high₀ low₀ endHigh₀ endLow₀
@@ -46,16 +46,16 @@ module _ (starts : List ℕ) (g : ℕ → ℕ) (f : ℕ → Bool) (first end : �
     same_end_low = refl;
   }
 
-  module _ (i k : ℕ) (high low end_high end_low : List ℕ)
+  module _ {i k : ℕ} {high low end_high end_low : List ℕ}
       (p : Opening starts g f first end high₀ low₀ endHigh₀ endLow₀ i k high low end_high end_low) where
     module _ (h : i < end) where
       -- head k becomes a list, the others stay
       pub opening_more :
-          (a b c d : List ℕ) → f i ≡ true → (wide a b k ≡ start_at starts (g i)) × (wide c d k ≡ start_at starts (g i + 1))
+          {a b c d : List ℕ} → f i ≡ true → (wide a b k ≡ start_at starts (g i)) × (wide c d k ≡ start_at starts (g i + 1))
           → ((j : ℕ) → (j ≡ k → ⊥) → (wide a b j ≡ wide high low j) × (wide c d j ≡ wide end_high end_low j)) → length a ≡ length high
           → length b ≡ length low → length c ≡ length end_high → length d ≡ length end_low
           → Opening starts g f first end high₀ low₀ endHigh₀ endLow₀ (i + 1) (k + 1) a b c d
-      opening_more a b c d t new old la lb lc ld = record {
+      opening_more {a} {b} {c} {d} t new old la lb lc ld = record {
         from = omega (arith, p.from);
         upto = omega arith;
         count = omega (arith, p.count, many-suc i f, bit_true (f i) t);

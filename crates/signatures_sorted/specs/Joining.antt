@@ -1,5 +1,5 @@
 -- States on the way to the sorted signature: what the proofs go by, nothing that the contract of an operation says.
-use Rattle.std.specs.Prelude.{◌≡◌, ℕ, ◌+◌, ◌<◌, List, [], ◌∷◌, length, slice_index}
+use Rattle.std.specs.Prelude.{◌≡◌, ℕ, ◌+◌, ◌<◌, List, length, slice_index}
 use Rattle.columns.specs.Rows.{pairs_of}
 use Rattle.columns.specs.Sets.{Pair, pair_lt, add_all}
 use Rattle.pairs.specs.Lists.{start_at}

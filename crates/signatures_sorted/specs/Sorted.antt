@@ -1,7 +1,7 @@
 -- The sorted branching signature: the state's own steps; for a hidden step within the block, the target's given list is taken.
 use Rattle.std.specs.Prelude.{ℕ, ◌+◌, Bool, cond, ◌&&◌, List, [], ◌∷◌, ◌++◌, length, nat_le, slice_index}
 use mathlib.Core.List.{flat_map}
-use Rattle.columns.specs.declared.answers.Refusal.{Refusal}
+use Rattle.columns.specs.Answers.{Refusal}
 use Rattle.columns.specs.Answers.{Said}
 use Rattle.columns.specs.Due.{due, index_test}
 use Rattle.columns.specs.Sets.{Pair}

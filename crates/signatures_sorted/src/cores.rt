@@ -13,21 +13,19 @@ ghost use Rattle.signatures.specs.Strong.{own_rows};
 ghost use Rattle.signatures_sorted.specs.Sorted.{sorted_pushed, sorted_signature};
 ghost use Rattle.signatures_sorted.specs.Joining.{Opened, joint_set};
 ghost use Rattle.signatures_sorted.specs.Taking.{inner_targets, Takes};
-ghost use Rattle.table.specs.Lts.{Valid, lts};
+ghost use Rattle.table.specs.Lts.{Valid, lts_of};
 ghost use Rattle.columns.specs.Lent.{Clear};
 ghost use Rattle.columns.specs.Columns.{EachLong, EachZero};
 
 use crate::opening::open_lists;
-use columns::answers::{NumberAnswer, number, refuse, refusing_number};
+use columns::answers::{Answer, Refusal};
 use columns::cells::{at, clear};
-use columns::clearing::clear_four;
-use columns::limits::NO_ROOM;
 use pairs_merge::left::left_in;
 use pairs_merge::merge::merge;
 use pairs_merge::union::unite;
 use signatures::flat::{flatten, has_room};
 use signatures_branching::cores::push_outer;
-use table::Table;
+use table::Lts;
 use table::cores::rows_of;
 
 // What a state takes: how many own pairs, none twice, how many given lists, and how many pairs these are, before duplicates go.
@@ -41,10 +39,7 @@ struct Taken {
 // The state's own pairs, as a set, and the heads of the given lists that it takes. Before the heads are there, their cells serve to
 // sort the own pairs.
 fn take(
-    table: Table,
-    source: &[u16],
-    label: &[u16],
-    target: &[u16],
+    system: &Lts<'_>,
     element_to_block: &[u16],
     state: usize,
     starts: &[u32],
@@ -55,27 +50,23 @@ fn take(
     end_high: &mut [u16],
     end_low: &mut [u16],
 ) -> Taken
-    requires fact { let system = lts table source.now label.now target.now in
-        Valid system × (state < table.n) × (table.n ≤ length element_to_block.now) × (table.n + 1 ≤ length starts.now) }
-    requires fact_2 { let rows = own_rows (lts table source.now label.now target.now) state in
+    requires fact { Valid (lts_of system.now) × (state < system.now.table.n) × (system.now.table.n ≤ length element_to_block.now)
+        × (system.now.table.n + 1 ≤ length starts.now) }
+    requires fact_2 { let rows = own_rows (lts_of system.now) state in
         let works = own_labels.old ∷ own_blocks.old ∷ high.old ∷ low.old ∷ end_high.old ∷ end_low.old ∷ [] in
         EachLong (length rows) works }
-    ensures own_blocks_value { let system = lts table source.now label.now target.now in
-        pairs_of result.own own_labels.new own_blocks.new
-        ≡ signature (outer_pairs system element_to_block.now (slice_index element_to_block.now state) state) }
-    ensures fact_3 { let system = lts table source.now label.now target.now in
-        Opened starts.now (inner_targets system element_to_block.now state) result.lists high.new low.new end_high.new
-        end_low.new }
-    ensures pushed_value { let system = lts table source.now label.now target.now in
+    ensures own_blocks_value { let b = slice_index element_to_block.now state in
+        let own = outer_pairs (lts_of system.now) element_to_block.now b state in
+        pairs_of result.own own_labels.new own_blocks.new ≡ signature own }
+    ensures fact_3 { let states = inner_targets (lts_of system.now) element_to_block.now state in
+        Opened starts.now states result.lists high.new low.new end_high.new end_low.new }
+    ensures pushed_value { let b = slice_index element_to_block.now state in
+        let own = outer_pairs (lts_of system.now) element_to_block.now b state in
         let opened = heads [] [] high.new low.new end_high.new end_low.new in
-        result.pushed ≡ length (outer_pairs system element_to_block.now (slice_index element_to_block.now state) state) + left_in opened
-        result.lists }
+        result.pushed ≡ length own + left_in opened result.lists }
 {
     let d = push_outer(
-        table,
-        source,
-        label,
-        target,
+        system,
         element_to_block,
         at(element_to_block, state),
         state,
@@ -93,10 +84,7 @@ fn take(
         &mut *end_low,
     );
     let lists = open_lists(
-        table,
-        source,
-        label,
-        target,
+        system,
         element_to_block,
         state,
         starts,
@@ -169,7 +157,7 @@ fn write_set(
     end_high: &[u16],
     end_low: &[u16],
     tree: &mut [u16],
-) -> NumberAnswer
+) -> Answer<u64>
     requires lists_bound { (taken.lists ≤ 16384) × (2 * taken.lists ≤ length tree.old) × (taken.own ≤ length own_labels.old)
         × (taken.own ≤ length own_blocks.old) }
     requires fact { let opened = heads given_labels.now given_blocks.now high.old low.old end_high.now end_low.now in
@@ -181,9 +169,9 @@ fn write_set(
         ≡ writing taken.pushed (joint_set taken.own own_labels.old own_blocks.old opened taken.lists)
         (labels.old, blocks.old) }
 {
-    let pushed = taken.pushed;
-    if !has_room(pushed, labels.len(), blocks.len()) {
-        return refusing_number(refuse(NO_ROOM, pushed as u64));
+    if !has_room(taken.pushed, labels.len(), blocks.len()) {
+        let needed = taken.pushed as u64;
+        return Answer::refused(Refusal::NoRoom { needed });
     }
     let k = join(
         given_labels,
@@ -200,7 +188,7 @@ fn write_set(
         end_low,
         tree,
     );
-    number(k as u64)
+    Answer::done(k as u64)
 }
 
 // The same, and every cell of the seven work slices is zero then.
@@ -217,7 +205,7 @@ fn finish(
     end_high: &mut [u16],
     end_low: &mut [u16],
     tree: &mut [u16],
-) -> NumberAnswer
+) -> Answer<u64>
     requires lists_bound { (taken.lists ≤ 16384) × (2 * taken.lists ≤ length tree.old) × (taken.own ≤ length own_labels.old)
         × (taken.own ≤ length own_blocks.old) }
     requires fact { let opened = heads given_labels.now given_blocks.now high.old low.old end_high.old end_low.old in
@@ -245,7 +233,10 @@ fn finish(
         &*end_low,
         &mut *tree,
     );
-    clear_four(own_labels, own_blocks, high, low);
+    clear(own_labels);
+    clear(own_blocks);
+    clear(high);
+    clear(low);
     clear(end_high);
     clear(end_low);
     clear(tree);
@@ -255,10 +246,7 @@ fn finish(
 // The signature of a state, or 16 where the result columns have no room for all that is pushed. Every work slice but the tree has a
 // cell for each row of the state; every cell of the tree is zero. Every cell of the work slices is zero then.
 fn sign_rows(
-    table: Table,
-    source: &[u16],
-    label: &[u16],
-    target: &[u16],
+    system: &Lts<'_>,
     element_to_block: &[u16],
     state: usize,
     starts: &[u32],
@@ -273,27 +261,22 @@ fn sign_rows(
     end_high: &mut [u16],
     end_low: &mut [u16],
     tree: &mut [u16],
-) -> NumberAnswer
-    requires valid { Valid (lts table source.now label.now target.now) × (state < table.n) }
-    requires n_in_bounds { (table.n ≤ length element_to_block.now) × (table.n + 1 ≤ length starts.now) }
-    requires fact { let system = lts table source.now label.now target.now in
-        Takes system element_to_block.now starts.now given_labels.now given_blocks.now state }
-    requires fact_2 { let rows = own_rows (lts table source.now label.now target.now) state in
+) -> Answer<u64>
+    requires valid { Valid (lts_of system.now) × (state < system.now.table.n) }
+    requires n_in_bounds { (system.now.table.n ≤ length element_to_block.now) × (system.now.table.n + 1 ≤ length starts.now) }
+    requires fact { Takes (lts_of system.now) element_to_block.now starts.now given_labels.now given_blocks.now state }
+    requires fact_2 { let rows = own_rows (lts_of system.now) state in
         let works = own_labels.old ∷ own_blocks.old ∷ high.old ∷ low.old ∷ end_high.old ∷ end_low.old ∷ [] in
-        EachLong (length rows) works × (table.n + table.m ≤ length tree.old) × Clear tree.old }
+        EachLong (length rows) works × (system.now.table.n + system.now.table.m ≤ length tree.old) × Clear tree.old }
     ensures { let lists = list_at starts.now given_labels.now given_blocks.now in
-        let system = lts table source.now label.now target.now in
-        let pushed = length (sorted_pushed system element_to_block.now lists state) in
+        let pushed = length (sorted_pushed (lts_of system.now) element_to_block.now lists state) in
         let work = own_labels.old ∷ own_blocks.old ∷ high.old ∷ low.old ∷ end_high.old ∷ end_low.old ∷ tree.old ∷ [] in
         let work_left = own_labels.new ∷ own_blocks.new ∷ high.new ∷ low.new ∷ end_high.new ∷ end_low.new ∷ tree.new ∷ [] in
         (said_number result, ((labels.new, blocks.new), work_left))
-        ≡ finishing pushed (sorted_signature system element_to_block.now lists state) (labels.old, blocks.old) work }
+        ≡ finishing pushed (sorted_signature (lts_of system.now) element_to_block.now lists state) (labels.old, blocks.old) work }
 {
     let taken = take(
-        table,
-        source,
-        label,
-        target,
+        system,
         element_to_block,
         state,
         starts,
@@ -321,14 +304,20 @@ fn sign_rows(
     )
 }
 
+// How many rows a state has.
+fn row_count(system: &Lts<'_>, state: usize) -> usize
+    requires { Valid (lts_of system.now) × (state < system.now.table.n) }
+    ensures { (result ≡ length (own_rows (lts_of system.now) state)) × (result ≤ system.now.table.m) }
+{
+    let rows = rows_of(system.source, system.table.m as usize, state);
+    rows.end - rows.first
+}
+
 // The sorted branching signature of a state over the first cells of `labels` and `blocks`, or 16 where they have no room for all that is
 // pushed. Of the given lists only those that the state takes are read. Every cell of the seven work slices is zero, and zero then: as
 // many cells of each are used as the state has rows, and of the tree two for each list that is taken.
 pub fn branching_bisim_signature_sorted(
-    table: Table,
-    source: &[u16],
-    label: &[u16],
-    target: &[u16],
+    system: &Lts<'_>,
     element_to_block: &[u16],
     state: usize,
     starts: &[u32],
@@ -343,29 +332,22 @@ pub fn branching_bisim_signature_sorted(
     end_high: &mut [u16],
     end_low: &mut [u16],
     tree: &mut [u16],
-) -> NumberAnswer
-    requires valid { Valid (lts table source.now label.now target.now) × (state < table.n) }
-    requires n_in_bounds { (table.n ≤ length element_to_block.now) × (table.n + 1 ≤ length starts.now) }
-    requires fact { let system = lts table source.now label.now target.now in
-        Takes system element_to_block.now starts.now given_labels.now given_blocks.now state }
+) -> Answer<u64>
+    requires valid { Valid (lts_of system.now) × (state < system.now.table.n) }
+    requires n_in_bounds { (system.now.table.n ≤ length element_to_block.now) × (system.now.table.n + 1 ≤ length starts.now) }
+    requires fact { Takes (lts_of system.now) element_to_block.now starts.now given_labels.now given_blocks.now state }
     requires fact_2 { let works = own_labels.old ∷ own_blocks.old ∷ high.old ∷ low.old ∷ end_high.old ∷ end_low.old ∷ [] in
-        EachLong table.m works × (table.n + table.m ≤ length tree.old) × EachZero (tree.old ∷ works) }
+        EachLong system.now.table.m works × (system.now.table.n + system.now.table.m ≤ length tree.old) × EachZero (tree.old ∷ works) }
     ensures { let lists = list_at starts.now given_labels.now given_blocks.now in
-        let system = lts table source.now label.now target.now in
-        let pushed = length (sorted_pushed system element_to_block.now lists state) in
+        let pushed = length (sorted_pushed (lts_of system.now) element_to_block.now lists state) in
         let work = own_labels.old ∷ own_blocks.old ∷ high.old ∷ low.old ∷ end_high.old ∷ end_low.old ∷ tree.old ∷ [] in
         let work_left = own_labels.new ∷ own_blocks.new ∷ high.new ∷ low.new ∷ end_high.new ∷ end_low.new ∷ tree.new ∷ [] in
         (said_number result, ((labels.new, blocks.new), work_left))
-        ≡ finishing pushed (sorted_signature system element_to_block.now lists state) (labels.old, blocks.old) work }
+        ≡ finishing pushed (sorted_signature (lts_of system.now) element_to_block.now lists state) (labels.old, blocks.old) work }
 {
-    let m = table.m as usize;
-    let rows = rows_of(source, m, state);
-    let d = rows.end - rows.first;
+    let d = row_count(system, state);
     sign_rows(
-        table,
-        source,
-        label,
-        target,
+        system,
         element_to_block,
         state,
         starts,

@@ -5,35 +5,26 @@
 ghost use Rattle.std.specs.Prelude.{◌≡◌, [], ◌∷◌};
 ghost use Rattle.columns.specs.Answers.{said_number};
 ghost use Rattle.signatures_sorted.specs.Sorted.{flat, branching_bisim_signature_sorted};
-ghost use Rattle.partition.specs.Partition.{parts};
-ghost use Rattle.table.specs.Lts.{lts};
+ghost use Rattle.partition.specs.Partition.{parts_of};
+ghost use Rattle.table.specs.Lts.{lts_of};
 
 pub mod checks;
 pub mod cores;
 pub mod opening;
 
-use crate::checks::sorted_refusal;
-use columns::answers::{NumberAnswer, refusing_number};
+use crate::checks::check_sorted;
+use columns::answers::Answer;
 use columns::cells::clear;
-use columns::clearing::clear_four;
-use table::Table;
-use table::checks::works_long;
+use partition::PartitionColumns;
+use table::Lts;
 
 // (a, block of t) for each step of a state that is visible or leads to another block, and for each hidden step within the block the
 // given list of its target. List u of the given ones is the pairs from start u to before start u + 1. Work: the own pairs, the place
 // and the end of each list that is taken, and the tournament by which they are merged.
 pub fn branching_bisim_signature_sorted(
-    table: Table,
-    source: &[u16],
-    label: &[u16],
-    target: &[u16],
+    system: &Lts<'_>,
     count: u16,
-    elements: &[u16],
-    element_offset: &[u16],
-    element_to_block: &[u16],
-    begin: &[u16],
-    marked_split: &[u16],
-    end: &[u16],
+    columns: &PartitionColumns<'_>,
     state: u16,
     starts: &[u32],
     given_labels: &[u16],
@@ -47,62 +38,48 @@ pub fn branching_bisim_signature_sorted(
     end_high: &mut [u16],
     end_low: &mut [u16],
     tree: &mut [u16],
-) -> NumberAnswer
-    ensures { let system = lts table source.now label.now target.now in
-        let given = parts elements.now element_offset.now element_to_block.now begin.now marked_split.now end.now table.n count in
+) -> Answer<u64>
+    ensures { let given = parts_of columns.now system.now.table.n count in
         let work = own_labels.old ∷ own_blocks.old ∷ high.old ∷ low.old ∷ end_high.old ∷ end_low.old ∷ tree.old ∷ [] in
         let work_left = own_labels.new ∷ own_blocks.new ∷ high.new ∷ low.new ∷ end_high.new ∷ end_low.new ∷ tree.new ∷ [] in
         (said_number result, ((labels.new, blocks.new), work_left))
-        ≡ branching_bisim_signature_sorted system given state (flat starts.now given_labels.now given_blocks.now)
+        ≡ branching_bisim_signature_sorted (lts_of system.now) given state (flat starts.now given_labels.now given_blocks.now)
         (labels.old, blocks.old) work }
 {
-    let n = table.n as usize;
+    let n = system.table.n as usize;
     let s = state as usize;
-    let works = works_long(
-        table,
-        &[
-            own_labels.len(),
-            own_blocks.len(),
-            high.len(),
-            low.len(),
-            end_high.len(),
-            end_low.len(),
-            tree.len(),
-        ],
-    );
+    let room = system.table.works_long(&[
+        own_labels.len(),
+        own_blocks.len(),
+        high.len(),
+        low.len(),
+        end_high.len(),
+        end_low.len(),
+        tree.len(),
+    ]);
     let lists = n + 1 <= starts.len();
-    let t = sorted_refusal(
-        table,
-        source,
-        label,
-        target,
+    if let Err(refusal) = check_sorted(
+        system,
         count as usize,
-        elements,
-        element_offset,
-        element_to_block,
-        begin,
-        marked_split,
-        end,
+        columns,
         s,
         starts,
         given_labels,
         given_blocks,
-        lists & works,
-    );
-    let number = t.number;
-    if number != 0 {
-        return refusing_number(t);
+        lists & room,
+    ) {
+        return Answer::refused(refusal);
     }
-    clear_four(&mut *own_labels, &mut *own_blocks, &mut *high, &mut *low);
+    clear(&mut *own_labels);
+    clear(&mut *own_blocks);
+    clear(&mut *high);
+    clear(&mut *low);
     clear(&mut *end_high);
     clear(&mut *end_low);
     clear(&mut *tree);
     cores::branching_bisim_signature_sorted(
-        table,
-        source,
-        label,
-        target,
-        element_to_block,
+        system,
+        columns.element_to_block,
         s,
         starts,
         given_labels,

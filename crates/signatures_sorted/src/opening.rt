@@ -5,13 +5,13 @@ ghost use Rattle.signatures_sorted.specs.Joining.{Opened};
 ghost use Rattle.signatures_sorted.specs.Taking.{inner_targets};
 ghost use Rattle.signatures.specs.Strong.{own_rows};
 ghost use Rattle.pairs.specs.Lists.{start_at};
-ghost use Rattle.table.specs.Lts.{Valid, lts};
+ghost use Rattle.table.specs.Lts.{Valid, lts_of};
 ghost use Rattle.columns.specs.Limits.{max_states};
 ghost use Rattle.columns.specs.Columns.{EachLong};
 
 use columns::cells::at;
 use pairs::lists::start;
-use table::Table;
+use table::Lts;
 use table::cores::{hidden_in, rows_of};
 
 // A place in the flat pairs, over cells j.
@@ -46,10 +46,7 @@ fn open(
 // For each hidden row of a state that stays in its block, the given list of the target becomes a head; the heads behind stay. Returns
 // how many.
 pub fn open_lists(
-    table: Table,
-    source: &[u16],
-    label: &[u16],
-    target: &[u16],
+    system: &Lts<'_>,
     element_to_block: &[u16],
     state: usize,
     starts: &[u32],
@@ -58,37 +55,23 @@ pub fn open_lists(
     end_high: &mut [u16],
     end_low: &mut [u16],
 ) -> usize
-    requires fact { let system = lts table source.now label.now target.now in
-        Valid system × (state < table.n) × (table.n ≤ length element_to_block.now) × (table.n + 1 ≤ length starts.now) }
-    requires fact_2 { let rows = own_rows (lts table source.now label.now target.now) state in
+    requires fact { Valid (lts_of system.now) × (state < system.now.table.n) × (system.now.table.n ≤ length element_to_block.now)
+        × (system.now.table.n + 1 ≤ length starts.now) }
+    requires fact_2 { let rows = own_rows (lts_of system.now) state in
         EachLong (length rows) (high.old ∷ low.old ∷ end_high.old ∷ end_low.old ∷ []) }
-    ensures fact_3 { let system = lts table source.now label.now target.now in
-        Opened starts.now (inner_targets system element_to_block.now state) result high.new low.new end_high.new end_low.new }
+    ensures fact_3 { let states = inner_targets (lts_of system.now) element_to_block.now state in
+        Opened starts.now states result high.new low.new end_high.new end_low.new }
     ensures by_index { (j : ℕ) → result ≤ j → (wide high.new low.new j ≡ wide high.old low.old j)
         × (wide end_high.new end_low.new j ≡ wide end_high.old end_low.old j) }
 {
-    let m = table.m as usize;
     let b = at(element_to_block, state);
-    let rows = rows_of(source, m, state);
-    let mut i = rows.first;
-    let end = rows.end;
+    let rows = rows_of(system.source, system.table.m as usize, state);
     let mut k = 0;
-    while i < end {
-        if hidden_in(label, target, element_to_block, b, i) {
-            let u = at(target, i);
-            open(
-                starts,
-                u,
-                &mut *high,
-                &mut *low,
-                &mut *end_high,
-                &mut *end_low,
-                k,
-            );
+    for i in rows.first..rows.end {
+        if hidden_in(system.label, system.target, element_to_block, b, i) {
+            let u = at(system.target, i);
+            open(starts, u, high, low, end_high, end_low, k);
             k += 1;
-            i += 1;
-        } else {
-            i += 1;
         }
     }
     k

@@ -1,11 +1,12 @@
 -- Texts put one behind the other.
-use Prim.Native.Nat.{ℕ, ◌+◌, ◌≤◌, ◌<◌}
-use native.Mathlib.Numerals.{add-one}
+use Prim.Native.Nat.{ℕ, ◌+◌, ◌-◌, ◌≤◌}
 use native.Mathlib.Omega.{arith}
 use mathlib.Core.List.{List, [], ◌++◌, append_assoc, append-nil}
 use mathlib.Core.Path.{◌≡◌, refl, sym, ap, ◌∙◌}
-use lib.ListN.{length, take, drop, get_or, set, length-append}
-use lib.Seq.{take_all, length-take-le, paste, paste-suc, take-paste, drop-paste, length-paste}
+use lib.ListN.{length, take, length-append, length-drop}
+use borrow.Rule.Slice.PartMut.{put_mid}
+use Rattle.std.proofs.lemmas.Slice.{take-put_mid, drop-put_mid}
+use lib.Seq.{length-take-le}
 use Rattle.columns.proofs.Parts.{drop_more}
 use Rattle.spelling.specs.Counts.{IsPrefixLen}
 use Rattle.spelling.specs.Texts.{Put}
@@ -32,16 +33,16 @@ put_as p e = rw (← e) p
 pub put_first_lem : {l m s : List ℕ} {j : ℕ} → Put l 0 s m j → IsPrefixLen j m × (take j m ≡ s)
 put_first_lem {l} {m} {s} {j} p = ((p.room, sym (length-take-le j m p.room)), p.bytes)
 
--- ---- the loop that puts s over l from `at` on: m is left after the first i bytes
-module _ (l s : List ℕ) (at : ℕ) (h : at + length s ≤ length l) (m : List ℕ) (i : ℕ) (e : m ≡ paste l at s i) where
-  pub paste_turn : i < length s → set m (at + i) (get_or s i 0) ≡ paste l at s (i + 1)
-  paste_turn k = rw (e, add-one) (paste-suc l at s i 0 (omega arith) k)
-
-  pub paste_end : i ≤ length s → length s ≤ i → Put l at s m (at + i)
-  paste_end k f =
-      record {
-        bytes = ap (take (at + i)) e ∙ take-paste l at s i (omega arith) k ∙ ap (take at l ++◌) (take_all i s f);
-        rest = ap (drop (at + i)) e ∙ drop-paste l at s i (omega arith) k;
-        place = omega arith;
-        room = omega (arith, ap length e, length-paste l at s i (omega arith) k);
-      }
+-- s copied over the part of l from `at` on
+pub put_part :
+    (l s part : List ℕ) (at : ℕ) → at + length s ≤ length l → part ≡ s
+    → Put l at s (put_mid at (at + length s - at) l part) (at + length s)
+put_part l s part at h e =
+    let n : length part ≡ length s = ap length e in
+    let front : length (take at l) ≡ at = length-take-le at l (omega arith) in
+    record {
+      bytes = take-put_mid at (at + length s - at) l part (at + length s) (omega arith) (omega arith) ∙ ap (take at l ++◌) e;
+      rest = drop-put_mid at (at + length s - at) l part (at + length s) (omega arith) (omega arith) (omega arith);
+      place = refl;
+      room = simp (length-append, length-drop) (omega arith);
+    }

@@ -1,8 +1,7 @@
 #![tactic(auto)]
 
 // Texts and numbers as bytes: each is put over lent bytes from byte `at` on, and the place behind it is answered.
-ghost use Rattle.std.specs.Prelude.{◌≡◌, ◌++◌, ◌+◌, ◌≤◌, length, take};
-ghost use Rattle.spelling.specs.Counts.{IsPrefixLen};
+ghost use Rattle.std.specs.Prelude.{◌≡◌, ◌++◌, ◌+◌, ◌≤◌, length};
 ghost use Rattle.spelling.specs.Texts.{Put};
 ghost use Rattle.spelling.specs.Digits.{digits, IsDigitCount};
 
@@ -11,12 +10,9 @@ pub fn put(bytes: &[u8], out: &mut [u8], at: usize) -> usize
     requires { at + length bytes.now ≤ length out.old }
     ensures { Put out.old at bytes.now out.new result }
 {
-    let mut i = 0;
-    while i < bytes.len() {
-        out[at + i] = bytes[i];
-        i += 1;
-    }
-    at + i
+    let end = at + bytes.len();
+    out[at..end].copy_from_slice(bytes);
+    end
 }
 
 // How many decimal digits a number has.
@@ -32,21 +28,18 @@ fn digit_count(number: u64) -> usize
     count
 }
 
-// The decimal digits of a number over the first bytes of `text`, and how many they are.
-pub fn decimal(number: u64, text: &mut [u8; 20]) -> usize
-    ensures prefix_len { IsPrefixLen result text.new }
-    ensures upper_bound { result ≤ 20 }
-    ensures text_value { take result text.new ≡ digits number }
+// The decimal digits of a number, over the first bytes of `text`.
+pub fn decimal(number: u64, text: &mut [u8; 20]) -> &[u8]
+    ensures upper_bound { length result.now ≤ 20 }
+    ensures text_value { result.now ≡ digits number }
 {
     let count = digit_count(number);
-    let mut i = count;
     let mut rest = number;
-    while 0 < i {
-        i -= 1;
+    for i in (0..count).rev() {
         text[i] = 48 + (rest % 10) as u8;
         rest /= 10;
     }
-    count
+    &text[..count]
 }
 
 // The decimal digits of a number, of which there are at most 20.
@@ -56,8 +49,7 @@ pub fn put_number(number: u64, out: &mut [u8], at: usize) -> usize
     ensures upper_bound { result ≤ at + 20 }
 {
     let mut text = [0u8; 20];
-    let count = decimal(number, &mut text);
-    put(&text[..count], out, at)
+    put(decimal(number, &mut text), out, at)
 }
 
 // A number and the words behind it.

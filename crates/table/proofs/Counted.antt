@@ -1,8 +1,8 @@
 -- Numbers that never fall: the places of one number are a stretch. `at i` is the number at place i, and there are m places.
 use Rattle.std.specs.Prelude.{◌≡◌, ℕ, suc, ◌+◌, ◌<◌, ◌≤◌, Bool, eqb, ltb}
 use native.Mathlib.Omega.{arith}
-use native.Mathlib.Nat.{eq-or-lt_of_le}
-use borrow.Author.Tests.{ltb-true, lt-ltb, le-ltb, eq-eqb, ne_eqb}
+use native.Mathlib.Nat.{eq-or-lt_of_le, le_antisymm}
+use borrow.Author.Tests.{ltb-true, ltb-false, lt-ltb, le-ltb, eq-eqb, ne_eqb}
 use mathlib.Core.Path.{sym}
 use mathlib.Core.Logic.{⊎_elim}
 use Rattle.columns.specs.Counting.{many, bit}
@@ -10,6 +10,7 @@ use Rattle.columns.proofs.All.{not-below, lt-or-le}
 use Rattle.columns.proofs.Counting.{bit_true, bit_false, many_up, many-le, many_mono, many-add, many-all}
 use Rattle.columns.proofs.Members.{many-rest, many_front}
 use Rattle.table.specs.Stretch.{StretchOf}
+use Rattle.table.proofs.Finds.{FoundFrom}
 
 -- below s + 1: below s, or s itself
 one_more : (x s : ℕ) → bit (ltb x (s + 1)) ≡ bit (ltb x s) + bit (eqb x s)
@@ -71,6 +72,18 @@ module _ (at : ℕ → ℕ) (m : ℕ) where
     place_from s i h l =
         let f : ℕ → Bool = λ i. ltb (at i) s in
         omega (arith, many-rest f m i (omega arith) (λ j a b. le-ltb (at j) s (omega (arith, l, up i j a b))), many-le i f)
+
+    -- the end of the stretch of s, sought from a place at or before that
+    pub end-found : (s a r : ℕ) → a ≤ count_below (s + 1) → FoundFrom a m m (λ i. ltb s (at i)) r → r ≡ count_below (s + 1)
+    end-found s a r h f =
+        let e : ℕ = count_below (s + 1) in
+        le_antisymm
+        (not-below (λ l.
+        let w : e < m = omega (arith, f.most) in
+        omega (arith, place_before (s + 1) e w (omega (arith, ltb-false s (at e) (f.before e h w l))))))
+        (not-below (λ l.
+        let w : r < m = omega (arith, below_most (s + 1)) in
+        omega (arith, place_from (s + 1) r w (omega (arith, ltb-true s (at r) (f.hit w))))))
 
     pub stretch : (s : ℕ) → StretchOf at m s (count_below s) (count_below (s + 1))
     stretch s = record {

@@ -6,7 +6,7 @@ use native.Mathlib.Omega.{arith}
 use native.Mathlib.Nat.{eq-or-lt_of_le}
 use borrow.Author.Tests.{ltb-true, leb-true}
 use lib.Seq.{length-take-le}
-use Rattle.columns.specs.declared.answers.Refusal.{Refusal}
+use Rattle.columns.specs.Answers.{Refusal}
 use Rattle.columns.specs.Columns.{listed, over, key_of, sort_by}
 use Rattle.columns.specs.Sets.{Row, row_lt, pair_lt}
 use Rattle.columns.specs.Sort.{sort}

@@ -2,6 +2,7 @@ pub mod Rows
 pub mod Refusals
 pub mod Rooms
 pub mod Stretches
+pub mod Finds
 pub mod Counted
 pub mod RowsOf
 pub mod RowsInto

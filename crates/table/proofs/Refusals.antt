@@ -6,7 +6,7 @@ use borrow.Author.Tests.{ltb-true, leb-true, lt-ltb, le-leb, lt-leb, eq-eqb, ne_
 use mathlib.Core.Path.{refl, ap, ap₂, sym, ◌∙◌}
 use mathlib.Core.Logic.{⊎_elim}
 use Rattle.columns.specs.Limits.{max_labels, max_rows, max_states, not_above, wrong_field}
-use Rattle.columns.specs.declared.answers.Refusal.{Refusal}
+use Rattle.columns.specs.Answers.{Refusal}
 use Rattle.columns.specs.Answers.{refusal, none}
 use Rattle.columns.specs.Columns.{comes_before}
 use Rattle.columns.specs.Due.{due, index_test}

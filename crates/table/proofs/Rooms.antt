@@ -1,7 +1,7 @@
 -- What a call goes by whose table is checked, with result columns and work slices given by their lengths.
 use Rattle.std.specs.Prelude.{◌≡◌, ℕ, ◌+◌, ◌<◌, true, List}
 use mathlib.Core.Path.{refl}
-use Rattle.columns.specs.declared.answers.Refusal.{Refusal}
+use Rattle.columns.specs.Answers.{Refusal}
 use Rattle.columns.specs.Due.{due, all_long, Roomy}
 use Rattle.columns.proofs.Bools.{and_left, and_right}
 use Rattle.columns.proofs.Chains.{passed}

@@ -1,9 +1,10 @@
 -- The laws of `incoming_rows_of`, and the only place that knows how its stretch is counted: of h rows listed by target, the one at k leads
 -- to u exactly if first_into u <= k < first_into (u + 1).
-use Rattle.std.specs.Prelude.{◌≡◌, ℕ, ◌+◌, ◌<◌, ◌≤◌, List}
+use Rattle.std.specs.Prelude.{◌≡◌, ℕ, ◌+◌, ◌<◌, ◌≤◌, ltb, List}
 use mathlib.Core.Path.{subst, sym}
 use Rattle.table.specs.Stretch.{StretchOf, listed_target, ByTarget, first_into}
-use Rattle.table.proofs.Counted.{below-is, below_most, below_up, place_before, place_from, stretch}
+use Rattle.table.proofs.Finds.{FoundFrom}
+use Rattle.table.proofs.Counted.{below-is, below_up, end-found, stretch}
 
 module _ (target order : List ℕ) (h : ℕ) where
   abbrev to : ℕ → ℕ
@@ -16,23 +17,16 @@ module _ (target order : List ℕ) (h : ℕ) where
   unfolding first_into
   first_into_is = below-is to h
 
-  pub first_into_most : (u : ℕ) → first_into target order h u ≤ h
-  unfolding first_into
-  first_into_most = below_most to h
-
   pub first_into_up : (u v : ℕ) → u ≤ v → first_into target order h u ≤ first_into target order h v
   unfolding first_into
   first_into_up = below_up to h
 
   module _ (by : ByTarget target order h) where
-    -- a row is listed before the first one into u exactly if its target is below u
-    pub before_into : (u k : ℕ) → k < h → listed_target target order k < u → k < first_into target order h u
+    -- the rows into u end at the next place whose row leads above u
+    pub into_end : (u a r : ℕ) → a ≤ first_into target order h (u + 1) → FoundFrom a h h (λ k. ltb u (listed_target target order k)) r →
+        r ≡ first_into target order h (u + 1)
     unfolding first_into
-    before_into = place_before to h by.rising
-
-    pub from_into : (u k : ℕ) → k < h → u ≤ listed_target target order k → first_into target order h u ≤ k
-    unfolding first_into
-    from_into = place_from to h by.rising
+    into_end = end-found to h by.rising
 
     own_stretch : (u : ℕ) → StretchOf to h u (first_into target order h u) (first_into target order h (u + 1))
     unfolding first_into

@@ -1,6 +1,6 @@
 -- The laws of `rows_of`, and the only place that knows how its stretch is counted: row i of the first m has source s exactly if
 -- first_row s <= i < first_row (s + 1).
-use Rattle.std.specs.Prelude.{◌≡◌, ℕ, ◌+◌, ◌<◌, ◌≤◌, Bool, true, false, eqb, List, get_or}
+use Rattle.std.specs.Prelude.{◌≡◌, ℕ, ◌+◌, ◌<◌, ◌≤◌, Bool, true, false, eqb, ltb, List, get_or}
 use native.Mathlib.Omega.{arith}
 use borrow.Author.Tests.{eqb-true, eq-eqb}
 use mathlib.Core.Path.{subst, sym}
@@ -9,7 +9,8 @@ use Rattle.columns.proofs.Bools.{fails}
 use Rattle.table.specs.Lts.{Lts, Valid}
 use Rattle.columns.specs.Columns.{NeverFalls}
 use Rattle.table.specs.Stretch.{StretchOf, first_row}
-use Rattle.table.proofs.Counted.{below-is, below_most, below_up, below_next, place_before, place_from, stretch}
+use Rattle.table.proofs.Finds.{FoundFrom}
+use Rattle.table.proofs.Counted.{below-is, below_most, below_up, below_next, place_before, place_from, end-found, stretch}
 use Rattle.table.proofs.Stretches.{rising}
 
 module _ (source : List ℕ) (m : ℕ) where
@@ -40,6 +41,12 @@ module _ (source : List ℕ) (m : ℕ) where
     pub from_row : (s i : ℕ) → i < m → s ≤ get_or source i 0 → first_row source m s ≤ i
     unfolding first_row
     from_row = place_from from m up
+
+    -- the rows of s end at the next row whose source is above s
+    pub rows_end : (s a r : ℕ) → a ≤ first_row source m (s + 1) → FoundFrom a m m (λ i. ltb s (get_or source i 0)) r →
+        r ≡ first_row source m (s + 1)
+    unfolding first_row
+    rows_end = end-found from m up
 
     own_stretch : (s : ℕ) → StretchOf from m s (first_row source m s) (first_row source m (s + 1))
     unfolding first_row
@@ -89,3 +96,13 @@ rows_from t v s first end ef ee =
       own = λ i a b. eq-eqb _ _ ((r.exactly i (omega (arith, b, r.most))).1 (a, b));
       after = λ i a b. fails (λ e. omega (arith, a, (r.exactly i b).0 (eqb-true _ _ e)));
     }
+
+-- a row between the bounds
+pub record Own (t : Lts) (s i : ℕ) : Type 0 where
+  pub below : i < t.m
+  pub own : get_or t.source i 0 ≡ s
+
+pub own_row_in : {t : Lts} {s first end : ℕ} → RowsFrom t s first end → (i : ℕ) → first ≤ i → i < end → Own t s i
+own_row_in {t = t} r i a b =
+    let h : i < t.m = omega (arith, b, r.most) in
+    record { below = h; own = (r.stretch.exactly i h).1 (a, b) }

@@ -1,26 +1,22 @@
 -- What an answer of `outgoing_transitions` says determines it; and a call that says it is done was not refused.
 use Rattle.std.specs.Prelude.{◌≡◌, ℕ, List}
-use mathlib.Core.Path.{ap, sym}
-use Rattle.columns.specs.declared.answers.Refusal.{Refusal}
+use mathlib.Core.Path.{sym}
+use Rattle.columns.specs.Answers.{Refusal}
 use Rattle.columns.specs.Answers.{done, answering, leaving}
 use Rattle.columns.proofs.Doing.{answering_done, leaving_done}
-use Rattle.columns.proofs.Saying.{same-refusal, apart}
-use Rattle.table.specs.declared.transitions.StretchAnswer.{StretchAnswer}
-use Rattle.table.specs.declared.transitions.StretchOutcome.{StretchOutcome}
-use Rattle.table.specs.declared.transitions.StretchOutcome.TheVariants as S
-use Rattle.table.specs.Transitions.{said_stretch_outcome, said_stretch}
+use Rattle.columns.specs.declared.answers.Answer.{Answer}
+use Rattle.columns.proofs.Saying.{same_said}
+use Rattle.table.specs.declared.cores.Stretch.{Stretch}
+use Rattle.table.specs.Transitions.{stretch_values, said_stretch}
 
-same_outcome : (a b : StretchOutcome) → said_stretch_outcome a ≡ said_stretch_outcome b → a ≡ b
-same_outcome (S.Done x z) (S.Done y w) e =
-    let p : x ≡ y = cc in
-    let q : z ≡ w = cc in
-    λ t. S.Done (p t) (q t)
-same_outcome (S.Done x z) (S.Refused q) e = absurd (apart _ _ _ e)
-same_outcome (S.Refused r) (S.Done y w) e = absurd (apart _ _ _ (sym e))
-same_outcome (S.Refused r) (S.Refused q) e = ap S.Refused (same-refusal r q e)
+same_values : (a b : Stretch) → stretch_values a ≡ stretch_values b → a ≡ b
+same_values a b e =
+    let p : a.first ≡ b.first = cc in
+    let q : a.end ≡ b.end = cc in
+    λ i. record { first = p i; end = q i }
 
-pub same-stretch : (a b : StretchAnswer) → said_stretch a ≡ said_stretch b → a ≡ b
-same-stretch a b e = λ t. record { outcome = same_outcome a.outcome b.outcome e t }
+pub same-stretch : (a b : Answer Stretch) → said_stretch a ≡ said_stretch b → a ≡ b
+same-stretch = same_said stretch_values same_values
 
 -- ---- a call that is done was not refused: `answering_done` and `leaving_done` of columns, turned round
 -- one that only asks says its values

@@ -7,7 +7,7 @@ use borrow.Author.Tests.{ltb-true, eqb-true, eq-eqb}
 use mathlib.Core.Path.{ap, ◌∙◌}
 use mathlib.Core.Logic.{⊎_elim}
 use Rattle.columns.specs.Sets.{Pair, row_lt, pair_lt}
-use Rattle.columns.proofs.All.{not-below}
+use Rattle.columns.proofs.All.{not-below, lt-or-le}
 use Rattle.columns.proofs.Bools.{contra}
 use Rattle.columns.proofs.Counting.{first_law}
 use Rattle.columns.proofs.Orders.{lex-split, lex-first, lex_second, ltb_order, pair_order}
@@ -15,6 +15,7 @@ use Rattle.columns.specs.Rows.{row_in}
 use Rattle.table.specs.Lts.{Lts, row_at, Valid}
 use Rattle.columns.specs.Columns.{NeverFalls}
 use Rattle.table.specs.Stretch.{next_incoming}
+use Rattle.table.proofs.Finds.{FoundFrom}
 
 -- ---- along the rows
 -- the sources of a checked table never fall
@@ -54,12 +55,23 @@ module _ (target : List ℕ) (m u from : ℕ) (fits : from ≤ m) where
       whole h = omega arith
 
   -- and no other number is
-  pub next-is : (r : ℕ) → NextInto target m u from r → r ≡ next_incoming target m u from
+  next-is : (r : ℕ) → NextInto target m u from r → r ≡ next_incoming target m u from
   next-is r n =
       let q = next_law in
       le_antisymm
       (not-below (λ l. n.before (next_incoming target m u from) q.low l (q.hit (omega (arith, l, n.most)))))
       (not-below (λ l. q.before r n.low l (n.hit (omega (arith, l, q.most)))))
+
+  -- it is found from `from` on
+  pub next_found : (r : ℕ) → FoundFrom from m m (λ i. eqb (get_or target i 0) u) r → r ≡ next_incoming target m u from
+  next_found r f =
+      next-is r
+      record {
+        low = ⊎_elim (λ (l : r < m). f.low l) (λ (l : m ≤ r). omega arith) (lt-or-le r m);
+        most = f.most;
+        before = λ i a b e. contra (eq-eqb _ _ e) (f.before i a (omega (arith, b, f.most)) b);
+        hit = λ l. eqb-true _ _ (f.hit l);
+      }
 
 -- so the incoming rows of a state come by ascending source, then label
 pub incoming_up :

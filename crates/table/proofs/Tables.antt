@@ -1,7 +1,7 @@
 -- Rows as a table, in columns of their own or over the front of lent ones: the table has these rows, and is valid where they ascend
 -- within its bounds. And what an answer with a header says determines it.
 use Rattle.std.specs.Prelude.{◌≡◌, ℕ, ◌<◌, ◌≤◌, List, length, get_or}
-use mathlib.Core.Path.{sym, ap, subst, ◌∙◌}
+use mathlib.Core.Path.{sym, subst, ◌∙◌}
 use native.Mathlib.Omega.{arith}
 use lib.ListN.{length-append, length-map}
 use Rattle.columns.proofs.ThreeColumns.{rows_columns}
@@ -11,12 +11,11 @@ use Rattle.columns.specs.Rows.{first_of, second_of, third_of, rows_of, row_in}
 use Rattle.columns.specs.Sets.{Row, row_lt, Ascending, StepIn}
 use Rattle.columns.proofs.Lists.{length-listed, listed_cong, over_front}
 use Rattle.columns.proofs.Risings.{of_ascending}
-use Rattle.columns.proofs.Saying.{same-refusal, apart}
-use Rattle.table.specs.declared.answers.TableAnswer.{TableAnswer}
-use Rattle.table.specs.declared.answers.TableOutcome.{TableOutcome}
-use Rattle.table.specs.declared.answers.TableOutcome.TheVariants as T
+use Rattle.columns.specs.declared.answers.Answer.{Answer}
+use Rattle.columns.proofs.Saying.{same_said}
+use Rattle.table.specs.declared.Table.{Table}
 use Rattle.table.specs.Lts.{Lts, rows, Step, RowsLong, Valid}
-use Rattle.table.specs.Tables.{table_by, table_of, said_table_outcome, said_table}
+use Rattle.table.specs.Tables.{table_by, table_of, header_values, said_table}
 use Rattle.table.proofs.Rows.{row_step}
 
 pub rows-length : (t : Lts) → length (rows t) ≡ t.m
@@ -115,11 +114,13 @@ module _ (n labels initial : ℕ) (l : List Row) (x y z : List ℕ) where
       inside up
 
 -- ---- an answer with a header
-same_outcome : (a b : TableOutcome) → said_table_outcome a ≡ said_table_outcome b → a ≡ b
-same_outcome (T.Done n l m i) (T.Done n₁ l₁ m₁ i₁) e = cc
-same_outcome (T.Done n l m i) (T.Refused q) e = absurd (apart _ _ _ e)
-same_outcome (T.Refused r) (T.Done n l m i) e = absurd (apart _ _ _ (sym e))
-same_outcome (T.Refused r) (T.Refused q) e = ap T.Refused (same-refusal r q e)
+same_values : (a b : Table) → header_values a ≡ header_values b → a ≡ b
+same_values a b e =
+    let n : a.n ≡ b.n = cc in
+    let l : a.labels ≡ b.labels = cc in
+    let m : a.m ≡ b.m = cc in
+    let z : a.initial ≡ b.initial = cc in
+    λ i. record { n = n i; labels = l i; m = m i; initial = z i }
 
-pub same_table : (a b : TableAnswer) → said_table a ≡ said_table b → a ≡ b
-same_table a b e = λ t. record { outcome = same_outcome a.outcome b.outcome e t }
+pub same_table : (a b : Answer Table) → said_table a ≡ said_table b → a ≡ b
+same_table = same_said header_values same_values

@@ -1,7 +1,7 @@
 -- The refusals of the calls that take a table, in document 01's order.
 use Rattle.std.specs.Prelude.{ℕ, ◌+◌, ◌-◌, Bool, not, ◌&&◌, ◌||◌, List, [], ◌∷◌, ◌++◌, length, ◌==◌, nat_le, nat_lt, slice_index}
 use Rattle.columns.specs.Limits.{max_rows, not_above, too_short, wrong_field, wrong_initial, wrong_rows}
-use Rattle.columns.specs.declared.answers.Refusal.{Refusal}
+use Rattle.columns.specs.Answers.{Refusal}
 use Rattle.columns.specs.Counting.{first}
 use Rattle.columns.specs.Due.{Test, test, due, all_long, states_test, labels_test, index_test}
 use Rattle.columns.specs.Sets.{row_lt}

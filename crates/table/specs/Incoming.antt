@@ -1,6 +1,6 @@
 -- The incoming list: all row numbers by target, then source, then label.
 use Rattle.std.specs.Prelude.{ℕ, ◌&&◌, List, [], ◌∷◌, length, nat_le}
-use Rattle.columns.specs.declared.answers.Refusal.{Refusal}
+use Rattle.columns.specs.Answers.{Refusal}
 use Rattle.columns.specs.Answers.{Said, leaving}
 use Rattle.columns.specs.Columns.{listed, over, sort_by, cleared}
 use Rattle.columns.specs.Due.{due, all_long}

@@ -3,6 +3,7 @@ use Rattle.std.specs.Prelude.{◌≡◌, ℕ, ◌<◌, ◌≤◌, true, List, le
 use Rattle.columns.specs.Limits.{max_labels, max_rows, max_states}
 use Rattle.columns.specs.Rows.{row_in, rows_of}
 use Rattle.columns.specs.Sets.{Row, StepIn, row_lt}
+use Rattle.table.specs.declared.Lts as code
 use Rattle.table.specs.declared.Table.{Table}
 
 -- a header, and three columns whose first m cells are the rows
@@ -18,6 +19,10 @@ pub record Lts : Type 0 where
 abbrev pub lts : Table → List ℕ → List ℕ → List ℕ → Lts
 lts t source label target =
     record { n = t.n; labels = t.labels; m = t.m; initial = t.initial; source = source; label = label; target = target }
+
+-- the table that is lent to be read
+abbrev pub lts_of : code.Lts → Lts
+lts_of t = lts t.table t.source.now t.label.now t.target.now
 
 -- row i of the table: (source, (label, target))
 abbrev pub row_at : Lts → ℕ → Row

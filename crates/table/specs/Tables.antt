@@ -1,12 +1,11 @@
 -- A list of rows as a table, and over three lent columns; and what an answer says that holds the header of a table.
 use Rattle.std.specs.Prelude.{ℕ, List, [], ◌∷◌, length}
-use Rattle.columns.specs.Answers.{Said, done, refused}
+use Rattle.columns.specs.declared.answers.Answer.{Answer}
+use Rattle.columns.specs.Answers.{Said, said_by}
 use Rattle.columns.specs.Columns.{over}
 use Rattle.columns.specs.Rows.{first_of, second_of, third_of}
 use Rattle.columns.specs.Sets.{Row}
-use Rattle.table.specs.declared.answers.TableAnswer.{TableAnswer}
-use Rattle.table.specs.declared.answers.TableOutcome.{TableOutcome}
-use Rattle.table.specs.declared.answers.TableOutcome.TheVariants as T
+use Rattle.table.specs.declared.Table.{Table}
 use Rattle.table.specs.Lts.{Lts}
 
 -- three columns of rows: sources, labels and targets
@@ -41,9 +40,8 @@ unfoldable pub table_of : ℕ → ℕ → ℕ → List Row → Lts
 table_of n labels initial l = table_by n labels (length l) initial (columns_of l)
 
 -- n, labels, m and the initial state
-abbrev pub said_table_outcome : TableOutcome → Said
-said_table_outcome (T.Done n labels m initial) = done (n ∷ labels ∷ m ∷ initial ∷ [])
-said_table_outcome (T.Refused r) = refused r.number r.place
+abbrev pub header_values : Table → List ℕ
+header_values t = t.n ∷ t.labels ∷ t.m ∷ t.initial ∷ []
 
-abbrev pub said_table : TableAnswer → Said
-said_table a = said_table_outcome a.outcome
+abbrev pub said_table : Answer Table → Said
+said_table a = said_by header_values a

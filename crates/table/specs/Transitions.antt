@@ -1,22 +1,19 @@
 -- The calls that name the rows of a state: those that leave it, as a run, and those that lead to it, one after the other.
-use Rattle.std.specs.Prelude.{ℕ, ◌+◌, true, [], ◌∷◌, ◌++◌}
-use Rattle.columns.specs.declared.answers.Refusal.{Refusal}
-use Rattle.columns.specs.Answers.{Said, done, refused, answering}
+use Rattle.std.specs.Prelude.{ℕ, ◌+◌, true, List, [], ◌∷◌, ◌++◌}
+use Rattle.columns.specs.declared.answers.Answer.{Answer}
+use Rattle.columns.specs.Answers.{Refusal, Said, answering, said_by}
 use Rattle.columns.specs.Due.{due, index_test}
-use Rattle.table.specs.declared.transitions.StretchAnswer.{StretchAnswer}
-use Rattle.table.specs.declared.transitions.StretchOutcome.{StretchOutcome}
-use Rattle.table.specs.declared.transitions.StretchOutcome.TheVariants as S
+use Rattle.table.specs.declared.cores.Stretch.{Stretch}
 use Rattle.table.specs.Lts.{Lts}
 use Rattle.table.specs.Checks.{rows_long, bad_row, table_tests, table_argument_refusal}
 use Rattle.table.specs.Stretch.{first_row, next_incoming}
 
 -- the first row of a run, and the row after its last
-abbrev pub said_stretch_outcome : StretchOutcome → Said
-said_stretch_outcome (S.Done first end) = done (first ∷ end ∷ [])
-said_stretch_outcome (S.Refused r) = refused r.number r.place
+abbrev pub stretch_values : Stretch → List ℕ
+stretch_values r = r.first ∷ r.end ∷ []
 
-abbrev pub said_stretch : StretchAnswer → Said
-said_stretch a = said_stretch_outcome a.outcome
+abbrev pub said_stretch : Answer Stretch → Said
+said_stretch a = said_by stretch_values a
 
 -- the table's refusals, then 8 for a state that is not below n, and for a row above m
 unfoldable pub next_refusal : Lts → ℕ → ℕ → Refusal

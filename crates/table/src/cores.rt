@@ -4,33 +4,22 @@ ghost use Rattle.columns.specs.Columns.{listed, over, sort_by, wiped, NeverFalls
 ghost use Rattle.columns.specs.Counting.{many, bit};
 ghost use Rattle.columns.specs.Rows.{first_of, row_set};
 ghost use Rattle.table.specs.Hidden.{hidden_in};
-ghost use Rattle.table.specs.Lts.{Lts, lts, Valid};
+ghost use Rattle.table.specs.Lts.{lts, lts_of, Valid};
 ghost use Rattle.table.specs.Reach.{takes, edge, reaches};
 ghost use Rattle.table.specs.Search.{Search, appended};
 ghost use Rattle.table.specs.Stretch.{ByTarget, StartsOf, first_row, first_into, next_incoming};
 ghost use Rattle.table.specs.Turned.{RowsTurned, TurnedWithStarts};
 
-use crate::Table;
+use crate::{Lts, Table};
 use columns::cells::{at, clear, count_up};
-use columns::rows::row_set;
-use columns::sorting::sort;
+use columns::sorting::Keys;
 
 // Where the rows of s begin: how many of the first m rows have a source below s.
 fn first_row(source: &[u16], m: usize, s: usize) -> usize
     requires { (m ≤ length source.now) × NeverFalls source.now m }
     ensures { result ≡ first_row source.now m s }
 {
-    let mut low = 0;
-    let mut high = m;
-    while low < high {
-        let mid = low + (high - low) / 2;
-        if at(source, mid) < s {
-            low = mid + 1;
-        } else {
-            high = mid;
-        }
-    }
-    low
+    source[..m].partition_point(|&x| (x as usize) < s)
 }
 
 // Where the rows of s end, found from a row at or before that: the next row whose source is above s, or m.
@@ -38,14 +27,7 @@ fn run_end(source: &[u16], m: usize, s: usize, from: usize) -> usize
     requires { (m ≤ length source.now) × NeverFalls source.now m × (from ≤ first_row source.now m (s + 1)) }
     ensures { result ≡ first_row source.now m (s + 1) }
 {
-    let mut i = from;
-    while i < m {
-        if s < at(source, i) {
-            return i;
-        }
-        i += 1;
-    }
-    i
+    (from..m).find(|&i| s < at(source, i)).unwrap_or(m)
 }
 
 // A run of rows, or of places in a list of rows: those from `first` to before `end`.
@@ -70,12 +52,10 @@ fn list_starts(source: &[u16], m: usize, starts: &mut [u16])
     requires { (m ≤ length source.now) × NeverFalls source.now m × (m < 65536) }
     ensures { starts.new ≡ listed (length starts.old) (first_row source.now m) }
 {
-    let mut s = 0;
     let mut i = 0;
-    while s < starts.len() {
-        starts[s] = i as u16;
+    for (s, start) in starts.iter_mut().enumerate() {
+        *start = i as u16;
         i = run_end(source, m, s, i);
-        s += 1;
     }
 }
 
@@ -117,15 +97,9 @@ fn into_end(target: &[u16], order: &[u16], h: usize, u: usize, from: usize) -> u
     requires { ByTarget target.now order.now h × (from ≤ first_into target.now order.now h (u + 1)) }
     ensures { result ≡ first_into target.now order.now h (u + 1) }
 {
-    let mut k = from;
-    while k < h {
-        let i = at(order, k);
-        if u < at(target, i) {
-            return k;
-        }
-        k += 1;
-    }
-    k
+    (from..h)
+        .find(|&k| u < at(target, at(order, k)))
+        .unwrap_or(h)
 }
 
 // The rows into u, as places in a list of h rows by target: the incoming list, or a part of it. Their beginning is searched for, and the
@@ -145,14 +119,7 @@ pub fn next_incoming(target: &[u16], m: usize, u: usize, from: usize) -> usize
     requires { (m ≤ length target.now) × (from ≤ m) }
     ensures { result ≡ next_incoming target.now m u from }
 {
-    let mut i = from;
-    while i < m {
-        if at(target, i) == u {
-            return i;
-        }
-        i += 1;
-    }
-    i
+    (from..m).find(|&i| at(target, i) == u).unwrap_or(m)
 }
 
 // The numbers of the first rows, as many as `order` has cells, by target, then source, then label. Of `spare` the first cells are
@@ -169,7 +136,12 @@ pub fn sort_incoming(
     ensures spare_value { spare.new ≡ wiped (length order.old / 2) spare.old }
 {
     count_up(&mut *order);
-    sort(target, source, label, order, spare);
+    let keys = Keys {
+        first: target,
+        second: source,
+        third: label,
+    };
+    keys.sort(order, spare);
 }
 
 // Whether row i is taken: any row, or a hidden one only.
@@ -177,10 +149,7 @@ pub fn taken(label: &[u16], hidden: bool, i: usize) -> bool
     requires { i < length label.now }
     ensures { result ≡ takes hidden (slice_index label.now i) }
 {
-    if !hidden {
-        return true;
-    }
-    if at(label, i) == 0 { true } else { false }
+    !hidden || at(label, i) == 0
 }
 
 // Whether row i is hidden, and the state that it has in the column `ends`, its target or its source, is one of block b.
@@ -208,159 +177,119 @@ pub fn append(u: usize, marks: &mut [u16], queue: &mut [u16], tail: usize) -> us
     tail + 1
 }
 
-// Marks what the state at `head` of the queue leads to, and appends what is new. Returns the queue's new length.
-fn visit(
-    table: Table,
-    source: &[u16],
-    label: &[u16],
-    target: &[u16],
-    starts: &[u16],
-    hidden: bool,
-    marks: &mut [u16],
-    queue: &mut [u16],
-    head: usize,
-    tail: usize,
-) -> usize
-    requires valid { Valid (lts table source.now label.now target.now) × (head < tail) × StartsOf source.now table.m starts.now }
-    requires fact { let system = lts table source.now label.now target.now in
-        Search (edge system hidden) table.n (slice_index queue.old 0) marks.old queue.old head tail }
-    ensures { let system = lts table source.now label.now target.now in
-        Search (edge system hidden) table.n (slice_index queue.old 0) marks.new queue.new (head + 1) result }
-{
-    let m = table.m as usize;
-    let s = at(&*queue, head);
-    let rows = rows_at(source, m, starts, s);
-    let mut i = rows.first;
-    let end = rows.end;
-    let mut high = tail;
-    while i < end {
-        if taken(label, hidden, i) {
-            let u = at(target, i);
-            high = append(u, &mut *marks, &mut *queue, high);
-            i += 1;
-        } else {
-            i += 1;
+impl Lts<'_> {
+    // Marks what the state at `head` of the queue leads to, and appends what is new. Returns the queue's new length.
+    fn visit(
+        &self,
+        starts: &[u16],
+        hidden: bool,
+        marks: &mut [u16],
+        queue: &mut [u16],
+        head: usize,
+        tail: usize,
+    ) -> usize
+        requires valid { Valid (lts_of self.now) × (head < tail) × StartsOf self.now.source.now self.now.table.m starts.now }
+        requires fact { Search (edge (lts_of self.now) hidden) self.now.table.n (slice_index queue.old 0) marks.old queue.old head tail }
+        ensures { Search (edge (lts_of self.now) hidden) self.now.table.n (slice_index queue.old 0) marks.new queue.new (head + 1) result }
+    {
+        let s = at(queue, head);
+        let rows = rows_at(self.source, self.table.m as usize, starts, s);
+        let mut high = tail;
+        for i in rows.first..rows.end {
+            if taken(self.label, hidden, i) {
+                high = append(at(self.target, i), marks, queue, high);
+            }
+        }
+        high
+    }
+
+    // The states that a state reaches, along all rows or hidden rows only: 1 for each in `marks`, 0 for each other. Returns how
+    // many. The rows of a state are read off `starts`, or searched for where that has no cell for them. The first n cells of `queue`
+    // are used.
+    pub fn reach(
+        &self,
+        starts: &[u16],
+        hidden: bool,
+        state: usize,
+        marks: &mut [u16],
+        queue: &mut [u16],
+    ) -> usize
+        requires valid { Valid (lts_of self.now) × (state < self.now.table.n) × StartsOf self.now.source.now self.now.table.m starts.now }
+        requires marks_len { (length marks.old ≡ self.now.table.n) × (self.now.table.n ≤ length queue.old) }
+        ensures value { result ≡ many self.now.table.n (reaches (lts_of self.now) hidden state) }
+        ensures marks_value { marks.new ≡ listed self.now.table.n (λ u. bit (reaches (lts_of self.now) hidden state u)) }
+    {
+        clear(&mut *marks);
+        marks[state] = 1;
+        queue[0] = state as u16;
+        let mut head = 0;
+        let mut tail = 1;
+        while head < tail {
+            tail = self.visit(starts, hidden, &mut *marks, &mut *queue, head, tail);
+            head += 1;
+        }
+        tail
+    }
+
+    // The rows turned round, ascending again, over the first cells of the three columns named `back`: along them lead the ways back.
+    // Returns their header. Behind the first m cells of `back_label` and `back_target` stands where the rows of each state begin, turned
+    // round and as they are. The cells of `order` and `spare` that are used are zero then.
+    pub fn turn_rows(
+        &self,
+        back_source: &mut [u16],
+        back_label: &mut [u16],
+        back_target: &mut [u16],
+        order: &mut [u16],
+        spare: &mut [u16],
+    ) -> Table
+        requires valid { Valid (lts_of self.now) }
+        requires m_in_bounds { (self.now.table.m ≤ length back_source.old) × (self.now.table.m ≤ length back_label.old) }
+        requires m_in_bounds_2 { (self.now.table.m ≤ length back_target.old) × (self.now.table.m ≤ length order.old)
+            × (self.now.table.m ≤ 2 * length spare.old + 1) }
+        ensures fact { TurnedWithStarts (lts_of self.now) (lts result back_source.new back_label.new back_target.new) }
+        ensures order_value { (order.new ≡ wiped self.now.table.m order.old) × (spare.new ≡ wiped (self.now.table.m / 2) spare.old) }
+        ensures back_source_value { let turned = row_set self.now.table.m self.now.target.now self.now.label.now self.now.source.now in
+            back_source.new ≡ over (first_of turned) back_source.old }
+        ensures labels_value { (result.labels ≡ self.now.table.labels) × (result.initial ≡ self.now.table.initial) }
+    {
+        let m = self.table.m as usize;
+        let turned = Keys {
+            first: self.target,
+            second: self.label,
+            third: self.source,
+        };
+        let r = turned.row_set(
+            m,
+            &mut *back_source,
+            &mut *back_label,
+            &mut *back_target,
+            order,
+            spare,
+        );
+        list_starts(&*back_source, r, &mut back_label[m..]);
+        list_starts(self.source, m, &mut back_target[m..]);
+        Table {
+            m: r as u16,
+            ..self.table
         }
     }
-    high
-}
 
-// The states that a state reaches, along all rows or hidden rows only: 1 for each in `marks`, 0 for each other. Returns how
-// many. The rows of a state are read off `starts`, or searched for where that has no cell for them. The first n cells of `queue` are used.
-pub fn reach(
-    table: Table,
-    source: &[u16],
-    label: &[u16],
-    target: &[u16],
-    starts: &[u16],
-    hidden: bool,
-    state: usize,
-    marks: &mut [u16],
-    queue: &mut [u16],
-) -> usize
-    requires valid { Valid (lts table source.now label.now target.now) × (state < table.n) × StartsOf source.now table.m starts.now }
-    requires marks_len { (length marks.old ≡ table.n) × (table.n ≤ length queue.old) }
-    ensures value { result ≡ many table.n (reaches (lts table source.now label.now target.now) hidden state) }
-    ensures marks_value { marks.new ≡ listed table.n (λ u. bit (reaches (lts table source.now label.now target.now) hidden state u)) }
-{
-    clear(&mut *marks);
-    marks[state] = 1;
-    queue[0] = state as u16;
-    let mut head = 0;
-    let mut tail = 1;
-    while head < tail {
-        tail = visit(
-            table,
-            source,
-            label,
-            target,
-            starts,
-            hidden,
-            &mut *marks,
-            &mut *queue,
-            head,
-            tail,
-        );
-        head += 1;
+    // Of rows turned round: the states that reach a state of the table t that was turned, along all rows or hidden rows only: 1 for each in
+    // `marks`, 0 for each other. `reach` goes along the turned rows. Returns how many. The first n cells of `queue` are used.
+    pub fn reach_back(
+        &self,
+        starts: &[u16],
+        hidden: bool,
+        state: usize,
+        marks: &mut [u16],
+        queue: &mut [u16],
+    ) -> usize
+        requires valid { Valid (lts_of self.now) × (state < self.now.table.n) }
+        requires marks_len { (length marks.old ≡ self.now.table.n) × (self.now.table.n ≤ length queue.old) }
+        requires starts_of { StartsOf self.now.source.now self.now.table.m starts.now }
+        ensures value { (t : _) → RowsTurned t (lts_of self.now) → result ≡ many t.n (λ s. reaches t hidden s state) }
+        ensures marks_value { (t : _) → RowsTurned t (lts_of self.now) → marks.new ≡ listed t.n (λ s. bit (reaches t hidden s state)) }
+    {
+        self.reach(starts, hidden, state, marks, queue)
     }
-    tail
-}
-
-// The rows turned round, ascending again, over the first cells of the three columns named `back`: along them lead the ways back. Returns
-// their table. Behind the first m cells of `back_label` and `back_target` stands where the rows of each state begin, turned round and as
-// they are. The cells of `order` and `spare` that are used are zero then.
-pub fn turn_rows(
-    table: Table,
-    source: &[u16],
-    label: &[u16],
-    target: &[u16],
-    back_source: &mut [u16],
-    back_label: &mut [u16],
-    back_target: &mut [u16],
-    order: &mut [u16],
-    spare: &mut [u16],
-) -> Table
-    requires valid { Valid (lts table source.now label.now target.now) }
-    requires m_in_bounds { (table.m ≤ length back_source.old) × (table.m ≤ length back_label.old) }
-    requires m_in_bounds_2 { (table.m ≤ length back_target.old) × (table.m ≤ length order.old) × (table.m ≤ 2 * length spare.old + 1) }
-    ensures fact { let back = lts result back_source.new back_label.new back_target.new in
-        TurnedWithStarts (lts table source.now label.now target.now) back }
-    ensures order_value { (order.new ≡ wiped table.m order.old) × (spare.new ≡ wiped (table.m / 2) spare.old) }
-    ensures back_source_value { back_source.new ≡ over (first_of (row_set table.m target.now label.now source.now)) back_source.old }
-    ensures labels_value { (result.labels ≡ table.labels) × (result.initial ≡ table.initial) }
-{
-    let m = table.m as usize;
-    let r = row_set(
-        target,
-        label,
-        source,
-        m,
-        &mut *back_source,
-        &mut *back_label,
-        &mut *back_target,
-        order,
-        spare,
-    );
-    list_starts(&*back_source, r, &mut back_label[m..]);
-    list_starts(source, m, &mut back_target[m..]);
-    Table {
-        n: table.n,
-        labels: table.labels,
-        m: r as u16,
-        initial: table.initial,
-    }
-}
-
-// The states that reach a state of a table t, along all rows or hidden rows only: 1 for each in `marks`, 0 for each other. Taken are the
-// rows of t turned round, and `reach` goes along them. Returns how many. The first n cells of `queue` are used.
-pub fn reach_back(
-    back: Table,
-    back_source: &[u16],
-    back_label: &[u16],
-    back_target: &[u16],
-    back_starts: &[u16],
-    hidden: bool,
-    state: usize,
-    marks: &mut [u16],
-    queue: &mut [u16],
-) -> usize
-    requires valid { Valid (lts back back_source.now back_label.now back_target.now) × (state < back.n) }
-    requires marks_len { (length marks.old ≡ back.n) × (back.n ≤ length queue.old) }
-    requires starts_of { StartsOf back_source.now back.m back_starts.now }
-    ensures value { (t : Lts) → RowsTurned t (lts back back_source.now back_label.now back_target.now)
-        → result ≡ many t.n (λ s. reaches t hidden s state) }
-    ensures marks_value { (t : Lts) → RowsTurned t (lts back back_source.now back_label.now back_target.now)
-        → marks.new ≡ listed t.n (λ s. bit (reaches t hidden s state)) }
-{
-    reach(
-        back,
-        back_source,
-        back_label,
-        back_target,
-        back_starts,
-        hidden,
-        state,
-        marks,
-        queue,
-    )
 }

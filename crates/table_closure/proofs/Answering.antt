@@ -1,12 +1,14 @@
 -- What a call of `mark_backward_closure` goes by that is not refused, and its two ways out.
-use Rattle.std.specs.Prelude.{◌≡◌, ℕ, ◌+◌, ◌<◌, ◌≤◌, List, [], ◌∷◌, length}
+use Rattle.std.specs.Prelude.{◌≡◌, ℕ, ◌+◌, ◌<◌, ◌≤◌, Bool, List, [], ◌∷◌, length}
+use mathlib.Core.Path.{ap, ◌∙◌}
 use Rattle.columns.specs.Answers.{Said, done, refused}
 use Rattle.columns.specs.Columns.{zeros}
-use Rattle.columns.specs.declared.answers.Refusal.{Refusal}
+use Rattle.columns.specs.Answers.{Refusal}
 use Rattle.columns.proofs.Rooms.{roomy_of}
 use Rattle.columns.proofs.Saying.{left_refused, left_done}
 use Rattle.table_closure.specs.Closure.{closure_refusal, close, mark_backward_closure}
 use Rattle.partition.specs.Partition.{Partition, Sound}
+use Rattle.table_partition.specs.Checks.{both_argument_refusal}
 use Rattle.table_partition.proofs.Refusals.{both_ready}
 use Rattle.table.specs.Checks.{works_long}
 use Rattle.table.specs.Lts.{Lts, Valid}
@@ -17,6 +19,12 @@ pub record ClosureReady (t : Lts) (p : Partition) (b order spare : ℕ) : Type 0
   pub known : b < p.count
   pub orders : t.n + t.m + 1 ≤ order
   pub spares : t.n + t.m + 1 ≤ spare
+
+-- what the checks answer, with the lengths of the work slices as they are
+pub closure_checked : (t : Lts) (p : Partition) (b order spare : ℕ) (room : Bool) {r : Refusal} → r ≡ both_argument_refusal t p b p.count room
+    → room ≡ works_long t (order ∷ spare ∷ []) → r ≡ closure_refusal t p b order spare
+unfolding closure_refusal
+closure_checked t p b order spare room e f = e ∙ ap (both_argument_refusal t p b p.count) f
 
 pub closure_ready :
     (t : Lts) (p : Partition) → p.n ≡ t.n → (b order spare : ℕ) (r : Refusal) → r ≡ closure_refusal t p b order spare → r.number ≡ 0

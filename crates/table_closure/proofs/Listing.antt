@@ -7,7 +7,9 @@ use lib.ListN.{length-append}
 use Rattle.columns.specs.Columns.{laid}
 use Rattle.columns.specs.Counting.{many}
 use Rattle.columns.proofs.Bools.{and_no_left, and_no_right}
+use Rattle.columns.proofs.Counting.{many-le, many_strict}
 use Rattle.columns.proofs.Laid.{laid_none, laid_more, length-laid, laid_up}
+use Rattle.columns.proofs.Listing.{Listing}
 use Rattle.columns.proofs.Members.{length-members}
 use Rattle.columns.proofs.Owners.{owned_few}
 use Rattle.columns.proofs.Sums.{sum_cong}
@@ -21,6 +23,22 @@ pub length_inner : (t : Lts) (home : List ℕ) (b s : ℕ) →
     length (inner_rows t home b s) ≡ many t.m (λ i. eqb (get_or t.source i 0) s && innerb t home b i)
 unfolding inner_rows
 length_inner t home b s = length-members (λ i. eqb (get_or t.source i 0) s && innerb t home b i) t.m
+
+-- row j is one of state s that is listed
+abbrev pub own_inner : Lts → List ℕ → ℕ → ℕ → ℕ → Bool
+own_inner t home b s j = eqb (get_or t.source j 0) s && innerb t home b j
+
+module _ (t : Lts) (home : List ℕ) (b s : ℕ) where
+  -- a state has no more of them than the table has rows
+  pub inner_most : length (inner_rows t home b s) ≤ t.m
+  inner_most = omega (arith, length_inner t home b s, many-le t.m (own_inner t home b s))
+
+  -- and where one more comes there is room for it
+  pub inner_fits :
+      (first end h : ℕ) (l₀ : List ℕ) (i k : ℕ) (l : List ℕ) → Listing (own_inner t home b s) first end h l₀ i k l → i < t.m
+      → own_inner t home b s i ≡ true → k < h + length (inner_rows t home b s)
+  inner_fits first end h l₀ i k l p w e =
+      omega (arith, p.exact, many_strict i t.m (own_inner t home b s) w e, length_inner t home b s)
 
 -- a row of state s that is not listed, and if it is visible all behind it
 pub row_skipped :

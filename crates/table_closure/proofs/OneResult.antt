@@ -10,4 +10,4 @@ pub mark_backward_closure_lem : OneResult call_said.ended call.Reads.Learnt
 mark_backward_closure_lem κs a r q x y =
     determined same_answer
     (λ c.
-    skip 5 (c.0.elements, (c.0.element_offset, skip 2 (c.0.marked_split, skip 2 (c.1.0, (c.1.1, tt)))))) r q
+    skip 2 (c.0.elements, (c.0.element_offset, skip 2 (c.0.marked_split, skip 2 (c.1.0, (c.1.1, tt)))))) r q

@@ -1,5 +1,5 @@
 -- The states of a block, and no others, stand at its positions, each once.
-use Rattle.std.specs.Prelude.{◌≡◌, ℕ, ◌+◌, ◌-◌, ◌<◌, ◌≤◌, List, get_or}
+use Rattle.std.specs.Prelude.{◌≡◌, ℕ, ◌<◌, get_or}
 use native.Mathlib.Omega.{arith}
 use mathlib.Core.Path.{ap}
 use Rattle.partition.specs.Partition.{Partition, Sound}
@@ -20,10 +20,3 @@ block_stands p g b h x z ex ez = record {
         g.consistent.places.back s l,
       );
 }
-
--- each position holds a state
-pub stands_state :
-    (n : ℕ) (elements home : List ℕ) (b x z : ℕ) → Stands n elements home b x z → (k : ℕ) → x ≤ k → k < z → get_or elements k 0 < n
-stands_state n elements home b x z s k l h =
-    let at : x + (k - x) ≡ k = omega (arith, l) in
-    omega (arith, ap (λ (i : ℕ). get_or elements i 0) at, s.stand.below (k - x) (omega (arith, l, h)))

@@ -13,13 +13,12 @@ use lib.Seq.{get_or-set_same, get_or-set_other}
 use Rattle.columns.specs.Columns.{listed}
 use Rattle.columns.specs.Rows.{rows_of}
 use Rattle.columns.specs.Sets.{Mem, Row}
-use Rattle.table.specs.Lts.{Lts}
 use Rattle.table.specs.Reach.{takes}
 use Rattle.table.specs.Stretch.{StretchOf}
 use Rattle.columns.proofs.Bools.{and_no_left, and_no_right}
 use Rattle.table_order.specs.Order.{counts, own_counts, succs}
 use Rattle.table_order.specs.Machine.{stack_of, push_all, keep, new_in}
-use Rattle.table_order.specs.Turn.{seen_of, Pushed}
+use Rattle.table_order.specs.Turn.{seen_of, AllPushed}
 use Rattle.table_order.proofs.Turns.{new_in_yes, new_in_no}
 use Rattle.table_order.proofs.Successors.{of_counts}
 
@@ -101,12 +100,11 @@ stack_top i j a e = rw e (stack_cons j a)
 pub record Offer (l marks base stack : List ℕ) (top₀ top : ℕ) : Type 0 where
   pub pushed : stack_of top stack ≡ push_all (keep (new_in marks) l) base
   pub clean : (t : ℕ) → Mem t l → get_or marks t 0 ≡ 1 → ⊥
-  pub from : top₀ ≤ top
   pub most : top ≤ top₀ + length l
 
 offer_none : (marks stack : List ℕ) (top : ℕ) → Offer [] marks (stack_of top stack) stack top top
 unfolding keep push_all
-offer_none marks stack top = record { pushed = refl; clean = λ t p. absurd (Memᴰ.not-nil p); from = omega arith; most = omega arith }
+offer_none marks stack top = record { pushed = refl; clean = λ t p. absurd (Memᴰ.not-nil p); most = omega arith }
 
 module _ (l marks base stack : List ℕ) (top₀ top : ℕ) (o : Offer l marks base stack top₀ top) where
   still_clean : (t : ℕ) → (get_or marks t 0 ≡ 1 → ⊥) → (u : ℕ) → Mem u (l ++ (t ∷ [])) → get_or marks u 0 ≡ 1 → ⊥
@@ -117,7 +115,6 @@ module _ (l marks base stack : List ℕ) (top₀ top : ℕ) (o : Offer l marks b
   offer_old t f g = record {
     pushed = o.pushed ∙ sym (push_old marks l base t (new_in_no marks t f));
     clean = still_clean t g;
-    from = o.from;
     most = omega (arith, o.most, length-append l (t ∷ []));
   }
 
@@ -125,7 +122,6 @@ module _ (l marks base stack : List ℕ) (top₀ top : ℕ) (o : Offer l marks b
   offer_new t e h = record {
     pushed = stack_push top t stack h ∙ (ap (λ (c : List ℕ). t ∷ c) o.pushed ∙ sym (push_new marks l base t (new_in_yes marks t e)));
     clean = still_clean t (λ d. omega (arith, e, d));
-    from = omega (arith, o.from);
     most = omega (arith, o.most, length-append l (t ∷ []));
   }
 
@@ -248,7 +244,7 @@ module _ (hidden : Bool) (source label target : List ℕ) (s : ℕ) where
             → top₀ + length (sofar hidden source label target s m) ≤ room → top < room
         push_fits z base stack top₀ top o room l = omega (arith, push_room z, o.most, l)
 
-        offer_clash : v ≡ 1 → (t : ℕ) × Mem t (S m) × (get_or marks t 0 ≡ 1)
+        pub offer_clash : v ≡ 1 → (t : ℕ) × Mem t (S m) × (get_or marks t 0 ≡ 1)
         unfolding seen_of
         offer_clash z = go (test i) refl e
           where
@@ -259,14 +255,6 @@ module _ (hidden : Bool) (source label target : List ℕ) (s : ℕ) where
               sym q ∙ z,
             )
             go false p q = absurd (omega (arith, q, z))
-
-        pub clash_pushed : v ≡ 1 → (before after : List ℕ) (top : ℕ) → Pushed (sofar hidden source label target s m) marks before after top
-            0
-        clash_pushed z before after top = record {
-          clash = λ _. offer_clash z;
-          clean = λ f. absurd (f refl);
-          pushed = λ f. absurd (f refl);
-        }
 
   -- ---- the rows of s are a stretch
   low : (k : ℕ) → ((i : ℕ) → i < k → get_or source i 0 ≡ s → ⊥) → S k ≡ []
@@ -290,24 +278,13 @@ module _ (hidden : Bool) (source label target : List ℕ) (s : ℕ) where
         rw (low first (λ i h q. omega (arith, h, ((r.exactly i (omega (arith, h, r.low, r.most))).0 q).0))) (offer_none marks stack top)
 
     pub offer_end :
-        (i : ℕ) → i ≡ end → (marks before after : List ℕ) (top high : ℕ) → 0 < top
+        (i : ℕ) → i ≡ end → (marks before after : List ℕ) (top high : ℕ)
         → Offer (sofar hidden source label target s i) marks (stack_of top before) after top high →
-        Pushed (sofar hidden source label target s m) marks before after top high
-    offer_end i q marks before after top high' z o = record {
-      clash = λ q. absurd (omega (arith, o.from, z, q));
-      clean = λ _. subst (λ (k : List ℕ). (t : ℕ) → Mem t k → get_or marks t 0 ≡ 1 → ⊥) e o.clean;
-      pushed = λ _. o.pushed ∙ ap (λ (k : List ℕ). push_all (keep (new_in marks) k) (stack_of top before)) e;
+        AllPushed (sofar hidden source label target s m) marks before after top high
+    offer_end i q marks before after top high' o = record {
+      clean = subst (λ (k : List ℕ). (t : ℕ) → Mem t k → get_or marks t 0 ≡ 1 → ⊥) e o.clean;
+      pushed = o.pushed ∙ ap (λ (k : List ℕ). push_all (keep (new_in marks) k) (stack_of top before)) e;
     }
       where
         e : S i ≡ S m
         e = ap S q ∙ sym (high end m r.most (λ i a b j. omega (arith, a, ((r.exactly i b).0 j).1)))
-
--- ---- a row of the stretch of s
-pub record Own (t : Lts) (s i : ℕ) : Type 0 where
-  pub below : i < t.m
-  pub own : get_or t.source i 0 ≡ s
-
-pub own_row_lem :
-    (t : Lts) (s first end i : ℕ) → StretchOf (λ i. get_or t.source i 0) t.m s first end → first ≤ i → i < end → Own t s i
-own_row_lem t s first end i r a b =
-    let h : i < t.m = omega (arith, b, r.most) in record { below = h; own = (r.exactly i h).1 (a, b) }

@@ -1,13 +1,12 @@
 -- A turn of the code, on columns.
-use Rattle.std.specs.Prelude.{◌≡◌, ℕ, ◌+◌, ◌-◌, ◌<◌, ◌≤◌, Bool, true, false, eqb, List, ◌∷◌, length, get_or, set}
+use Rattle.std.specs.Prelude.{◌≡◌, ℕ, ◌+◌, ◌-◌, ◌<◌, ◌≤◌, Bool, List, ◌∷◌, length, get_or, set}
 use mathlib.Core.Path.{refl, sym, ap, ◌∙◌, subst}
 use native.Mathlib.Omega.{arith}
-use borrow.Author.Tests.{eqb-true, eqb-false}
-use Rattle.columns.proofs.Bools.{contra}
+use Rattle.columns.specs.Sets.{Mem}
 use Rattle.table.specs.Lts.{Lts, Valid}
 use Rattle.table_order.specs.Order.{next}
-use Rattle.table_order.specs.Machine.{stack_of, Machine}
-use Rattle.table_order.specs.Turn.{Pushed, Standing, Turned}
+use Rattle.table_order.specs.Machine.{stack_of, Cycle, Machine}
+use Rattle.table_order.specs.Turn.{AllPushed, Standing, Onward}
 use Rattle.table_order.proofs.Rows.{stack_length, stack_top}
 use Rattle.table_order.proofs.Successors.{inside, irreflexive}
 use Rattle.table_order.proofs.Turns.{
@@ -67,51 +66,30 @@ module _ (t : Lts) (v : Valid t) (hidden : Bool) (marks stack : List ℕ) (top c
     in_marks : x < length marks
     in_marks = omega (arith, b, top_small N t.n t.m bound goal i)
 
-    pub turned_finish : k ≡ 1 → Turned (next t hidden) t.n t.m bound goal marks (stack_of top stack) (set marks x (count + 2))
-        (stack_of (top - 1) stack) (count + 1) false
+    pub turned_finish : k ≡ 1 → Onward (next t hidden) t.n t.m bound goal marks (stack_of top stack) (set marks x (count + 2))
+        (stack_of (top - 1) stack) (count + 1)
     turned_finish e = rw S record {
-      cycle = λ q. absurd (contra q refl);
-      machine = λ _. finish_turn N t.n t.m bound goal i (sym ek ∙ e) in_marks;
-      less = λ _. finish_less N t.n t.m bound goal marks (stack_of (top - 1) stack) x count in_marks (sym ek ∙ e);
+      machine = finish_turn N t.n t.m bound goal i (sym ek ∙ e) in_marks;
+      less = finish_less N t.n t.m bound goal marks (stack_of (top - 1) stack) x count in_marks (sym ek ∙ e);
     }
 
-    pub turned_drop : (k ≡ 0 → ⊥) → (k ≡ 1 → ⊥) → Turned (next t hidden) t.n t.m bound goal marks (stack_of top stack) marks
-        (stack_of (top - 1) stack) count false
+    pub turned_drop : (k ≡ 0 → ⊥) → (k ≡ 1 → ⊥) → Onward (next t hidden) t.n t.m bound goal marks (stack_of top stack) marks
+        (stack_of (top - 1) stack) count
     turned_drop f g = rw S record {
-      cycle = λ q. absurd (contra q refl);
-      machine = λ _. drop_turn N t.n t.m bound goal i (λ q. f (ek ∙ q)) (λ q. g (ek ∙ q));
-      less = λ _. drop_less N t.n t.m bound goal marks (stack_of (top - 1) stack) x;
+      machine = drop_turn N t.n t.m bound goal i (λ q. f (ek ∙ q)) (λ q. g (ek ∙ q));
+      less = drop_less N t.n t.m bound goal marks (stack_of (top - 1) stack) x;
     }
 
-    module _ (e : k ≡ 0) (after : List ℕ) (high : ℕ) (p : Pushed (next t hidden x) (set marks x 1) stack after top high) where
-      turned_cycle : high ≡ 0 → (marks' st' : List ℕ) (count' : ℕ) →
-          Turned (next t hidden) t.n t.m bound goal marks (stack_of top stack) marks' st' count' true
-      turned_cycle z marks' st' count' =
-          let q = p.clash z in
-          record {
-            cycle = λ _. enter_cycle N t.n t.m bound goal (inside t hidden v) (irreflexive t hidden) i (sym ek ∙ e) q.0 q.1
-                q.2;
-            machine = λ q. absurd (contra refl q);
-            less = λ q. absurd (contra refl q);
-          }
+    -- a successor is on the way
+    pub turned_cycle : k ≡ 0 → (u : ℕ) × Mem u (next t hidden x) × (get_or (set marks x 1) u 0 ≡ 1) → Cycle (next t hidden)
+    turned_cycle e p = enter_cycle N t.n t.m bound goal (inside t hidden v) (irreflexive t hidden) i (sym ek ∙ e) p.0 p.1 p.2
 
-      turned_enter : (high ≡ 0 → ⊥) → Turned (next t hidden) t.n t.m bound goal marks (stack_of top stack) (set marks x 1)
-          (stack_of high after) count false
-      turned_enter f = rw (p.pushed f, S) record {
-        cycle = λ q. absurd (contra q refl);
-        machine = λ _.
-            enter_turn N t.n t.m bound goal (inside t hidden v) (irreflexive t hidden) i (sym ek ∙ e) in_marks (p.clean f);
-        less = λ _.
-            enter_less N t.n t.m bound goal (inside t hidden v) (irreflexive t hidden) marks (stack_of (top - 1) stack) x
-            (top_small N t.n t.m bound goal i) in_marks (sym ek ∙ e);
-      }
-
-      -- a cycle was met, or the new successors are pushed
-      pub turned_visit : Turned (next t hidden) t.n t.m bound goal marks (stack_of top stack) (set marks x 1) (stack_of high after)
-          count (eqb high 0)
-      turned_visit = go (eqb high 0) refl
-        where
-          go : (c : Bool) → eqb high 0 ≡ c → Turned (next t hidden) t.n t.m bound goal marks (stack_of top stack) (set marks x 1)
-              (stack_of high after) count c
-          go true q = turned_cycle (eqb-true high 0 q) (set marks x 1) (stack_of high after) count
-          go false q = turned_enter (eqb-false high 0 q)
+    -- the new successors are pushed
+    pub turned_enter : k ≡ 0 → (after : List ℕ) (high : ℕ) → AllPushed (next t hidden x) (set marks x 1) stack after top high →
+        Onward (next t hidden) t.n t.m bound goal marks (stack_of top stack) (set marks x 1) (stack_of high after) count
+    turned_enter e after high p = rw (p.pushed, S) record {
+      machine = enter_turn N t.n t.m bound goal (inside t hidden v) (irreflexive t hidden) i (sym ek ∙ e) in_marks p.clean;
+      less =
+          enter_less N t.n t.m bound goal (inside t hidden v) (irreflexive t hidden) marks (stack_of (top - 1) stack) x
+          (top_small N t.n t.m bound goal i) in_marks (sym ek ∙ e);
+    }

@@ -421,9 +421,6 @@ module _ (next : ℕ → List ℕ) (n m : ℕ) where
     result = λ a. i.result a;
   }
 
-  pub idle_small : {r k : ℕ} {marks : List ℕ} → Idle next n m r marks k → k ≤ n
-  idle_small i = omega (arith, i.count, length-le next n i.order)
-
   -- all are finished: there was no cycle, and the marks have the places
   module _ (source : (s t : ℕ) → Mem t (next s) → s < n) {k : ℕ} {marks : List ℕ} (i : Idle next n m n marks k) where
     pub all_acyclic : Cycle next → ⊥

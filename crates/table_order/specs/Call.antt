@@ -1,6 +1,6 @@
 -- The whole call: what refuses it, what it says, and what it leaves in the columns.
 use Rattle.std.specs.Prelude.{ℕ, Bool, cond, ◌&&◌, List, [], ◌∷◌, length, nat_le}
-use Rattle.columns.specs.declared.answers.Refusal.{Refusal}
+use Rattle.columns.specs.Answers.{Refusal}
 use Rattle.columns.specs.Answers.{Said, done, refused, unless}
 use Rattle.columns.specs.Columns.{written, cleared}
 use Rattle.columns.specs.Due.{due, all_long}

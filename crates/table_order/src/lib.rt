@@ -2,77 +2,43 @@
 #![tactic(auto)]
 
 ghost use Rattle.std.specs.Prelude.{◌≡◌};
-ghost use Rattle.columns.specs.Answers.{said};
+ghost use Rattle.columns.specs.Answers.{checked, said};
 ghost use Rattle.table_order.specs.Call.{sort_refusal, sort_topological};
-ghost use Rattle.table.specs.Lts.{lts};
+ghost use Rattle.table.specs.Lts.{lts_of};
 
 pub mod cores;
 
-use columns::answers::{Answer, Refusal, finished, refuse, refusing};
-use columns::limits::CYCLIC;
-use table::Table;
-use table::checks::{check, works_long};
+use columns::answers::{Answer, Refusal};
+use table::Lts;
 
-// The refusal of a call with the table, a result column of n cells and two work slices, given by their lengths.
-fn sort_refusal(
-    table: Table,
-    source: &[u16],
-    label: &[u16],
-    target: &[u16],
-    places: usize,
-    marks: usize,
-    stack: usize,
-) -> Refusal
-    ensures { result ≡ sort_refusal (lts table source.now label.now target.now) places marks stack }
+// What a call with the table refuses, a result column of n cells and two work slices, given by their lengths.
+fn check_sort(system: &Lts<'_>, places: usize, marks: usize, stack: usize) -> Result<(), Refusal>
+    ensures { checked result ≡ sort_refusal (lts_of system.now) places marks stack }
 {
-    let n = table.n as usize;
-    let room = (n <= places) & works_long(table, &[marks, stack]);
-    check(table, source, label, target, room)
+    let n = system.table.n as usize;
+    system.check((n <= places) & system.table.works_long(&[marks, stack]))
 }
 
 // Each state's place, over the first n cells of `places`: depth first from 0 upward, the last listed successor first, self-loops
 // ignored. Reversed, it is the order of finishing, otherwise its opposite. With `hidden` only rows with label 0 are taken. 11 for
 // a cycle longer than a self-loop.
 pub fn sort_topological(
-    table: Table,
-    source: &[u16],
-    label: &[u16],
-    target: &[u16],
+    system: &Lts<'_>,
     hidden: bool,
     reversed: bool,
     places: &mut [u16],
     marks: &mut [u16],
     stack: &mut [u16],
-) -> Answer
-    ensures { let system = lts table source.now label.now target.now in
-        (said result, (places.new, (marks.new, stack.new))) ≡ sort_topological system hidden reversed places.old marks.old stack.old }
+) -> Answer<()>
+    ensures { (said result, (places.new, (marks.new, stack.new)))
+        ≡ sort_topological (lts_of system.now) hidden reversed places.old marks.old stack.old }
 {
-    let t = sort_refusal(
-        table,
-        source,
-        label,
-        target,
-        places.len(),
-        marks.len(),
-        stack.len(),
-    );
-    let refused = t.number;
-    if refused != 0 {
-        return refusing(t);
+    if let Err(refusal) = check_sort(system, places.len(), marks.len(), stack.len()) {
+        return Answer::refused(refusal);
     }
-    let free = cores::sort_topological(
-        table,
-        source,
-        label,
-        target,
-        hidden,
-        reversed,
-        &mut *places,
-        &mut *marks,
-        &mut *stack,
-    );
-    if free {
-        return finished();
+    if cores::sort_topological(system, hidden, reversed, places, marks, stack) {
+        Answer::done(())
+    } else {
+        Answer::refused(Refusal::Cyclic)
     }
-    refusing(refuse(CYCLIC, 0))
 }

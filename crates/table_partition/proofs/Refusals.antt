@@ -6,7 +6,7 @@ use mathlib.Core.Bool.{Bool, true, ◌&&◌}
 use mathlib.Core.List.{[], ◌∷◌}
 use mathlib.Core.Path.{◌≡◌, refl}
 use Rattle.columns.specs.Limits.{inconsistent}
-use Rattle.columns.specs.declared.answers.Refusal.{Refusal}
+use Rattle.columns.specs.Answers.{Refusal}
 use Rattle.columns.specs.Due.{test, index_test}
 use Rattle.columns.proofs.Bools.{and_left, and_right, and_both}
 use Rattle.columns.proofs.Chains.{Holds, parted, passed_both, holds_both}

@@ -1,7 +1,7 @@
 -- The refusals of the calls that take a table and a partition of its states, in document 01's order.
 use Rattle.std.specs.Prelude.{ℕ, Bool, ◌&&◌, List, [], ◌∷◌, ◌++◌}
 use Rattle.columns.specs.Limits.{inconsistent}
-use Rattle.columns.specs.declared.answers.Refusal.{Refusal}
+use Rattle.columns.specs.Answers.{Refusal}
 use Rattle.columns.specs.Due.{Test, test, due, index_test}
 use Rattle.partition.specs.Partition.{Partition, longb, consistentb}
 use Rattle.table.specs.Checks.{rows_long, bad_row, table_tests}

@@ -1,4 +1,4 @@
-use Rattle.std.proofs.Common.{◌≤◌, length, refl, sym, ◌∙◌, arith}
+use Rattle.std.proofs.Common.{◌≤◌, refl, ◌∙◌, arith}
 use lib.ListN.{length-set}
 use lib.Seq.{length-take-le}
 use Rattle.spelling.proofs.Spelled.{fewest_digits, few_digits, digit_more}
@@ -11,7 +11,7 @@ few : (c : After-digit_count-count) → c.digit_count-count.result ≤ 20
 few c = few_digits _ _ c.ranges.number.fits c.digit_count-count.ensures
 
 pub loop-i-init : goal.loop-i-init
-loop-i-init c = (omega arith, omega arith, digits_none c.digit_count-count.result c.args.number c.args.text.now)
+loop-i-init c = record { room = omega arith; same = digits_none c.digit_count-count.result c.args.number c.args.text.now }
 
 pub bounds-text-i : goal.bounds-text-i
 bounds-text-i c = omega (arith, few (goal.at.bounds-text-i c).After-digit_count-count)
@@ -20,21 +20,22 @@ pub loop-i-preserved : goal.loop-i-preserved
 loop-i-preserved c =
     let l = c.loop-i in
     let n = c.digit_count-count.result in
-    let most : n ≤ 20 = few (goal.at.loop-i-preserved c).After-digit_count-count in (
-      omega arith,
-      simp length-set l.invariant.1,
-      digit_more l.i n l.rest _ l.text (omega arith) l.invariant.0 (omega arith) refl ∙ l.invariant.2,
-    )
+    let most : n ≤ 20 = few (goal.at.loop-i-preserved c).After-digit_count-count in
+    record {
+      room = simp length-set l.invariant.room;
+      same = digit_more l.i n l.rest _ l.text (omega arith) (omega arith) (omega arith) refl ∙ l.invariant.same;
+    }
 
-pub returns-clause-prefix_len : goal.returns-clause-prefix_len
-returns-clause-prefix_len c =
-    let most : c.digit_count-count.result ≤ 20 = few (goal.at.returns-clause-prefix_len c).After-digit_count-count in
-    let room : c.digit_count-count.result ≤ length c.loop-i.text = omega arith in (room, sym (length-take-le _ _ room))
+pub shared_ref_as_front-result : goal.shared_ref_as_front-result
+shared_ref_as_front-result c =
+    let most : c.digit_count-count.result ≤ 20 = few (goal.at.shared_ref_as_front-result c).After-digit_count-count in omega arith
 
 pub returns-clause-upper_bound : goal.returns-clause-upper_bound
-returns-clause-upper_bound c = few (goal.at.returns-clause-upper_bound c).After-digit_count-count
+returns-clause-upper_bound c =
+    let most : c.digit_count-count.result ≤ 20 = few (goal.at.returns-clause-upper_bound c).After-digit_count-count in
+    omega (arith, length-take-le c.digit_count-count.result c.loop-i.text (omega arith))
 
 pub returns-clause-text_value : goal.returns-clause-text_value
 returns-clause-text_value c =
     let l = c.loop-i in
-    digits_all l.i c.digit_count-count.result l.rest c.args.number l.text (omega arith) l.invariant.2 ∙ fewest_digits _ _ c.digit_count-count.ensures
+    digits_all l.i c.digit_count-count.result l.rest c.args.number l.text (omega arith) l.invariant.same ∙ fewest_digits _ _ c.digit_count-count.ensures

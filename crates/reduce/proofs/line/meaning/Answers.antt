@@ -1,47 +1,66 @@
 -- Each arm puts what its refusal means.
-use borrow.Author.Tests.{ne_eqb}
-use Rattle.std.proofs.Common.{sym, ap, arith}
+use Rattle.std.proofs.Common.{◌≡◌, ℕ, List, [], refl, sym, ap, arith}
+use Rattle.columns.specs.Answers.{refusal_of}
+use Rattle.columns.specs.declared.answers.Refusal as code
+use Rattle.columns.specs.declared.answers.Refusal.TheVariants as R
 use Rattle.spelling.proofs.Putting.{put_none, put_as}
 use Rattle.reduce.specs.Line.{meaning}
 use Rattle.reduce.proofs.line.meaning.Goals as goal
 
-pub returns-then-number-eq-WRONG_CONTENTS-clause-put : goal.returns-then-number-eq-WRONG_CONTENTS-clause-put
-unfolding meaning
-returns-then-number-eq-WRONG_CONTENTS-clause-put c = put_as c.put.ensures (ap meaning (sym c.if-number-eq-WRONG_CONTENTS.true))
+abbrev meant : code.Refusal → List ℕ
+meant r = meaning (refusal_of r).number
 
-pub returns-then-number-eq-WRONG_STATES-clause-put : goal.returns-then-number-eq-WRONG_STATES-clause-put
+-- a refusal that no file gets is put as nothing
+other :
+    (r : code.Refusal) → (r ≡ R.WrongStates → ⊥) → (r ≡ R.WrongLabels → ⊥) → (r ≡ R.WrongRows → ⊥) → (r ≡ R.WrongInitial → ⊥)
+    → ((i : ℕ) → r ≡ R.WrongField i → ⊥) → ((i : ℕ) → r ≡ R.NotAbove i → ⊥) → ((i : ℕ) → r ≡ R.WrongContents i → ⊥) → [] ≡ meant r
 unfolding meaning
-returns-then-number-eq-WRONG_STATES-clause-put c = put_as c.put-then-number-eq-WRONG_STATES.ensures (ap meaning (sym c.if-number-eq-WRONG_STATES.true))
+other R.WrongStates a b c d e f g = absurd (a refl)
+other R.WrongLabels a b c d e f g = absurd (b refl)
+other R.WrongRows a b c d e f g = absurd (c refl)
+other R.WrongInitial a b c d e f g = absurd (d refl)
+other (R.WrongField i) a b c d e f g = absurd (e i refl)
+other (R.NotAbove i) a b c d e f g = absurd (f i refl)
+other (R.WrongContents i) a b c d e f g = absurd (g i refl)
+other R.TooShort a b c d e f g = refl
+other (R.OutOfRange i) a b c d e f g = refl
+other (R.NothingMarked i) a b c d e f g = refl
+other (R.NotDense i) a b c d e f g = refl
+other R.Cyclic a b c d e f g = refl
+other (R.NoBottom i) a b c d e f g = refl
+other R.Inconsistent a b c d e f g = refl
+other (R.WrongList i) a b c d e f g = refl
+other (R.NoRoom i) a b c d e f g = refl
 
-pub returns-then-number-eq-WRONG_LABELS-clause-put : goal.returns-then-number-eq-WRONG_LABELS-clause-put
+pub returns-in-WrongContents-clause-put : goal.returns-in-WrongContents-clause-put
 unfolding meaning
-returns-then-number-eq-WRONG_LABELS-clause-put c = put_as c.put-then-number-eq-WRONG_LABELS.ensures (ap meaning (sym c.if-number-eq-WRONG_LABELS.true))
+returns-in-WrongContents-clause-put c = put_as c.put.ensures (ap meant (sym c.in-WrongContents.is))
 
-pub returns-then-number-eq-WRONG_ROWS-clause-put : goal.returns-then-number-eq-WRONG_ROWS-clause-put
+pub returns-in-WrongStates-clause-put : goal.returns-in-WrongStates-clause-put
 unfolding meaning
-returns-then-number-eq-WRONG_ROWS-clause-put c = put_as c.put-then-number-eq-WRONG_ROWS.ensures (ap meaning (sym c.if-number-eq-WRONG_ROWS.true))
+returns-in-WrongStates-clause-put c = put_as c.put-in-WrongStates.ensures (ap meant (sym c.in-WrongStates.is))
 
-pub returns-then-number-eq-WRONG_INITIAL-clause-put : goal.returns-then-number-eq-WRONG_INITIAL-clause-put
+pub returns-in-WrongLabels-clause-put : goal.returns-in-WrongLabels-clause-put
 unfolding meaning
-returns-then-number-eq-WRONG_INITIAL-clause-put c = put_as c.put-then-number-eq-WRONG_INITIAL.ensures (ap meaning (sym c.if-number-eq-WRONG_INITIAL.true))
+returns-in-WrongLabels-clause-put c = put_as c.put-in-WrongLabels.ensures (ap meant (sym c.in-WrongLabels.is))
 
-pub returns-then-number-eq-WRONG_FIELD-clause-put : goal.returns-then-number-eq-WRONG_FIELD-clause-put
+pub returns-in-WrongRows-clause-put : goal.returns-in-WrongRows-clause-put
 unfolding meaning
-returns-then-number-eq-WRONG_FIELD-clause-put c = put_as c.put-then-number-eq-WRONG_FIELD.ensures (ap meaning (sym c.if-number-eq-WRONG_FIELD.true))
+returns-in-WrongRows-clause-put c = put_as c.put-in-WrongRows.ensures (ap meant (sym c.in-WrongRows.is))
 
-pub returns-then-number-eq-NOT_ABOVE-clause-put : goal.returns-then-number-eq-NOT_ABOVE-clause-put
+pub returns-in-WrongInitial-clause-put : goal.returns-in-WrongInitial-clause-put
 unfolding meaning
-returns-then-number-eq-NOT_ABOVE-clause-put c = put_as c.put-then-number-eq-NOT_ABOVE.ensures (ap meaning (sym c.if-number-eq-NOT_ABOVE.true))
+returns-in-WrongInitial-clause-put c = put_as c.put-in-WrongInitial.ensures (ap meant (sym c.in-WrongInitial.is))
 
-pub returns-clause-put : goal.returns-clause-put
+pub returns-in-WrongField-clause-put : goal.returns-in-WrongField-clause-put
 unfolding meaning
-returns-clause-put c =
-    rw (
-      ne_eqb _ 13 c.if-number-eq-WRONG_CONTENTS.false,
-      ne_eqb _ 1 c.if-number-eq-WRONG_STATES.false,
-      ne_eqb _ 2 c.if-number-eq-WRONG_LABELS.false,
-      ne_eqb _ 3 c.if-number-eq-WRONG_ROWS.false,
-      ne_eqb _ 4 c.if-number-eq-WRONG_INITIAL.false,
-      ne_eqb _ 5 c.if-number-eq-WRONG_FIELD.false,
-      ne_eqb _ 6 c.if-number-eq-NOT_ABOVE.false,
-    ) (put_none _ _ (omega arith))
+returns-in-WrongField-clause-put c = put_as c.put-in-WrongField.ensures (ap meant (sym c.in-WrongField.is))
+
+pub returns-in-NotAbove-clause-put : goal.returns-in-NotAbove-clause-put
+unfolding meaning
+returns-in-NotAbove-clause-put c = put_as c.put-in-NotAbove.ensures (ap meant (sym c.in-NotAbove.is))
+
+pub returns-in_default : goal.returns-in_default
+returns-in_default c =
+    let n = c.in_default in
+    record { put = put_as (put_none _ _ (omega arith)) (other _ n.not-WrongStates n.not-WrongLabels n.not-WrongRows n.not-WrongInitial n.not-WrongField n.not-NotAbove n.not-WrongContents); upper_bound = omega arith }

@@ -1,12 +1,14 @@
 -- Each arm writes the text of its case.
+use Rattle.std.proofs.Common.{arith}
 use Rattle.spelling.specs.Texts.{text}
 use Rattle.replay_lines.proofs.Putting.{puts_as, puts_then}
 use Rattle.replay_lines.proofs.Telling.{told_refused, told_done}
 use Rattle.replay_lines.proofs.output.said.Goals as goal
 
-pub returns-then-said : goal.returns-then-said
-returns-then-said c = puts_as _ _ _ c.refused.ensures (told_refused c.args.said c.if-said.true)
+pub returns-in-Err : goal.returns-in-Err
+returns-in-Err c = puts_as _ _ _ c.refused.ensures (told_refused _ _ c.in-Err.is)
 
-pub returns : goal.returns
+pub returns-in-Ok : goal.returns-in-Ok
 unfolding text
-returns c = puts_as _ _ _ (puts_then (text "done") _ _ c.word-at.ensures c.numbers.ensures) (told_done c.args.said c.if-said.false)
+returns-in-Ok c = puts_as _ _ _ (puts_then (text "done") _ _ c.word-at.ensures c.numbers.ensures)
+    (told_done _ _ _ c.in-Ok.is c.min.ensures (omega arith))

@@ -1,0 +1,27 @@
+-- What a list of operations says of a name.
+use Rattle.std.specs.Prelude.{ℕ, List, Bool, Option, find}
+use Rattle.std.specs.Borrow.{Bor}
+use Rattle.std.specs.Str.{bytes_eq}
+use Rattle.std.specs.Option.{option_map}
+use Rattle.replay_calls.specs.declared.operations.Operation.{Operation}
+use Rattle.replay_calls.specs.declared.operations.Found.{Found}
+
+-- an operation in a list: its name, the kinds of its parameters, and which it is
+abbrev pub Entry : Type 0
+Entry = Bor (List ℕ) × Bor (List ℕ) × Operation
+
+-- whether an entry has a name
+abbrev pub has_name : List ℕ → Entry → Bool
+has_name name (listed, kinds, operation) = bytes_eq listed.now name
+
+-- what an entry says beside its name
+abbrev pub said_by : Entry → Operation × List ℕ
+said_by (listed, kinds, operation) = (operation, kinds.now)
+
+-- an operation and its kinds
+abbrev pub found : Found → Operation × List ℕ
+found f = (f.operation, f.kinds.now)
+
+-- the first operation in a list with a name, and its kinds
+abbrev pub find_in : List Entry → List ℕ → Option (Operation × List ℕ)
+find_in entries name = option_map said_by (find (has_name name) entries)

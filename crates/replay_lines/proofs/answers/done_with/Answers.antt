@@ -1,0 +1,7 @@
+use Rattle.std.proofs.Common.{refl}
+use Rattle.replay_lines.specs.Told.{told}
+use Rattle.replay_lines.proofs.answers.done_with.Goals as goal
+
+pub returns : goal.returns
+unfolding told
+returns c = refl

@@ -1,0 +1,7 @@
+-- No cell of the run is above the largest.
+use Rattle.std.proofs.Common.{◌≤◌}
+use Rattle.replay_lines.specs.Runs.{last_cell}
+use Rattle.replay_slots.proofs.cells.read_cells.Given as goal
+
+abbrev pub invariant-loop-i : goal.invariant-loop-i
+invariant-loop-i l = last_cell l.feed.run ≤ l.largest
