@@ -5,7 +5,7 @@ ghost use Rattle.partition.specs.Block.{said_block};
 ghost use Rattle.partition.specs.Checks.{block_refusal};
 ghost use Rattle.partition.specs.Readers.{num_of_blocks, len_of, block_number, is_element_marked, read_block, iter_block, iter_begin, iter_block_refusal};
 ghost use Rattle.partition.specs.Lent.{BeginsAt};
-ghost use Rattle.partition.specs.Partition.{parts_of};
+ghost use Rattle.partition.specs.Partition.{parts, parts_of};
 
 use crate::BlockPartition;
 use columns::answers::{Answer, Refusal};
@@ -79,15 +79,36 @@ impl BlockPartition {
     }
 
     // The block's stretch of the lent elements, and the empty part at their beginning where the call is refused.
-    pub fn iter_block<'a>(self, columns: &PartitionColumns<'a>, block_index: u16) -> &'a [u16]
-        ensures result_value { result.now ≡ iter_block (parts_of columns.now self.n self.count) block_index }
-        ensures fact { BeginsAt result columns.now.elements (iter_begin (parts_of columns.now self.n self.count) block_index) }
+    pub fn iter_block<'a>(
+        self,
+        elements: &'a [u16],
+        element_offset: &[u16],
+        element_to_block: &[u16],
+        begin: &[u16],
+        marked_split: &[u16],
+        end: &[u16],
+        block_index: u16,
+    ) -> &'a [u16]
+        ensures result_value { let given = parts elements.now element_offset.now element_to_block.now begin.now marked_split.now end.now
+            self.n self.count in
+            result.now ≡ iter_block given block_index }
+        ensures fact { let given = parts elements.now element_offset.now element_to_block.now begin.now marked_split.now end.now self.n
+            self.count in
+            BeginsAt result elements.entry (iter_begin given block_index) }
     {
         let b = block_index as usize;
-        if self.check_block(columns, b).is_err() {
-            return &columns.elements[0..0];
+        let columns = PartitionColumns {
+            elements,
+            element_offset,
+            element_to_block,
+            begin,
+            marked_split,
+            end,
+        };
+        if self.check_block(&columns, b).is_err() {
+            return &elements[0..0];
         }
-        &columns.elements[at(columns.begin, b)..at(columns.end, b)]
+        &elements[at(begin, b)..at(end, b)]
     }
 
     // What `iter_block` on the same arguments refuses, if it does.

@@ -177,7 +177,7 @@ pub struct Found {
 }
 
 // The operation with a name in a list.
-fn find_in(entries: &[Entry], name: &[u8]) -> Option<Found>
+pub fn find_in(entries: &[Entry], name: &[u8]) -> Option<Found>
     ensures { option_map found result ≡ find_in entries.now name.now }
 {
     entries

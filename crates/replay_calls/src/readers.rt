@@ -23,7 +23,16 @@ pub fn of_partition(operation: Operation, case: Case, cells: &[u16]) -> Said {
 
 // The part that `iter_block` answers.
 pub fn part_of(case: Case, cells: &[u16]) -> &[u16] {
-    partition(case).iter_block(&six_columns(case, cells, 0), case.number(2))
+    let columns = six_columns(case, cells, 0);
+    partition(case).iter_block(
+        columns.elements,
+        columns.element_offset,
+        columns.element_to_block,
+        columns.begin,
+        columns.marked_split,
+        columns.end,
+        case.number(2),
+    )
 }
 
 fn displayed(case: Case, cells: &[u16], text: &mut [u8]) -> Said {

@@ -31,7 +31,7 @@ fn run_end(source: &[u16], m: usize, s: usize, from: usize) -> usize
 }
 
 // A run of rows, or of places in a list of rows: those from `first` to before `end`.
-#[derive(Clone, Copy)]
+#[derive(Clone, Copy, PartialEq, Eq, Debug)]
 pub struct Stretch {
     pub first: usize,
     pub end: usize,

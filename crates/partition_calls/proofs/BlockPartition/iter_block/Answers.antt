@@ -7,7 +7,7 @@ use Rattle.columns.specs.Answers.{checked}
 use Rattle.columns.specs.declared.answers.Refusal as code
 use Rattle.columns.proofs.Saying.{numbered}
 use Rattle.partition.specs.Checks.{block_refusal}
-use Rattle.partition.specs.Partition.{Partition, parts_of}
+use Rattle.partition.specs.Partition.{Partition, parts}
 use Rattle.partition.proofs.Refusals.{ArgumentReady, argument_ready}
 use Rattle.partition.proofs.Stretches.{iter_refused, iter_done, begin_refused, begin_done}
 use Rattle.partition_calls.proofs.BlockPartition.iter_block.Goals as goal
@@ -32,54 +32,63 @@ Place x k = (x.ref_ptr.0, k * 2 + x.ref_ptr.1)
 
 pub returns-then-is_err-clause-result_value : goal.returns-then-is_err-clause-result_value
 returns-then-is_err-clause-result_value c =
-    let p = parts_of c.args.columns.now c.args.self.n c.args.self.count in
+    let g = c.args in
+    let p = parts g.elements.now g.element_offset.now g.element_to_block.now g.begin.now g.marked_split.now g.end.now g.self.n g.self.count in
     iter_refused p c.args.block_index _ c.check_block.ensures (refuses _ cc)
 
 pub returns-then-is_err-clause-fact : goal.returns-then-is_err-clause-fact
 returns-then-is_err-clause-fact c =
-    let p = parts_of c.args.columns.now c.args.self.n c.args.self.count in
-    ap (Place c.args.columns.now.elements) (begin_refused p c.args.block_index _ c.check_block.ensures (refuses _ cc))
+    let g = c.args in
+    let p = parts g.elements.now g.element_offset.now g.element_to_block.now g.begin.now g.marked_split.now g.end.now g.self.n g.self.count in
+    ap (Place c.args.elements) (begin_refused p c.args.block_index _ c.check_block.ensures (refuses _ cc))
 
 pub at-requires : goal.at-requires
 at-requires c =
-    let p = parts_of c.args.columns.now c.args.self.n c.args.self.count in
+    let g = c.args in
+    let p = parts g.elements.now g.element_offset.now g.element_to_block.now g.begin.now g.marked_split.now g.end.now g.self.n g.self.count in
     let q = ready p c.args.block_index _ c.check_block.ensures cc in
     omega (arith, q.known, q.sound.consistent.most, q.sound.long.begin)
 
 pub at-requires-2 : goal.at-requires-2
 at-requires-2 c =
-    let p = parts_of c.args.columns.now c.args.self.n c.args.self.count in
+    let g = c.args in
+    let p = parts g.elements.now g.element_offset.now g.element_to_block.now g.begin.now g.marked_split.now g.end.now g.self.n g.self.count in
     let q = ready p c.args.block_index _ c.check_block.ensures cc in
     omega (arith, q.known, q.sound.consistent.most, q.sound.long.end)
 
 pub slice_bounds-result-count-2 : goal.slice_bounds-result-count-2
 slice_bounds-result-count-2 c =
-    let p = parts_of c.args.columns.now c.args.self.n c.args.self.count in
+    let g = c.args in
+    let p = parts g.elements.now g.element_offset.now g.element_to_block.now g.begin.now g.marked_split.now g.end.now g.self.n g.self.count in
     let q = ready p c.args.block_index _ c.check_block.ensures cc in
     let w = q.sound.consistent.bounds c.args.block_index q.known in
     omega (arith, w, c.at.ensures, c.at-2.ensures)
 
 pub slice_bounds-result-start-2 : goal.slice_bounds-result-start-2
 slice_bounds-result-start-2 c =
-    let p = parts_of c.args.columns.now c.args.self.n c.args.self.count in
+    let g = c.args in
+    let p = parts g.elements.now g.element_offset.now g.element_to_block.now g.begin.now g.marked_split.now g.end.now g.self.n g.self.count in
     let q = ready p c.args.block_index _ c.check_block.ensures cc in
     let w = q.sound.consistent.bounds c.args.block_index q.known in
     omega (arith, w, c.at.ensures, c.at-2.ensures)
 
 pub slice_bounds-result-end-2 : goal.slice_bounds-result-end-2
 slice_bounds-result-end-2 c =
-    let p = parts_of c.args.columns.now c.args.self.n c.args.self.count in
+    let g = c.args in
+    let p = parts g.elements.now g.element_offset.now g.element_to_block.now g.begin.now g.marked_split.now g.end.now g.self.n g.self.count in
     let q = ready p c.args.block_index _ c.check_block.ensures cc in
     let w = q.sound.consistent.bounds c.args.block_index q.known in
     omega (arith, w, q.sound.long.elements, c.at-2.ensures)
 
 pub returns-clause-result_value : goal.returns-clause-result_value
 returns-clause-result_value c =
-    let p = parts_of c.args.columns.now c.args.self.n c.args.self.count in
+    let g = c.args in
+    let p = parts g.elements.now g.element_offset.now g.element_to_block.now g.begin.now g.marked_split.now g.end.now g.self.n g.self.count in
     iter_done p c.args.block_index _ c.check_block.ensures (passes _ cc) _ _ c.at.ensures.0 c.at-2.ensures.0
 
 pub returns-clause-fact : goal.returns-clause-fact
 returns-clause-fact c =
-    let p = parts_of c.args.columns.now c.args.self.n c.args.self.count in
-    ap (Place c.args.columns.now.elements)
+    let g = c.args in
+    let p = parts g.elements.now g.element_offset.now g.element_to_block.now g.begin.now g.marked_split.now g.end.now g.self.n g.self.count in
+    ap (Place c.args.elements)
     (begin_done p c.args.block_index _ c.check_block.ensures (passes _ cc) _ c.at.ensures.0)
