@@ -84,8 +84,8 @@ case_back R.Inconsistent = refl
 case_back (R.WrongList index) = refl
 case_back (R.NoRoom needed) = refl
 
-same_refusal : (r q : code.Refusal) → refused (refusal_of r).number (refusal_of r).place ≡ refused (refusal_of q).number (refusal_of q).place → r ≡ q
-same_refusal r q e =
+pub same-refusal : (r q : code.Refusal) → refused (refusal_of r).number (refusal_of r).place ≡ refused (refusal_of q).number (refusal_of q).place → r ≡ q
+same-refusal r q e =
     let n : (refusal_of r).number ≡ (refusal_of q).number = cc in
     let p : (refusal_of r).place ≡ (refusal_of q).place = cc in
     sym (case_back r) ∙ (λ i. case_of (n i) (p i)) ∙ case_back q
@@ -104,7 +104,7 @@ module _ {T : Type 0} (values : T → List ℕ) (same : (x y : T) → values x �
   same_outcome (Ok x) (Ok y) e = let q : values x ≡ values y = cc in ap Ok (same x y q)
   same_outcome (Ok x) (Err q) e = absurd (apart _ _ _ e)
   same_outcome (Err r) (Ok y) e = absurd (apart _ _ _ (sym e))
-  same_outcome (Err r) (Err q) e = ap Err (same_refusal r q e)
+  same_outcome (Err r) (Err q) e = ap Err (same-refusal r q e)
 
   -- if the numbers of the data tell what it is
   pub same_said : (a b : Answer T) → said_by values a ≡ said_by values b → a ≡ b

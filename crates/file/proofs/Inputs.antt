@@ -3,7 +3,7 @@ use Rattle.std.specs.Prelude.{◌≡◌, ℕ, ◌+◌, ◌*◌, ◌<◌, ◌≤�
 use native.Mathlib.Omega.{arith}
 use borrow.Author.Tests.{eqb-true, leb-true, lt-leb, le-leb, eq-eqb}
 use mathlib.Core.Path.{refl, ap, sym, ◌∙◌}
-use Rattle.columns.specs.Answers.{Refusal}
+use Rattle.columns.specs.Answers.{Refusal, refusal}
 use Rattle.columns.specs.Answers.{none}
 use Rattle.columns.specs.Columns.{over}
 use Rattle.columns.specs.Due.{Test, test, due, all_long, Roomy}
@@ -37,6 +37,10 @@ use Rattle.file.specs.Input.{
 
 -- ---- the lengths, of a file of `size` bytes of which s are all or the first
 module _ (s : List ℕ) (size : ℕ) where
+  pub sized_no_header : size < input_rows → refusal wrong_contents size ≡ due (sized_length_tests s size)
+  unfolding due
+  sized_no_header h = rw (lt-leb input_rows size h)
+
   -- the tests with the numbers that were read
   abbrev pub sized_read_tests : ℕ → ℕ → List Test
   sized_read_tests m named =

@@ -28,6 +28,9 @@ module _ (p : Partition) (b : ℕ) (c : List ℕ) (a : Answer ℕ) where
   abbrev said_with : List ℕ → List ℕ → List ℕ → List ℕ → List ℕ → List ℕ → Said → Said × Partition
   said_with l o bl bg sp en s = (s, parts l o bl bg sp en p.n (count_said s p.count))
 
+  count_said_lem : (s : Said) → said_number a ≡ s → count_said (said_number a) p.count ≡ count_said s p.count
+  count_said_lem s q = ap (λ (x : Said). count_said x p.count) q
+
   pub split_refused :
       (x : code.Refusal) → refusal_of x ≡ split_refusal p b c → said_number a ≡ refused (refusal_of x).number (refusal_of x).place
       → said_with p.elements p.element_offset p.element_to_block p.begin p.marked_split p.end (said_number a) ≡ split_marked p b c

@@ -12,16 +12,22 @@ ghost use Rattle.table.specs.Turned.{TurnedWithStarts};
 use columns::cells::{at, clear};
 use table::Lts;
 
-// The states with both marks get the number x.
+// The number of a state with these marks.
+#[tactic(auto, unfolding(crate::specs::Numbering::if_both))]
+fn if_both(f: u16, b: u16, x: u16, y: u16) -> u16
+    ensures { result ≡ if_both f b x y }
+{
+    if f != 0 && b != 0 { x } else { y }
+}
+
+// The states with both marks get the number x. Each cell is stored, so that the loop has no branch: it runs once for each component.
 fn give(forward: &[u16], backward: &[u16], x: u16, numbers: &mut [u16])
     requires { (length numbers.old ≤ length forward.now) × (length numbers.old ≤ length backward.now) }
     ensures { let old = numbers.old in
         numbers.new ≡ listed (length old) (λ u. if_both (slice_index forward.now u) (slice_index backward.now u) x (slice_index old u)) }
 {
     for (i, number) in numbers.iter_mut().enumerate() {
-        if forward[i] != 0 && backward[i] != 0 {
-            *number = x;
-        }
+        *number = if_both(forward[i], backward[i], x, *number);
     }
 }
 

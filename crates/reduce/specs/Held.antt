@@ -1,5 +1,5 @@
 -- What is held of standard input, and what that says of the whole.
-use Rattle.std.specs.Prelude.{ℕ, ◌≤◌, ◌<◌, true, false, List, ◌≡◌, length, get_or, take}
+use Rattle.std.specs.Prelude.{ℕ, ◌≤◌, ◌<◌, true, false, List, ◌≡◌, length, get_or, take, Result, Ok, Err}
 use Rattle.file.specs.Input.{file_refusal, held_refusal}
 use Rattle.file.specs.Layout.{input_rows, largest_input}
 use Rattle.reduce.specs.declared.input.Got.{Got}
@@ -22,3 +22,8 @@ pub record AsWhole (whole held : List ℕ) (size : ℕ) : Type 0 where
 pub record Enough (held : List ℕ) (got : Got) : Type 0 where
   pub header : largest_input < got.size → input_rows ≤ length held
   pub decides : (whole : List ℕ) → Heard whole held got → AsWhole whole held got.size
+
+-- what was read, whether a read failed or not
+abbrev pub got_in : Result Got Got → Got
+got_in (Ok got) = got
+got_in (Err got) = got

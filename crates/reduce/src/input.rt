@@ -1,51 +1,64 @@
 // Standard input: its first bytes are held, the others counted as far as it matters.
-ghost use Rattle.std.specs.Prelude.{false, ◌≡◌, ◌≤◌, length, IfOk};
+ghost use Rattle.std.specs.Prelude.{false, ◌≡◌, ◌≤◌, length, take};
 ghost use Rattle.file.specs.Layout.{largest_input, counted};
-ghost use Rattle.reduce.specs.Held.{Enough};
+ghost use Rattle.spelling.specs.Counts.{IsPrefixLen};
+ghost use Rattle.reduce.specs.Held.{Enough, got_in};
 
 use file::layout::COUNTED;
-use std::io::{self, Read, Stdin};
+use std::io::{Read, Stdin};
 
-// What was read: whether the end was reached, and how many bytes there were.
+// What was read: whether the end was reached, how many bytes are held, and how many there were.
 #[derive(Clone, Copy)]
 pub struct Got {
     pub ended: bool,
+    pub used: usize,
     pub size: usize,
 }
 
-// Counts what comes behind the bytes held, until the input ends or as many are counted as matter.
-fn count_more(stdin: &mut Stdin, held: usize) -> io::Result<Got>
-    ensures { IfOk result (λ got. (held ≤ got.size) × (got.ended ≡ false → counted ≤ got.size)) }
+// Counts what comes behind the bytes held, until the input ends or as many are counted as matter. Where a read fails, the error is what was
+// read before it.
+fn count_more(stdin: &mut Stdin, held: usize) -> Result<Got, Got>
+    ensures { let got = got_in result in (got.used ≡ held) × (held ≤ got.size) × (got.ended ≡ false → counted ≤ got.size) }
 {
     let mut spare = [0u8; 4096];
     let mut size = held;
     while size < COUNTED {
-        let more = stdin.read(&mut spare)?;
-        if more == 0 {
-            return Ok(Got { ended: true, size });
+        let ended = Got {
+            ended: true,
+            used: held,
+            size,
+        };
+        match stdin.read(&mut spare) {
+            Ok(0) => return Ok(ended),
+            Ok(more) => size += more,
+            Err(_) => return Err(ended),
         }
-        size += more;
     }
-    Ok(Got { ended: false, size })
+    Ok(Got {
+        ended: false,
+        used: held,
+        size,
+    })
 }
 
-// Reads the first bytes until the input ends or there is no more room, and counts the others: the bytes held. A read that fails is told,
-// and not taken for the end.
-pub fn read_input<'a>(stdin: &mut Stdin, bytes: &'a mut [u8]) -> io::Result<(&'a [u8], Got)>
-    ensures { length bytes.old ≡ largest_input → IfOk result (λ read. Enough read.0.now read.1) }
+// Reads the first bytes until the input ends or there is no more room, and counts the others. A read that fails is told, with what was read
+// before it, and not taken for the end.
+pub fn read_input(stdin: &mut Stdin, bytes: &mut [u8]) -> Result<Got, Got>
+    ensures held { IsPrefixLen (got_in result).used bytes.new }
+    ensures enough { let got = got_in result in length bytes.old ≡ largest_input → Enough (take got.used bytes.new) got }
 {
     let mut used = 0;
     while used < bytes.len() {
-        let more = stdin.read(&mut bytes[used..])?;
-        if more == 0 {
-            let got = Got {
-                ended: true,
-                size: used,
-            };
-            return Ok((&bytes[..used], got));
+        let ended = Got {
+            ended: true,
+            used,
+            size: used,
+        };
+        match stdin.read(&mut bytes[used..]) {
+            Ok(0) => return Ok(ended),
+            Ok(more) => used += more,
+            Err(_) => return Err(ended),
         }
-        used += more;
     }
-    let got = count_more(stdin, used)?;
-    Ok((&bytes[..used], got))
+    count_more(stdin, used)
 }

@@ -73,7 +73,7 @@ fn main(rt: HostRuntime) {
     let mut stdin = rt.stdin();
     let mut bytes = [0u8; LARGEST_INPUT];
     match read_input(&mut stdin, &mut bytes) {
-        Ok((held, got)) => reduce_input(&rt, held, got),
+        Ok(got) => reduce_input(&rt, &bytes[..got.used], got),
         Err(_) => failed(rt.stderr(), b"the input could not be read"),
     }
 }

@@ -25,3 +25,16 @@ found f = (f.operation, f.kinds.now)
 -- the first operation in a list with a name, and its kinds
 abbrev pub find_in : List Entry → List ℕ → Option (Operation × List ℕ)
 find_in entries name = option_map said_by (find (has_name name) entries)
+
+-- an operation in a constant list, whose references are known by what they hold
+abbrev pub Listed : Type 0
+Listed = record { now : List ℕ } × record { now : List ℕ } × Operation
+
+-- an entry as a constant list has it
+abbrev pub held : Entry → Listed
+held (listed, kinds, operation) = (record { now = listed.now }, record { now = kinds.now }, operation)
+
+-- the first operation in a constant list with a name, and its kinds
+abbrev pub find_listed : List Listed → List ℕ → Option (Operation × List ℕ)
+find_listed entries name =
+    option_map (λ (listed, kinds, operation). (operation, kinds.now)) (find (λ (listed, kinds, operation). bytes_eq listed.now name) entries)

@@ -1,6 +1,7 @@
 // What travels beside the columns, and the columns that are read together.
-ghost use Rattle.std.specs.Prelude.{◌≡◌, ◌<◌};
+ghost use Rattle.std.specs.Prelude.{◌≡◌, ◌+◌, ◌<◌};
 ghost use Rattle.replay_slots.specs.Cases.{number_of};
+ghost use Rattle.replay_calls.specs.Slices.{SliceOf};
 
 use partition::PartitionColumns;
 use partition::block::Block;
@@ -43,7 +44,11 @@ pub fn table(case: Case) -> Table
 }
 
 // That table with its rows: the first three slices that are only read.
-pub fn system(case: Case, cells: &[u16]) -> Lts<'_> {
+pub fn system(case: Case, cells: &[u16]) -> Lts<'_>
+    ensures n_value { (result.table.n ≡ number_of case 0) × (result.table.labels ≡ number_of case 1) }
+    ensures m_value { (result.table.m ≡ number_of case 2) × (result.table.initial ≡ number_of case 3) }
+    ensures rows { SliceOf result.source cells.entry case 0 × SliceOf result.label cells.entry case 1 × SliceOf result.target cells.entry case 2 }
+{
     Lts {
         table: table(case),
         source: column(cells, case, 0),
@@ -55,6 +60,10 @@ pub fn system(case: Case, cells: &[u16]) -> Lts<'_> {
 // The six columns of a partition, from slice `first` of those that are only read on.
 pub fn six_columns(case: Case, cells: &[u16], first: usize) -> PartitionColumns<'_>
     requires { first < 16 }
+    ensures states { SliceOf result.elements cells.entry case first × SliceOf result.element_offset cells.entry case (first + 1) ×
+        SliceOf result.element_to_block cells.entry case (first + 2) }
+    ensures blocks { SliceOf result.begin cells.entry case (first + 3) × SliceOf result.marked_split cells.entry case (first + 4) ×
+        SliceOf result.end cells.entry case (first + 5) }
 {
     PartitionColumns {
         elements: column(cells, case, first),

@@ -1,7 +1,7 @@
 // Every operation: its name and the kinds of its parameters, and the family of those that take alike.
-ghost use Rattle.std.specs.Prelude.{◌≡◌};
+ghost use Rattle.std.specs.Prelude.{◌≡◌, map};
 ghost use Rattle.std.specs.Option.{option_map};
-ghost use Rattle.replay_calls.specs.Operations.{found, find_in};
+ghost use Rattle.replay_calls.specs.Operations.{found, find_in, held, find_listed};
 ghost use Rattle.replay_calls.specs.Families.{family_of};
 
 #[derive(Clone, Copy, PartialEq, Eq)]
@@ -178,7 +178,8 @@ pub struct Found {
 
 // The operation with a name in a list.
 pub fn find_in(entries: &[Entry], name: &[u8]) -> Option<Found>
-    ensures { option_map found result ≡ find_in entries.now name.now }
+    ensures value { option_map found result ≡ find_in entries.now name.now }
+    ensures listed { option_map found result ≡ find_listed (map held entries.now) name.now }
 {
     entries
         .iter()
@@ -187,7 +188,9 @@ pub fn find_in(entries: &[Entry], name: &[u8]) -> Option<Found>
 }
 
 // The operation with this name.
-pub fn find(name: &[u8]) -> Option<Found> {
+pub fn find(name: &[u8]) -> Option<Found>
+    ensures { option_map found result ≡ find_listed OPERATIONS name.now }
+{
     find_in(&OPERATIONS, name)
 }
 

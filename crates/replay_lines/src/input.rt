@@ -13,7 +13,7 @@ pub const TURNS: u64 = u64::MAX;
 
 // Standard input at a place: its byte, none once the input has ended, and the bytes after it, which are the cells at..end of those that
 // were read last.
-#[derive(Drop)]
+#[derive(Clone, Copy)]
 pub struct Input {
     pub bytes: Buffer,
     pub at: usize,

@@ -77,7 +77,8 @@ pub fn marked(mark: u8, value: u64, out: &mut Sink, used: usize) -> usize
 {
     let mut text = [0u8; 20];
     let at = byte(mark, out, used);
-    word(decimal(value, &mut text), out, at)
+    let count = decimal(value, &mut text);
+    word(&text[..count], out, at)
 }
 
 // A blank and a number.

@@ -2,3 +2,4 @@ pub mod Parts
 pub mod Cases
 pub mod Sizes
 pub mod Shown
+pub mod Kinds

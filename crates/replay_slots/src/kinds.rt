@@ -1,4 +1,7 @@
 // The kinds of parameters.
+ghost use Rattle.std.specs.Prelude.{◌≡◌};
+ghost use Rattle.replay_slots.specs.Kinds.{kind_of};
+
 use crate::case::Cell;
 
 // What an operation takes: a number, a flag, a slice that is only read or one that may change, a slice of u16 of an operation that changes
@@ -15,7 +18,10 @@ pub enum Kind {
 
 impl Kind {
     // The kind that a letter stands for.
-    pub fn of(letter: u8) -> Kind {
+    #[tactic(auto, unfolding(crate::specs::Kinds::kind_of))]
+    pub fn of(letter: u8) -> Kind
+        ensures { result ≡ kind_of letter }
+    {
         match letter {
             b'n' => Kind::Number,
             b'f' => Kind::Flag,

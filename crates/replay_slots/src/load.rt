@@ -23,20 +23,20 @@ fn room(longest: usize, taken: usize, all: usize) -> u64 {
 // What is read of a line: how many words, numbers, slices that are only read, slices that may change, and cells of each type. Where a word
 // is wrong, the methods answer how many there are before it.
 #[derive(Clone, Copy)]
-struct Reading {
-    case: Case,
-    words: usize,
-    numbers: usize,
-    read: usize,
-    changed: usize,
-    narrow: usize,
-    wide: usize,
-    bytes: usize,
+pub struct Reading {
+    pub case: Case,
+    pub words: usize,
+    pub numbers: usize,
+    pub read: usize,
+    pub changed: usize,
+    pub narrow: usize,
+    pub wide: usize,
+    pub bytes: usize,
 }
 
 impl Reading {
     // Nothing but the name is read.
-    fn new() -> Reading {
+    pub fn new() -> Reading {
         let case = Case::new();
         Reading {
             case,

@@ -1,7 +1,8 @@
 #![tactic(auto)]
 
 // Texts and numbers as bytes: each is put over lent bytes from byte `at` on, and the place behind it is answered.
-ghost use Rattle.std.specs.Prelude.{◌≡◌, ◌++◌, ◌+◌, ◌≤◌, length};
+ghost use Rattle.std.specs.Prelude.{◌≡◌, ◌++◌, ◌+◌, ◌≤◌, length, take};
+ghost use Rattle.spelling.specs.Counts.{IsPrefixLen};
 ghost use Rattle.spelling.specs.Texts.{Put};
 ghost use Rattle.spelling.specs.Digits.{digits, IsDigitCount};
 
@@ -28,10 +29,11 @@ fn digit_count(number: u64) -> usize
     count
 }
 
-// The decimal digits of a number, over the first bytes of `text`.
-pub fn decimal(number: u64, text: &mut [u8; 20]) -> &[u8]
-    ensures upper_bound { length result.now ≤ 20 }
-    ensures text_value { result.now ≡ digits number }
+// The decimal digits of a number over the first bytes of `text`, and how many they are.
+pub fn decimal(number: u64, text: &mut [u8; 20]) -> usize
+    ensures prefix_len { IsPrefixLen result text.new }
+    ensures upper_bound { result ≤ 20 }
+    ensures text_value { take result text.new ≡ digits number }
 {
     let count = digit_count(number);
     let mut rest = number;
@@ -39,7 +41,7 @@ pub fn decimal(number: u64, text: &mut [u8; 20]) -> &[u8]
         text[i] = 48 + (rest % 10) as u8;
         rest /= 10;
     }
-    &text[..count]
+    count
 }
 
 // The decimal digits of a number, of which there are at most 20.
@@ -49,7 +51,8 @@ pub fn put_number(number: u64, out: &mut [u8], at: usize) -> usize
     ensures upper_bound { result ≤ at + 20 }
 {
     let mut text = [0u8; 20];
-    put(decimal(number, &mut text), out, at)
+    let count = decimal(number, &mut text);
+    put(&text[..count], out, at)
 }
 
 // A number and the words behind it.

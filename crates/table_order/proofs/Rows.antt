@@ -15,6 +15,8 @@ use Rattle.columns.specs.Rows.{rows_of}
 use Rattle.columns.specs.Sets.{Mem, Row}
 use Rattle.table.specs.Reach.{takes}
 use Rattle.table.specs.Stretch.{StretchOf}
+use Rattle.table.specs.Lts.{Lts}
+use Rattle.table.proofs.RowsOf.{Own}
 use Rattle.columns.proofs.Bools.{and_no_left, and_no_right}
 use Rattle.table_order.specs.Order.{counts, own_counts, succs}
 use Rattle.table_order.specs.Machine.{stack_of, push_all, keep, new_in}
@@ -288,3 +290,9 @@ module _ (hidden : Bool) (source label target : List ℕ) (s : ℕ) where
       where
         e : S i ≡ S m
         e = ap S q ∙ sym (high end m r.most (λ i a b j. omega (arith, a, ((r.exactly i b).0 j).1)))
+
+-- ---- a row of the stretch of s
+pub own_row_lem :
+    (t : Lts) (s first end i : ℕ) → StretchOf (λ i. get_or t.source i 0) t.m s first end → first ≤ i → i < end → Own t s i
+own_row_lem t s first end i r a b =
+    let h : i < t.m = omega (arith, b, r.most) in record { below = h; own = (r.exactly i h).1 (a, b) }

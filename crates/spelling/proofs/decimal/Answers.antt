@@ -1,4 +1,4 @@
-use Rattle.std.proofs.Common.{◌≤◌, refl, ◌∙◌, arith}
+use Rattle.std.proofs.Common.{◌≤◌, length, refl, sym, ◌∙◌, arith}
 use lib.ListN.{length-set}
 use lib.Seq.{length-take-le}
 use Rattle.spelling.proofs.Spelled.{fewest_digits, few_digits, digit_more}
@@ -26,14 +26,13 @@ loop-i-preserved c =
       same = digit_more l.i n l.rest _ l.text (omega arith) (omega arith) (omega arith) refl ∙ l.invariant.same;
     }
 
-pub shared_ref_as_front-result : goal.shared_ref_as_front-result
-shared_ref_as_front-result c =
-    let most : c.digit_count-count.result ≤ 20 = few (goal.at.shared_ref_as_front-result c).After-digit_count-count in omega arith
+pub returns-clause-prefix_len : goal.returns-clause-prefix_len
+returns-clause-prefix_len c =
+    let most : c.digit_count-count.result ≤ 20 = few (goal.at.returns-clause-prefix_len c).After-digit_count-count in
+    let room : c.digit_count-count.result ≤ length c.loop-i.text = omega arith in (room, sym (length-take-le _ _ room))
 
 pub returns-clause-upper_bound : goal.returns-clause-upper_bound
-returns-clause-upper_bound c =
-    let most : c.digit_count-count.result ≤ 20 = few (goal.at.returns-clause-upper_bound c).After-digit_count-count in
-    omega (arith, length-take-le c.digit_count-count.result c.loop-i.text (omega arith))
+returns-clause-upper_bound c = few (goal.at.returns-clause-upper_bound c).After-digit_count-count
 
 pub returns-clause-text_value : goal.returns-clause-text_value
 returns-clause-text_value c =
