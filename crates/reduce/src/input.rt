@@ -7,7 +7,7 @@ ghost use Rattle.reduce.specs.Held.{Enough, got_in};
 use file::layout::COUNTED;
 use std::io::{Read, Stdin};
 
-// What was read: whether the end was reached, how many bytes are held, and how many there were.
+// What was read: whether the end was reached, or a read failed; how many bytes are held, and how many there were.
 #[derive(Clone, Copy)]
 pub struct Got {
     pub ended: bool,
@@ -23,15 +23,15 @@ fn count_more(stdin: &mut Stdin, held: usize) -> Result<Got, Got>
     let mut spare = [0u8; 4096];
     let mut size = held;
     while size < COUNTED {
-        let ended = Got {
+        let counted = Got {
             ended: true,
             used: held,
             size,
         };
         match stdin.read(&mut spare) {
-            Ok(0) => return Ok(ended),
+            Ok(0) => return Ok(counted),
             Ok(more) => size += more,
-            Err(_) => return Err(ended),
+            Err(_) => return Err(counted),
         }
     }
     Ok(Got {
