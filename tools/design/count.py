@@ -92,7 +92,7 @@ POINTS = [
     ("5 six or more slots side by side", together(lambda p: len([a for a, b in p if b.replace("mut ", "") == "&Slot"]) >= 6)),
     ("6 a buffer with its length or its place beside it",
      together(lambda p: any(a in ("used", "tail", "h", "count", "len") for a, b in p if b == "usize") and bool(slices(p) | {a for a, b in p if "Sink" in b}))),
-    ("7 a match on an operation's number", by_lines(r"match (operation|family\(operation\)|kind|largest) \{|operation == [A-Z_]+")),
+    ("7 a match on an operation's number", by_lines(r"match (operation|operation\.which\(\)|family\(operation\)|kind|largest) \{|operation == [A-Z_]+")),
 ]
 
 

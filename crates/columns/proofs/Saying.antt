@@ -9,8 +9,8 @@ use borrow.Author.Tests.{eq-eqb, ne_eqb}
 use Rattle.std.specs.Prelude.{Result, Ok, Err}
 use Rattle.columns.specs.declared.answers.Refusal as code
 use Rattle.columns.specs.declared.answers.Refusal.TheVariants as R
-use Rattle.columns.specs.declared.answers.Answer.{Answer}
 use Rattle.columns.specs.Answers.{
+  Answer,
   Refusal,
   refusal_of,
   Said,

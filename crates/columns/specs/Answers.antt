@@ -21,7 +21,7 @@ use Rattle.columns.specs.Limits.{
 }
 use Rattle.columns.specs.declared.answers.Refusal as code
 use Rattle.columns.specs.declared.answers.Refusal.TheVariants as R
-use Rattle.columns.specs.declared.answers.Answer.{Answer}
+use Rattle.columns.specs.declared.answers.Answer as coded
 
 -- a refusal by its number and its place; as what tests find, number 0 stands for none
 pub record Refusal : Type 0 where
@@ -54,23 +54,33 @@ refusal_of R.Inconsistent = refusal inconsistent 0
 refusal_of (R.WrongList index) = refusal wrong_list index
 refusal_of (R.NoRoom needed) = refusal no_room needed
 
--- what a check finds: none, or the refusal
+-- what a check finds: none, or the refusal, whose number and place `of` gives
+abbrev pub checked_by : {R : Type 0} → (R → Refusal) → Result (Unit {0}) R → Refusal
+checked_by of (Ok _) = none
+checked_by of (Err r) = of r
+
 abbrev pub checked : Result (Unit {0}) code.Refusal → Refusal
-checked (Ok _) = none
-checked (Err r) = refusal_of r
+checked r = checked_by refusal_of r
 
 -- done, with the outcome's numbers; or refused, with a number and a place
 pub data Said : Type 0 where
   done : List ℕ → Said
   refused : ℕ → ℕ → Said
 
+-- an answer, refused with a case of document 01
+abbrev pub Answer : Type 0 → Type 0
+Answer T = coded.Answer T code.Refusal
+
 abbrev pub answer : {T : Type 0} → Result T code.Refusal → Answer T
 answer outcome = record { outcome = outcome }
 
--- what an outcome says, given the numbers of its data
+-- what an outcome says, given the number and the place of what refuses, and the numbers of its data
+abbrev pub said_coded : {T R : Type 0} → (R → Refusal) → (T → List ℕ) → Result T R → Said
+said_coded of values (Ok value) = done (values value)
+said_coded of values (Err r) = refused (of r).number (of r).place
+
 abbrev pub said_outcome : {T : Type 0} → (T → List ℕ) → Result T code.Refusal → Said
-said_outcome values (Ok value) = done (values value)
-said_outcome values (Err r) = refused (refusal_of r).number (refusal_of r).place
+said_outcome values o = said_coded refusal_of values o
 
 abbrev pub said_by : {T : Type 0} → (T → List ℕ) → Answer T → Said
 said_by values a = said_outcome values a.outcome

@@ -1,6 +1,6 @@
 // Answers: what was asked for, or a refusal with its number and place.
 ghost use Rattle.std.specs.Prelude.{◌≡◌, Ok, Err};
-ghost use Rattle.columns.specs.Answers.{answer, refusal_of};
+ghost use Rattle.columns.specs.Answers.{Refusal as Answers·Refusal, answer, refusal, refusal_of};
 
 // Why a call is refused. `refusal_of` (specs/Answers) gives each case its number in document 01 and its place: the value that
 // the case holds, and 0 where it holds none.
@@ -87,10 +87,52 @@ impl Refusal {
     }
 }
 
+// What has a number and a place: a refusal, or any two numbers.
+pub trait Coded: Copy {
+    ghost code: { Self → Answers·Refusal };
+
+    fn number(self) -> u64
+        ensures { result ≡ (code self).number };
+
+    fn place(self) -> u64
+        ensures { result ≡ (code self).place };
+}
+
+impl Coded for Refusal {
+    ghost code = { refusal_of };
+
+    fn number(self) -> u64 {
+        Refusal::number(self)
+    }
+
+    fn place(self) -> u64 {
+        Refusal::place(self)
+    }
+}
+
+// Any number and any place.
+#[derive(Clone, Copy, PartialEq, Eq, Debug)]
+pub struct Code {
+    pub number: u64,
+    pub place: u64,
+}
+
+impl Coded for Code {
+    ghost code = { λ c. refusal c.number c.place };
+
+    fn number(self) -> u64 {
+        self.number
+    }
+
+    fn place(self) -> u64 {
+        self.place
+    }
+}
+
 // What a call answers: done with its data, or refused.
 #[derive(Clone, Copy, PartialEq, Eq, Debug)]
-pub struct Answer<T> {
-    pub outcome: Result<T, Refusal>,
+pub struct Answer<T, R = Refusal> {
+    pub outcome: Result<T, R>,
 }
 
 impl<T> Answer<T> {

@@ -1,10 +1,10 @@
 // The tests that calls share: each answers nothing, or the refusal that is due. No entry points: what the checks of every layer are
 // made of.
 ghost use Rattle.std.specs.Prelude.{◌≡◌, [], ◌∷◌};
-ghost use Rattle.columns.specs.Answers.{checked, refusal_of};
+ghost use Rattle.columns.specs.Answers.{checked, checked_by};
 ghost use Rattle.columns.specs.Due.{due, all_long, states_test, labels_test, index_test};
 
-use crate::answers::Refusal;
+use crate::answers::{Coded, Refusal};
 use crate::limits::{MAX_LABELS, MAX_STATES};
 
 // Whether slices of these lengths have this many cells each.
@@ -15,8 +15,8 @@ pub fn long(cells: usize, lengths: &[usize]) -> bool
 }
 
 // This refusal, unless a test holds.
-pub fn refuse_unless(holds: bool, refusal: Refusal) -> Result<(), Refusal>
-    ensures { checked result ≡ due ((holds, refusal_of refusal) ∷ []) }
+pub fn refuse_unless<R: Coded>(holds: bool, refusal: R) -> Result<(), R>
+    ensures { checked_by R.code result ≡ due ((holds, R.code refusal) ∷ []) }
 {
     if holds { Ok(()) } else { Err(refusal) }
 }

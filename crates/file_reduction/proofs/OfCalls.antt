@@ -7,7 +7,7 @@ use denote.Triple.Clauses.{AtExit}
 use denote.Triple.Entry.{Args}
 use Rattle.bisimulation.specs.Bisimulation.{Match, Bisimilar}
 use Rattle.bisimulation.specs.Quotient.{Belongs}
-use Rattle.columns.specs.Answers.{Said, done}
+use Rattle.columns.specs.Answers.{Answer, Said, done}
 use Rattle.columns.specs.Blocks.{block_of}
 use Rattle.columns.specs.Columns.{over}
 use Rattle.file.specs.Decoded.{table_out, blocks_out}
@@ -17,7 +17,6 @@ use Rattle.file.specs.Output.{FileOf}
 use Rattle.file.proofs.RoundTrip.{exact_rows, output_back}
 use Rattle.file_reduction.specs.Answers.{said_file}
 use Rattle.file_reduction.specs.Reducing.{reduced_bytes, file_numbers, reduce_file}
-use Rattle.columns.specs.declared.answers.Answer.{Answer}
 use Rattle.file_reduction.specs.declared.answers.Written.{Written}
 use Rattle.file_reduction.proofs.Done as D
 use Rattle.file_reduction.specs.contracts.reduce_file.{signature, ended}

@@ -1,7 +1,7 @@
 -- Any two results that the contract of `reduce_file` allows are equal.
 use Rattle.std.specs.Prelude.{◌≡◌}
 use Rattle.columns.specs.OneResult.{OneResult}
-use Rattle.columns.specs.declared.answers.Answer.{Answer}
+use Rattle.columns.specs.Answers.{Answer}
 use Rattle.columns.proofs.OneResult.{skip, determined}
 use Rattle.columns.proofs.Saying.{same_said}
 use Rattle.file_reduction.specs.Answers.{file_values, said_file}

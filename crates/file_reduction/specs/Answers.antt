@@ -1,9 +1,8 @@
 -- What the answer of a reduction from file to file says: the bytes written; states, labels and rows of the source; blocks and rows of the
 -- result; the rounds that split something.
 use Rattle.std.specs.Prelude.{ℕ, List, [], ◌∷◌, Result}
-use Rattle.columns.specs.declared.answers.Answer.{Answer}
 use Rattle.columns.specs.declared.answers.Refusal as code
-use Rattle.columns.specs.Answers.{Said, said_outcome, said_by}
+use Rattle.columns.specs.Answers.{Answer, Said, said_outcome, said_by}
 use Rattle.file_reduction.specs.declared.answers.Written.{Written}
 
 abbrev pub file_values : Written → List ℕ

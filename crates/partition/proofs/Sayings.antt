@@ -1,6 +1,6 @@
 -- What an answer that holds a block says determines it.
 use mathlib.Core.Path.{◌≡◌}
-use Rattle.columns.specs.declared.answers.Answer.{Answer}
+use Rattle.columns.specs.Answers.{Answer}
 use Rattle.columns.proofs.Saying.{same_said}
 use Rattle.partition.specs.declared.block.Block.{Block}
 use Rattle.partition.specs.Block.{block_values, said_block}

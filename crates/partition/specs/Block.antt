@@ -1,8 +1,7 @@
 -- One block given alone, and what a call says that answers one.
 use Rattle.std.specs.Prelude.{ℕ, ◌-◌, Bool, List, [], ◌∷◌, get_or, ltb}
 use Rattle.columns.specs.Limits.{inconsistent, max_states, out_of_range}
-use Rattle.columns.specs.declared.answers.Answer.{Answer}
-use Rattle.columns.specs.Answers.{Refusal, Said, answering, said_by}
+use Rattle.columns.specs.Answers.{Answer, Refusal, Said, answering, said_by}
 use Rattle.columns.specs.Counting.{bit}
 use Rattle.columns.specs.Due.{test, due}
 use Rattle.partition.specs.Partition.{withinb}

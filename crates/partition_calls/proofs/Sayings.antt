@@ -1,6 +1,6 @@
 -- What an answer that holds a partition says determines it.
 use Rattle.std.specs.Prelude.{◌≡◌}
-use Rattle.columns.specs.declared.answers.Answer.{Answer}
+use Rattle.columns.specs.Answers.{Answer}
 use Rattle.columns.proofs.Saying.{same_said}
 use Rattle.partition_calls.specs.declared.BlockPartition.{BlockPartition}
 use Rattle.partition_calls.specs.Saying.{partition_values, said_partition}

@@ -1,7 +1,6 @@
 -- What an answer says that holds a partition: n and the block count. And the block count after an answer that says it.
 use Rattle.std.specs.Prelude.{ℕ, ◌-◌, List, [], ◌∷◌, length, slice_index_or}
-use Rattle.columns.specs.Answers.{Said, done, refused, said_by}
-use Rattle.columns.specs.declared.answers.Answer.{Answer}
+use Rattle.columns.specs.Answers.{Answer, Said, done, refused, said_by}
 use Rattle.partition_calls.specs.declared.BlockPartition.{BlockPartition}
 
 abbrev pub partition_values : BlockPartition → List ℕ

@@ -1,6 +1,6 @@
 -- What an answer of `partition_marked_with` says determines it.
 use Rattle.std.specs.Prelude.{◌≡◌}
-use Rattle.columns.specs.declared.answers.Answer.{Answer}
+use Rattle.columns.specs.Answers.{Answer}
 use Rattle.columns.proofs.Saying.{same_said}
 use Rattle.partition_division.specs.declared.Division.{Division}
 use Rattle.partition_division.specs.Division.{division_values, said_division}

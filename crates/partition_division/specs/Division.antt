@@ -1,9 +1,8 @@
 -- What `partition_marked_with` refuses, says and leaves.
 use Rattle.std.specs.Prelude.{ℕ, ◌+◌, Bool, ◌&&◌, ◌||◌, List, [], ◌∷◌, ◌++◌, length, ◌==◌, nat_le, nat_lt, slice_index}
 use Rattle.columns.specs.Limits.{not_dense, nothing_marked}
-use Rattle.columns.specs.Answers.{Refusal}
+use Rattle.columns.specs.Answers.{Answer, Refusal}
 use Rattle.columns.specs.Answers.{Said, said_by, leaving}
-use Rattle.columns.specs.declared.answers.Answer.{Answer}
 use Rattle.columns.specs.Due.{Test, test, due, index_test, all_long}
 use Rattle.columns.specs.Columns.{cleared}
 use Rattle.partition.specs.Partition.{Partition}

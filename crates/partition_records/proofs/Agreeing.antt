@@ -15,9 +15,8 @@ use Rattle.std.specs.Result.{is_ok}
 use Rattle.std.proofs.lemmas.List.Edits.{swap_is}
 use Rattle.columns.specs.Columns.{exchanged}
 use Rattle.columns.specs.Limits.{inconsistent, max_states, too_short, wrong_states}
-use Rattle.columns.specs.Answers.{Refusal, Said, done, refused, refusal, said, said_outcome, leaving}
+use Rattle.columns.specs.Answers.{Answer, Refusal, Said, done, refused, refusal, said, said_outcome, leaving}
 use Rattle.columns.specs.declared.answers.Refusal as code
-use Rattle.columns.specs.declared.answers.Answer.{Answer}
 use Rattle.columns.specs.Due.{test, due, in_range, index_test}
 use Rattle.columns.proofs.All.{lt-or-le}
 use Rattle.columns.proofs.Bools.{bool_ext}

@@ -2,9 +2,8 @@
 use Rattle.std.specs.Prelude.{◌≡◌, ℕ, ◌<◌, ◌≤◌, leb, List, [], ◌∷◌, length}
 use borrow.Author.Tests.{leb-true}
 use mathlib.Core.Path.{refl, ap, ◌∙◌}
-use Rattle.columns.specs.declared.answers.Answer.{Answer}
 use Rattle.columns.specs.declared.answers.Refusal as code
-use Rattle.columns.specs.Answers.{Refusal}
+use Rattle.columns.specs.Answers.{Answer, Refusal}
 use Rattle.columns.specs.Answers.{Said, done, refused, none, refusal_of, said_number}
 use Rattle.columns.proofs.Saying.{numbered, left_refused, left_done}
 use Rattle.partition.specs.Partition.{Partition, parts, Sound}

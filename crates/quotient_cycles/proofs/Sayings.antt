@@ -1,6 +1,6 @@
 -- What an answer with a reordered table's header and a state says determines it.
 use Rattle.std.specs.Prelude.{◌≡◌}
-use Rattle.columns.specs.declared.answers.Answer.{Answer}
+use Rattle.columns.specs.Answers.{Answer}
 use Rattle.columns.proofs.Saying.{same_said}
 use Rattle.quotient_cycles.specs.declared.Reordered.{Reordered}
 use Rattle.quotient_cycles.specs.Call.{reordered_values, said_reordered}

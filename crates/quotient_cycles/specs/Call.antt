@@ -1,7 +1,6 @@
 -- `tau_cycle_elimination_and_reorder` as it is called: what it refuses, says and leaves.
 use Rattle.std.specs.Prelude.{ℕ, Bool, List, [], ◌∷◌, map, length}
-use Rattle.columns.specs.declared.answers.Answer.{Answer}
-use Rattle.columns.specs.Answers.{Refusal}
+use Rattle.columns.specs.Answers.{Answer, Refusal}
 use Rattle.columns.specs.Answers.{Said, said_by, leaving}
 use Rattle.columns.specs.Columns.{zeroed}
 use Rattle.columns.specs.Due.{all_long}

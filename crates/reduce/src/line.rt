@@ -1,12 +1,12 @@
 // The line on standard error.
 ghost use Rattle.std.specs.Prelude.{◌≡◌, ◌+◌, ◌≤◌, length, take};
 ghost use Rattle.spelling.specs.Counts.{IsPrefixLen};
-ghost use Rattle.columns.specs.Answers.{done, refusal_of};
-ghost use Rattle.file_reduction.specs.Answers.{file_values, said_file};
+ghost use Rattle.columns.specs.Answers.{done, said_coded};
+ghost use Rattle.file_reduction.specs.Answers.{file_values};
 ghost use Rattle.spelling.specs.Texts.{Put};
 ghost use Rattle.reduce.specs.Line.{source_text, result_text, place_text, refused_text, line_text, meaning as Line·meaning};
 
-use columns::answers::{Answer, Refusal};
+use columns::answers::{Answer, Coded};
 use file_reduction::answers::Written;
 use spelling::{put, put_count};
 use std::io::{Print, Stderr};
@@ -36,28 +36,28 @@ fn result(blocks: u64, rows: u64, rounds: u64, out: &mut [u8], at: usize) -> usi
     put_count(rounds, b" rounds\n", out, b)
 }
 
-// What a refusal means. 7 and 16 don't come: all memory is the program's own, and its output has room for the longest file.
-fn meaning(refusal: Refusal, out: &mut [u8], at: usize) -> usize
+// What a refusal of this number means. 7 and 16 don't come: all memory is the program's own, and its output has room for the longest file.
+fn meaning(number: u64, out: &mut [u8], at: usize) -> usize
     requires { at + 80 ≤ length out.old }
-    ensures put { Put out.old at (Line·meaning (refusal_of refusal).number) out.new result }
+    ensures put { Put out.old at (Line·meaning number) out.new result }
     ensures upper_bound { result ≤ at + 80 }
 {
-    match refusal {
-        Refusal::WrongContents { .. } => put(
+    match number {
+        13 => put(
             b"the contents of the file, or the length of a body, are not as they must be",
             out,
             at,
         ),
-        Refusal::WrongStates => put(b"the number of states is not from 1 to 4096", out, at),
-        Refusal::WrongLabels => put(b"the number of labels is not from 1 to 1024", out, at),
-        Refusal::WrongRows => put(b"the number of rows is above 8192", out, at),
-        Refusal::WrongInitial => put(
+        1 => put(b"the number of states is not from 1 to 4096", out, at),
+        2 => put(b"the number of labels is not from 1 to 1024", out, at),
+        3 => put(b"the number of rows is above 8192", out, at),
+        4 => put(
             b"the initial state is not below the number of states",
             out,
             at,
         ),
-        Refusal::WrongField { .. } => put(b"a field of this row is out of range", out, at),
-        Refusal::NotAbove { .. } => put(b"this row is not above the one before", out, at),
+        5 => put(b"a field of this row is out of range", out, at),
+        6 => put(b"this row is not above the one before", out, at),
         _ => at,
     }
 }
@@ -74,13 +74,13 @@ fn refused_at(number: u64, place: u64, out: &mut [u8]) -> usize
 }
 
 // Why nothing was reduced.
-fn refused(refusal: Refusal, out: &mut [u8]) -> usize
+fn refused<R: Coded>(refusal: R, out: &mut [u8]) -> usize
     requires { 200 ≤ length out.old }
-    ensures { let r = refusal_of refusal in
+    ensures { let r = R.code refusal in
         Put out.old 0 (refused_text r.number r.place) out.new result }
 {
     let at = refused_at(refusal.number(), refusal.place(), out);
-    let end = meaning(refusal, out, at);
+    let end = meaning(refusal.number(), out, at);
     put(b"\n", out, end)
 }
 
@@ -100,9 +100,9 @@ fn reduced(written: Written, out: &mut [u8]) -> usize
 }
 
 // What an answer of the reduction says, as a line over the first bytes of `out`, and how many they are.
-pub fn line(answer: Answer<Written>, out: &mut [u8; LINE]) -> usize
+pub fn line<R: Coded>(answer: Answer<Written, R>, out: &mut [u8; LINE]) -> usize
     ensures prefix_len { IsPrefixLen result out.new }
-    ensures out_value { take result out.new ≡ line_text (said_file answer) }
+    ensures out_value { take result out.new ≡ line_text (said_coded R.code file_values answer.outcome) }
 {
     match answer.outcome {
         Ok(written) => reduced(written, out),

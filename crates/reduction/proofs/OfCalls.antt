@@ -13,14 +13,13 @@ use Rattle.bisimulation.specs.Bisimulation.{Match, Bisimulation, Bisimilar}
 use Rattle.bisimulation.specs.Quotient.{Belongs}
 use Rattle.columns.specs.Blocks.{block_of}
 use Rattle.bisimulation.proofs.Quotients.{quotient_in, quotient_ascending}
-use Rattle.columns.specs.Answers.{Said, done}
+use Rattle.columns.specs.Answers.{Answer, Said, done}
 use Rattle.columns.specs.Columns.{listed}
 use Rattle.columns.specs.Sets.{Row, StepIn}
 use Rattle.columns.proofs.Lists.{over_front}
 use Rattle.reduction.specs.Answers.{said_reduction}
 use Rattle.reduction.specs.Reducing.{Slices, result_lengths, work_lengths, reduction_refusal, reduction_numbers, reduction_left}
 use Rattle.reduction.specs.Reducing.{strong_reduction, answered_table, ReadyFor}
-use Rattle.columns.specs.declared.answers.Answer.{Answer}
 use Rattle.reduction.specs.declared.answers.Reduced.{Reduced}
 use Rattle.reduction.proofs.Calls as call
 use Rattle.reduction.proofs.Entries.{ready_of, never_refused, length-blocks}

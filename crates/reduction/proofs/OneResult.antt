@@ -2,7 +2,7 @@
 use Rattle.std.specs.Prelude.{◌≡◌}
 use Rattle.columns.specs.OneResult.{OneResult}
 use Rattle.columns.proofs.OneResult.{skip, works, determined}
-use Rattle.columns.specs.declared.answers.Answer.{Answer}
+use Rattle.columns.specs.Answers.{Answer}
 use Rattle.columns.proofs.Saying.{same_said}
 use Rattle.reduction.specs.Answers.{reduction_values, said_reduction}
 use Rattle.reduction.specs.declared.answers.Reduced.{Reduced}

@@ -1,7 +1,6 @@
 -- What the answer of a reduction says: n, labels, m and initial state of the reduced table, and the rounds that split something.
 use Rattle.std.specs.Prelude.{ℕ, List, [], ◌∷◌}
-use Rattle.columns.specs.declared.answers.Answer.{Answer}
-use Rattle.columns.specs.Answers.{Said, said_by}
+use Rattle.columns.specs.Answers.{Answer, Said, said_by}
 use Rattle.reduction.specs.declared.answers.Reduced.{Reduced}
 
 abbrev pub reduction_values : Reduced → List ℕ

@@ -1,9 +1,10 @@
--- What a list of operations says of a name.
-use Rattle.std.specs.Prelude.{ℕ, List, Bool, Option, find}
+-- What a list of operations says of a name, and of a place.
+use Rattle.std.specs.Prelude.{ℕ, List, ◌∷◌, Bool, Option, find, map, slice_get, unwrap_or}
 use Rattle.std.specs.Borrow.{Bor}
 use Rattle.std.specs.Str.{bytes_eq}
 use Rattle.std.specs.Option.{option_map}
 use Rattle.replay_calls.specs.declared.operations.Operation.{Operation}
+use Rattle.replay_calls.specs.declared.operations.Operation.TheVariants.{ReduceFile}
 use Rattle.replay_calls.specs.declared.operations.Found.{Found}
 
 -- an operation in a list: its name, the kinds of its parameters, and which it is
@@ -38,3 +39,7 @@ held (listed, kinds, operation) = (record { now = listed.now }, record { now = k
 abbrev pub find_listed : List Listed → List ℕ → Option (Operation × List ℕ)
 find_listed entries name =
     option_map (λ (listed, kinds, operation). (operation, kinds.now)) (find (λ (listed, kinds, operation). bytes_eq listed.now name) entries)
+
+-- the operation at a place of a list, counted from 1; what is no place of it means the last operation
+abbrev pub operation_at : {A : Type 0} → List (A × A × Operation) → ℕ → Operation
+operation_at entries number = unwrap_or (slice_get (ReduceFile ∷ map (λ (name, kinds, operation). operation) entries) number) ReduceFile

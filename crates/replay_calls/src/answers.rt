@@ -1,14 +1,15 @@
 // The header of a table as numbers.
 ghost use Rattle.std.specs.Prelude.{◌≡◌};
-ghost use Rattle.replay_lines.specs.Told.{told};
-ghost use Rattle.table.specs.Tables.{said_table};
+ghost use Rattle.columns.specs.Answers.{said_coded};
+ghost use Rattle.replay_lines.specs.Told.{told_by};
+ghost use Rattle.table.specs.Tables.{header_values};
 
-use columns::answers::Answer;
+use columns::answers::{Answer, Coded};
 use replay_lines::answers::{Said, done_with};
 use table::Table;
 
-pub fn header(answer: Answer<Table>) -> Said
-    ensures { told result ≡ said_table answer }
+pub fn header<R: Coded>(answer: Answer<Table, R>) -> Said<R>
+    ensures { told_by R.code result ≡ said_coded R.code header_values answer.outcome }
 {
     let table = answer.outcome?;
     done_with(

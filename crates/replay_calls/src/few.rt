@@ -2,7 +2,7 @@
 ghost use Rattle.spelling.specs.Counts.{IsPrefixLen};
 
 use crate::headers::{partition, system};
-use crate::operations::Operation;
+use crate::operations::{Numbered, Operation};
 use replay_lines::answers::{Said, number, plain};
 use replay_slots::case::{Case, column};
 use replay_slots::slots::Filled;
@@ -59,7 +59,7 @@ fn called(
 
 // The call, with as much of each slot as is filled.
 pub fn few(
-    operation: Operation,
+    operation: impl Numbered,
     case: Case,
     cells: &[u16],
     to: Filled,
@@ -70,7 +70,7 @@ pub fn few(
     requires { IsPrefixLen to.a a.old × IsPrefixLen to.b b.old × IsPrefixLen to.c c.old }
 {
     called(
-        operation,
+        operation.which(),
         case,
         cells,
         &mut a[..to.a],

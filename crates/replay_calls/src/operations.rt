@@ -1,7 +1,9 @@
 // Every operation: its name and the kinds of its parameters, and the family of those that take alike.
 ghost use Rattle.std.specs.Prelude.{◌≡◌, map};
 ghost use Rattle.std.specs.Option.{option_map};
-ghost use Rattle.replay_calls.specs.Operations.{found, find_in, held, find_listed};
+ghost use Rattle.replay_calls.specs.declared.operations.Operation.{Operation};
+ghost use Rattle.replay_calls.specs.declared.operations.TheConstants.{OPERATIONS};
+ghost use Rattle.replay_calls.specs.Operations.{found, find_in, held, find_listed, operation_at};
 ghost use Rattle.replay_calls.specs.Families.{family_of};
 
 #[derive(Clone, Copy, PartialEq, Eq)]
@@ -261,5 +263,49 @@ impl Operation {
             | Operation::StrongReduction => Family::Reducing,
             Operation::ReadFile | Operation::WriteFile | Operation::ReduceFile => Family::Filing,
         }
+    }
+}
+
+// The operation at a place of a list, counted from 1. What is no place of it means the last operation.
+fn operation_at(entries: &[Entry], number: usize) -> Operation
+    ensures { result ≡ operation_at entries.now number }
+{
+    if number == 0 {
+        return Operation::ReduceFile;
+    }
+    entries
+        .get(number - 1)
+        .map_or(Operation::ReduceFile, |entry| entry.2)
+}
+
+// What says which operation is meant: the operation, or its number, which is its place in `OPERATIONS`, counted from 1. A number that is
+// none of these means the last one.
+pub trait Numbered: Copy {
+    ghost which: { Self → Operation };
+
+    fn which(self) -> Operation
+        ensures { result ≡ which self };
+
+    // Its family.
+    fn family(self) -> Family
+        ensures { result ≡ family_of (which self) }
+    {
+        self.which().family()
+    }
+}
+
+impl Numbered for Operation {
+    ghost which = { λ operation. operation };
+
+    fn which(self) -> Operation {
+        self
+    }
+}
+
+impl Numbered for usize {
+    ghost which = { λ number. operation_at OPERATIONS number };
+
+    fn which(self) -> Operation {
+        operation_at(&OPERATIONS, self)
     }
 }

@@ -2,16 +2,16 @@
 ghost use Rattle.spelling.specs.Counts.{IsPrefixLen};
 
 use crate::headers::{partition, six_columns};
-use crate::operations::Operation;
+use crate::operations::{Numbered, Operation};
 use partition_display::display;
 use replay_lines::answers::{Said, block, flag, number, plain};
 use replay_slots::case::Case;
 
-pub fn of_partition(operation: Operation, case: Case, cells: &[u16]) -> Said {
+pub fn of_partition(operation: impl Numbered, case: Case, cells: &[u16]) -> Said {
     let p = partition(case);
     let columns = six_columns(case, cells, 0);
     let x = case.number(2);
-    match operation {
+    match operation.which() {
         Operation::BlockNumber => number(p.block_number(&columns, x)),
         Operation::IsElementMarked => flag(p.is_element_marked(&columns, x)),
         Operation::ReadBlock => block(p.read_block(&columns, x)),

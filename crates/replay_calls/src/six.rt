@@ -2,7 +2,7 @@
 ghost use Rattle.spelling.specs.Counts.{IsPrefixLen};
 
 use crate::headers::{partition, system};
-use crate::operations::Operation;
+use crate::operations::{Numbered, Operation};
 use partition_calls::BlockPartition;
 use partition_split::split_marked;
 use replay_lines::answers::{Said, number, partition as made, plain};
@@ -108,7 +108,7 @@ fn called(
 
 // The call, with as much of each slot as is filled.
 pub fn six(
-    operation: Operation,
+    operation: impl Numbered,
     case: Case,
     cells: &[u16],
     bytes: &[u8],
@@ -124,7 +124,7 @@ pub fn six(
     requires prefix_len_2 { IsPrefixLen to.d d.old × IsPrefixLen to.e e.old × IsPrefixLen to.f f.old }
 {
     called(
-        operation,
+        operation.which(),
         case,
         cells,
         bytes,

@@ -4,7 +4,7 @@ ghost use Rattle.replay_lines.specs.Told.{told};
 ghost use Rattle.table.specs.Transitions.{said_stretch};
 
 use crate::headers::system;
-use crate::operations::Operation;
+use crate::operations::{Numbered, Operation};
 use columns::answers::Answer;
 use pairs::is_subset_of;
 use replay_lines::answers::{Said, done, flag, number};
@@ -19,9 +19,9 @@ fn stretch(answer: Answer<Stretch>) -> Said
     done(2, rows.first as u64, rows.end as u64, 0)
 }
 
-pub fn of_table(operation: Operation, case: Case, cells: &[u16]) -> Said {
+pub fn of_table(operation: impl Numbered, case: Case, cells: &[u16]) -> Said {
     let system = system(case, cells);
-    match operation {
+    match operation.which() {
         Operation::OutgoingTransitions => stretch(system.outgoing_transitions(case.number(4))),
         Operation::NextIncoming => number(system.next_incoming(case.number(4), case.number(5))),
         _ => subset(case, cells),

@@ -4,7 +4,7 @@
 // may change are called a to i.
 use replay_calls::blocks::of_numbers;
 use replay_calls::few::few;
-use replay_calls::operations::{Family, Operation};
+use replay_calls::operations::{Family, Numbered};
 use replay_calls::readers::{of_partition, text_of};
 use replay_calls::records::records;
 use replay_calls::six::six;
@@ -24,7 +24,7 @@ fn displayed(case: Case, narrow: &Narrow, bytes: &Bytes, text: &mut Text) -> Sai
 
 // What an operation answers.
 pub fn called(
-    operation: Operation,
+    operation: impl Numbered,
     case: Case,
     narrow: &Narrow,
     wide: &Wide,

@@ -1,15 +1,16 @@
 // The answer of `reduce_file` as numbers.
 ghost use Rattle.std.specs.Prelude.{◌≡◌};
-ghost use Rattle.file_reduction.specs.Answers.{said_file};
-ghost use Rattle.replay_lines.specs.Told.{told};
+ghost use Rattle.file_reduction.specs.Answers.{file_values};
+ghost use Rattle.columns.specs.Answers.{said_coded};
+ghost use Rattle.replay_lines.specs.Told.{told_by};
 
-use columns::answers::Answer;
+use columns::answers::{Answer, Coded};
 use file_reduction::answers::Written;
 use replay_lines::answers::{Said, done_with};
 
 // The bytes written; states, labels and rows of the source; blocks and rows of the result; the rounds that split something.
-pub fn reduced(answer: Answer<Written>) -> Said
-    ensures { told result ≡ said_file answer }
+pub fn reduced<R: Coded>(answer: Answer<Written, R>) -> Said<R>
+    ensures { told_by R.code result ≡ said_coded R.code file_values answer.outcome }
 {
     let done = answer.outcome?;
     done_with(

@@ -8,7 +8,7 @@ use Rattle.std.specs.Prelude.{not, Option, Some, None}
 use Rattle.std.specs.Option.{option_eq}
 use borrow.Author.Tests.{lt-ltb, le-ltb}
 use Rattle.replay_lines.specs.declared.input.Input as input
-use Rattle.replay_lines.specs.Places.{in_line, in_word, filled, stepped, held, Next}
+use Rattle.replay_lines.specs.Places.{in_line, in_word, seen_of, filled, stepped, held, Next}
 use Rattle.columns.proofs.Bools.{contra}
 
 pub held_full : (i : input.Input) → 65536 ≤ i.at → held i ≡ false
@@ -46,3 +46,17 @@ pub no_blank : (byte : Option ℕ) → not (option_eq eqb byte (Some 32)) ≡ tr
 unfolding in_word
 no_blank None h = refl
 no_blank (Some byte) h = grind arith
+
+-- a number other than 10, which ends the line, and 256, where the input ends, is within the line
+pub in_line_number : (n : ℕ) → in_line (seen_of n) ≡ cond (eqb n 10) false (not (eqb n 256))
+unfolding in_line seen_of
+in_line_number n =
+    elim (eqb n 256) as (λ end. in_line (cond end None (Some n)) ≡ cond (eqb n 10) false (not end)) [
+      | true ↦ elim (eqb n 10) as (λ newline. false ≡ cond newline false false) [ true ↦ refl | false ↦ refl ]
+      | false ↦ elim (eqb n 10) as (λ newline. not newline ≡ cond newline false true) [ true ↦ refl | false ↦ refl ]
+    ]
+
+-- and one other than 32 too belongs to a word
+pub in_word_number : (n : ℕ) → in_word (seen_of n) ≡ cond (eqb n 32) false (cond (eqb n 10) false (not (eqb n 256)))
+unfolding in_word in_line seen_of
+in_word_number n = grind arith

@@ -2,6 +2,8 @@
 
 -- The place after a place in the input, within what is held and beyond it.
 pub use Rattle.replay_lines.proofs.Placing.{next_within, next_beyond}
+-- What a number stands for: which are within a line, and which belong to a word.
+pub use Rattle.replay_lines.proofs.Placing.{in_line_number, in_word_number}
 -- Bytes put into the output: one, a text after a text.
 pub use Rattle.replay_lines.proofs.Putting.{put_room, put_full, puts-append}
 -- The digits of a number are the fewest that hold it; cells in runs, spread again, are the cells.

@@ -13,6 +13,10 @@ unfolding in_line
 in_word None = false
 in_word (Some byte) = cond (eqb byte 32) false (in_line (Some byte))
 
+-- what a number stands for: the input's end, where it is 256, and otherwise itself
+unfoldable pub seen_of : ℕ → Option ℕ
+seen_of byte = cond (eqb byte 256) None (Some byte)
+
 -- the first place of a buffer into which `end` bytes are read, and its byte: the input has ended where there are none
 unfoldable pub filled : List ℕ → ℕ → ℕ × Option ℕ
 filled buffer end = cond (eqb end 0) (0, None) (1, Some (get_or buffer 0 0))

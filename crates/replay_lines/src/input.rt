@@ -3,6 +3,7 @@ ghost use Rattle.std.specs.Prelude.{not, ◌≡◌};
 ghost use Rattle.spelling.specs.Counts.{IsPrefixLen};
 ghost use Rattle.replay_lines.specs.Places.{in_line, filled, Next};
 
+use crate::seen::Seen;
 use std::io::{Read, Stdin};
 
 // What is read at once, and what is written at once.
@@ -96,9 +97,9 @@ impl Input {
     }
 }
 
-// Whether a byte is within a line.
-pub fn in_line(byte: Option<u8>) -> bool
-    ensures { result ≡ in_line byte }
+// Whether what stands at a place is within a line.
+pub fn in_line<B: Seen>(byte: B) -> bool
+    ensures { result ≡ in_line (B.seen byte) }
 {
-    byte.is_some_and(|b| b != b'\n')
+    byte.seen().is_some_and(|b| b != u16::from(b'\n'))
 }

@@ -6,6 +6,7 @@ ghost use Rattle.replay_lines.specs.Spelling.{bad_text};
 
 use crate::input::{Input, TURNS, in_line};
 use crate::output::{Sink, byte, number, word};
+use crate::seen::Seen;
 
 // Whether a line that starts with this byte has no answer.
 fn is_silent(byte: Option<u8>) -> bool {
@@ -22,11 +23,11 @@ pub fn skip_silent(input: &mut Input) {
     }
 }
 
-// Whether a byte belongs to a word.
-pub fn in_word(byte: Option<u8>) -> bool
-    ensures { result ≡ in_word byte }
+// Whether what stands at a place belongs to a word.
+pub fn in_word<B: Seen>(byte: B) -> bool
+    ensures { result ≡ in_word (B.seen byte) }
 {
-    byte != Some(b' ') && in_line(byte)
+    byte.seen() != Some(u16::from(b' ')) && in_line(byte)
 }
 
 // The word that starts here, or as much of it as `into` has room for.

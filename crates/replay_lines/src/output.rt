@@ -1,14 +1,14 @@
 // Standard output, byte by byte through a lent sink, of which the first `used` cells are not written yet.
 ghost use Rattle.std.specs.Prelude.{◌≡◌, ◌∷◌};
-ghost use Rattle.columns.specs.Answers.{refused as refused_with, refusal_of};
+ghost use Rattle.columns.specs.Answers.{refused as refused_with};
 ghost use Rattle.spelling.specs.Digits.{digits};
 ghost use Rattle.replay_lines.specs.Text.{put_byte, puts};
-ghost use Rattle.replay_lines.specs.Told.{told};
+ghost use Rattle.replay_lines.specs.Told.{told_by};
 ghost use Rattle.replay_lines.specs.Spelling.{spelled, spelled_all, said_text};
 
 use crate::answers::Said;
 use crate::input::Buffer;
-use columns::answers::Refusal;
+use columns::answers::Coded;
 use spelling::decimal;
 use std::io::{Print, Stdout};
 
@@ -100,8 +100,9 @@ fn numbers(numbers: &[u64], out: &mut Sink, used: usize) -> usize
 }
 
 // What is refused: a number and a place.
-fn refused(refusal: Refusal, out: &mut Sink, used: usize) -> usize
-    ensures { (result, out.new.bytes) ≡ puts (said_text (refused_with (refusal_of refusal).number (refusal_of refusal).place)) (used, out.old.bytes) }
+fn refused<R: Coded>(refusal: R, out: &mut Sink, used: usize) -> usize
+    ensures { let r = R.code refusal in
+        (result, out.new.bytes) ≡ puts (said_text (refused_with r.number r.place)) (used, out.old.bytes) }
 {
     let a = word(b"refused", out, used);
     let b = number(refusal.number(), out, a);
@@ -109,8 +110,8 @@ fn refused(refusal: Refusal, out: &mut Sink, used: usize) -> usize
 }
 
 // What an answer says.
-pub fn said(said: Said, out: &mut Sink, used: usize) -> usize
-    ensures { (result, out.new.bytes) ≡ puts (said_text (told said)) (used, out.old.bytes) }
+pub fn said<R: Coded>(said: Said<R>, out: &mut Sink, used: usize) -> usize
+    ensures { (result, out.new.bytes) ≡ puts (said_text (told_by R.code said)) (used, out.old.bytes) }
 {
     match said {
         Ok(done) => {

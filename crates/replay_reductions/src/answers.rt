@@ -1,10 +1,11 @@
 // The answers of these operations as numbers.
 ghost use Rattle.std.specs.Prelude.{◌≡◌, [], ◌∷◌};
-ghost use Rattle.quotient_cycles.specs.Call.{said_reordered};
-ghost use Rattle.reduction.specs.Answers.{said_reduction};
-ghost use Rattle.replay_lines.specs.Told.{told};
+ghost use Rattle.quotient_cycles.specs.Call.{reordered_values};
+ghost use Rattle.reduction.specs.Answers.{reduction_values};
+ghost use Rattle.columns.specs.Answers.{said_coded};
+ghost use Rattle.replay_lines.specs.Told.{told_by};
 
-use columns::answers::Answer;
+use columns::answers::{Answer, Coded};
 use quotient_cycles::Reordered;
 use reduction::answers::Reduced;
 use replay_lines::answers::{Said, done_with};
@@ -20,16 +21,16 @@ fn header_and(table: Table, last: u64) -> [u64; 8]
 }
 
 // The header, and the new number of the state that was given.
-pub fn reordered(answer: Answer<Reordered>) -> Said
-    ensures { told result ≡ said_reordered answer }
+pub fn reordered<R: Coded>(answer: Answer<Reordered, R>) -> Said<R>
+    ensures { told_by R.code result ≡ said_coded R.code reordered_values answer.outcome }
 {
     let done = answer.outcome?;
     done_with(5, header_and(done.table, done.state as u64))
 }
 
 // The header, and how many rounds split something.
-pub fn reduced(answer: Answer<Reduced>) -> Said
-    ensures { told result ≡ said_reduction answer }
+pub fn reduced<R: Coded>(answer: Answer<Reduced, R>) -> Said<R>
+    ensures { told_by R.code result ≡ said_coded R.code reduction_values answer.outcome }
 {
     let done = answer.outcome?;
     done_with(5, header_and(done.table, done.rounds))

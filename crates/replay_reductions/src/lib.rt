@@ -14,19 +14,19 @@ use crate::cycles::cycles;
 use crate::quotients::{block, naive};
 use crate::redundant::redundant;
 use crate::strong::strong;
-use replay_calls::operations::Operation;
+use replay_calls::operations::{Numbered, Operation};
 use replay_lines::output::Sink;
 use replay_slots::case::Case;
 
 // The answer to a case, and what may have changed, at return.
 pub fn reducing(
-    operation: Operation,
+    operation: impl Numbered,
     case: Case,
     cells: &[u16],
     out: &mut Sink,
     used: usize,
 ) -> usize {
-    match operation {
+    match operation.which() {
         Operation::QuotientLtsNaive => naive(case, cells, out, used),
         Operation::QuotientLtsBlock => block(case, cells, out, used),
         Operation::RemoveRedundantTransitions => redundant(case, cells, out, used),

@@ -5,6 +5,7 @@ ghost use Rattle.replay_lines.specs.Runs.{last_cell};
 ghost use Rattle.replay_slots.specs.Sizes.{bounded, largest_of};
 
 use crate::case::{Bytes, Cell, Narrow, Wide};
+use crate::largest::Largest;
 use replay_lines::input::Input;
 use replay_lines::lines::in_word;
 use replay_lines::runs::Run;
@@ -79,45 +80,53 @@ impl Feed {
     }
 }
 
-// Places a cell of this type.
-fn place(value: u64, cell: Cell, i: usize, narrow: &mut Narrow, wide: &mut Wide, bytes: &mut Bytes)
-    requires { value ≤ largest_of cell }
+// Places a cell in the array of this type, and nowhere where there is no type.
+fn place(
+    value: u64,
+    cell: Option<Cell>,
+    i: usize,
+    narrow: &mut Narrow,
+    wide: &mut Wide,
+    bytes: &mut Bytes,
+)
+    requires { IfSome cell (λ c. value ≤ largest_of c) }
 {
     match cell {
-        Cell::Narrow => {
+        Some(Cell::Narrow) => {
             if i < 1400000 {
                 narrow[i] = value as u16;
             }
         }
-        Cell::Wide => {
+        Some(Cell::Wide) => {
             if i < 70000 {
                 wide[i] = value as u32;
             }
         }
-        Cell::Byte => {
+        Some(Cell::Byte) => {
             if i < 140000 {
                 bytes[i] = value as u8;
             }
         }
+        None => {}
     }
 }
 
-// The cells of a slice from one place to another, of this type. Where a word is wrong, how many there are before it.
-pub fn read_cells(
+// The cells of a slice from one place to another, as large as `cells` says, placed in the array of the type whose largest cell is just
+// that, if there is one. Where a word is wrong, how many there are before it.
+pub fn read_cells<L: Largest>(
     input: &mut Input,
-    cell: Cell,
+    cells: L,
     from: usize,
     to: usize,
     narrow: &mut Narrow,
     wide: &mut Wide,
     bytes: &mut Bytes,
 ) -> Result<Feed, usize> {
-    let largest = cell.largest();
+    let most = cells.most();
+    let cell = cells.cell();
     let mut feed = Feed::new();
     for i in from..to {
-        feed = feed
-            .cell(largest, (to - i) as u64, input)
-            .ok_or(feed.words)?;
+        feed = feed.cell(most, (to - i) as u64, input).ok_or(feed.words)?;
         place(feed.run.first, cell, i, narrow, wide, bytes);
     }
     Ok(feed)

@@ -2,7 +2,7 @@
 ghost use Rattle.spelling.specs.Counts.{IsPrefixLen};
 
 use replay_calls::headers::{six_columns, system};
-use replay_calls::operations::Operation;
+use replay_calls::operations::{Numbered, Operation};
 use replay_lines::answers::{Said, number};
 use replay_slots::case::{Case, column};
 use replay_slots::slots::Filled;
@@ -58,7 +58,7 @@ fn called(
 
 // The call, with as much of each slot as is filled.
 pub fn signing(
-    operation: Operation,
+    operation: impl Numbered,
     case: Case,
     cells: &[u16],
     to: Filled,
@@ -73,7 +73,7 @@ pub fn signing(
     requires prefix_len_2 { IsPrefixLen to.d d.old × IsPrefixLen to.e e.old × IsPrefixLen to.f f.old }
 {
     called(
-        operation,
+        operation.which(),
         case,
         cells,
         &mut a[..to.a],

@@ -2,7 +2,7 @@
 ghost use Rattle.spelling.specs.Counts.{IsPrefixLen};
 
 use replay_calls::headers::{six_columns, system};
-use replay_calls::operations::Operation;
+use replay_calls::operations::{Numbered, Operation};
 use replay_lines::answers::{Said, number};
 use replay_slots::case::{Case, column};
 use replay_slots::slots::Filled;
@@ -90,7 +90,7 @@ fn called(
 
 // The call, with as much of each slot as is filled.
 pub fn walking(
-    operation: Operation,
+    operation: impl Numbered,
     case: Case,
     cells: &[u16],
     lists: &[u32],
@@ -110,7 +110,7 @@ pub fn walking(
     requires prefix_len_3 { IsPrefixLen to.g g.old × IsPrefixLen to.h h.old × IsPrefixLen to.i i.old }
 {
     called(
-        operation,
+        operation.which(),
         case,
         cells,
         lists,

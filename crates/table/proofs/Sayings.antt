@@ -1,10 +1,9 @@
 -- What an answer of `outgoing_transitions` says determines it; and a call that says it is done was not refused.
 use Rattle.std.specs.Prelude.{◌≡◌, ℕ, List}
 use mathlib.Core.Path.{sym}
-use Rattle.columns.specs.Answers.{Refusal}
+use Rattle.columns.specs.Answers.{Answer, Refusal}
 use Rattle.columns.specs.Answers.{done, answering, leaving}
 use Rattle.columns.proofs.Doing.{answering_done, leaving_done}
-use Rattle.columns.specs.declared.answers.Answer.{Answer}
 use Rattle.columns.proofs.Saying.{same_said}
 use Rattle.table.specs.declared.cores.Stretch.{Stretch}
 use Rattle.table.specs.Transitions.{stretch_values, said_stretch}

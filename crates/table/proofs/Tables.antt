@@ -11,7 +11,7 @@ use Rattle.columns.specs.Rows.{first_of, second_of, third_of, rows_of, row_in}
 use Rattle.columns.specs.Sets.{Row, row_lt, Ascending, StepIn}
 use Rattle.columns.proofs.Lists.{length-listed, listed_cong, over_front}
 use Rattle.columns.proofs.Risings.{of_ascending}
-use Rattle.columns.specs.declared.answers.Answer.{Answer}
+use Rattle.columns.specs.Answers.{Answer}
 use Rattle.columns.proofs.Saying.{same_said}
 use Rattle.table.specs.declared.Table.{Table}
 use Rattle.table.specs.Lts.{Lts, rows, Step, RowsLong, Valid}

@@ -1,7 +1,6 @@
 -- A list of rows as a table, and over three lent columns; and what an answer says that holds the header of a table.
 use Rattle.std.specs.Prelude.{ℕ, List, [], ◌∷◌, length}
-use Rattle.columns.specs.declared.answers.Answer.{Answer}
-use Rattle.columns.specs.Answers.{Said, said_by}
+use Rattle.columns.specs.Answers.{Answer, Said, said_by}
 use Rattle.columns.specs.Columns.{over}
 use Rattle.columns.specs.Rows.{first_of, second_of, third_of}
 use Rattle.columns.specs.Sets.{Row}

@@ -1,7 +1,6 @@
 -- The calls that name the rows of a state: those that leave it, as a run, and those that lead to it, one after the other.
 use Rattle.std.specs.Prelude.{ℕ, ◌+◌, true, List, [], ◌∷◌, ◌++◌}
-use Rattle.columns.specs.declared.answers.Answer.{Answer}
-use Rattle.columns.specs.Answers.{Refusal, Said, answering, said_by}
+use Rattle.columns.specs.Answers.{Answer, Refusal, Said, answering, said_by}
 use Rattle.columns.specs.Due.{due, index_test}
 use Rattle.table.specs.declared.cores.Stretch.{Stretch}
 use Rattle.table.specs.Lts.{Lts}

@@ -3,4 +3,4 @@ use Rattle.replay_lines.proofs.Telling.{told_on}
 use Rattle.replay_lines.proofs.answers.block.Goals as goal
 
 pub returns-in_err-block : goal.returns-in_err-block
-returns-in_err-block c = told_on _ c.args.answer _ _ c.in_err-block.was c.from_residual.ensures.1
+returns-in_err-block g c = told_on g.R.Coded.code _ _ _ _ c.in_err-block.was c.from_residual.ensures.1

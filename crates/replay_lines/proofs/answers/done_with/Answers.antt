@@ -1,7 +1,7 @@
 use Rattle.std.proofs.Common.{refl}
-use Rattle.replay_lines.specs.Told.{told}
+use Rattle.replay_lines.specs.Told.{told_by}
 use Rattle.replay_lines.proofs.answers.done_with.Goals as goal
 
 pub returns : goal.returns
-unfolding told
-returns c = refl
+unfolding told_by
+returns g c = refl

@@ -3,4 +3,4 @@ use Rattle.replay_lines.proofs.Telling.{told_on}
 use Rattle.replay_lines.proofs.answers.flag.Goals as goal
 
 pub returns-in_err-value : goal.returns-in_err-value
-returns-in_err-value c = told_on _ c.args.answer _ _ c.in_err-value.was c.from_residual.ensures.1
+returns-in_err-value g c = told_on g.R.Coded.code _ _ _ _ c.in_err-value.was c.from_residual.ensures.1

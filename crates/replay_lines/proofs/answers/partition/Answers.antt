@@ -3,4 +3,4 @@ use Rattle.replay_lines.proofs.Telling.{told_on}
 use Rattle.replay_lines.proofs.answers.partition.Goals as goal
 
 pub returns-in_err-partition : goal.returns-in_err-partition
-returns-in_err-partition c = told_on _ c.args.answer _ _ c.in_err-partition.was c.from_residual.ensures.1
+returns-in_err-partition g c = told_on g.R.Coded.code _ _ _ _ c.in_err-partition.was c.from_residual.ensures.1

@@ -9,6 +9,6 @@ use Rattle.replay_lines.proofs.output.refused.Goals as goal
 
 pub returns : goal.returns
 unfolding text
-returns c =
+returns g c =
     puts_as _ _ _ (puts_then _ _ _ (puts_then (text "refused") _ _ c.word-a.ensures c.number-b.ensures) c.number-2.ensures)
     (refused_text c.number.result c.place.result ∙ (λ i. said_text (refused (c.number.ensures i) (c.place.ensures i))))

@@ -1,9 +1,15 @@
-use Rattle.std.proofs.Common.{◌≤◌, rules, arith}
+use Rattle.std.proofs.Common.{◌≤◌, ◌≡◌, rules, arith}
+use Rattle.std.proofs.lemmas.Option.{IfSome_then}
 use Rattle.replay_lines.specs.Runs.{last_cell}
+use Rattle.replay_slots.specs.declared.case.Cell.{Cell}
+use Rattle.replay_slots.specs.Sizes.{largest_of}
 use Rattle.replay_slots.proofs.cells.read_cells.Goals as goal
 
 pub place-requires : goal.place-requires
 unfolding last_cell
-place-requires c =
-    let least : last_cell c.in_ok-feed.feed.run ≤ c.largest-largest.result = search rules in
-    omega (arith, least, c.largest-largest.ensures)
+place-requires g c =
+    let least : last_cell c.in_ok-feed.feed.run ≤ c.most-most.result = search rules in
+    let held : (cell : Cell) → largest_of cell ≡ g.L.Largest.most c.args.cells → c.in_ok-feed.feed.run.first ≤ largest_of cell =
+    λ cell largest. omega (arith, least, largest, c.most-most.ensures.same)
+    in
+    IfSome_then _ c.cell-cell.ensures.just held

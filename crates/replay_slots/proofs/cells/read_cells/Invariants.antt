@@ -4,4 +4,4 @@ use Rattle.replay_lines.specs.Runs.{last_cell}
 use Rattle.replay_slots.proofs.cells.read_cells.Given as goal
 
 abbrev pub invariant-loop-i : goal.invariant-loop-i
-invariant-loop-i l = last_cell l.feed.run ≤ l.largest
+invariant-loop-i g l = last_cell l.feed.run ≤ l.most
