@@ -14,6 +14,21 @@ use std::io::{Print, Stderr};
 // Room for any line.
 pub const LINE: usize = 256;
 
+// The numbers of the refusals that a file can get.
+const WRONG_STATES: u64 = 1;
+
+const WRONG_LABELS: u64 = 2;
+
+const WRONG_ROWS: u64 = 3;
+
+const WRONG_INITIAL: u64 = 4;
+
+const WRONG_FIELD: u64 = 5;
+
+const NOT_ABOVE: u64 = 6;
+
+const WRONG_CONTENTS: u64 = 13;
+
 // What was reduced: states, rows and labels.
 fn source(states: u64, labels: u64, rows: u64, out: &mut [u8]) -> usize
     requires { 100 ≤ length out.old }
@@ -43,21 +58,21 @@ fn meaning(number: u64, out: &mut [u8], at: usize) -> usize
     ensures upper_bound { result ≤ at + 80 }
 {
     match number {
-        13 => put(
+        WRONG_CONTENTS => put(
             b"the contents of the file, or the length of a body, are not as they must be",
             out,
             at,
         ),
-        1 => put(b"the number of states is not from 1 to 4096", out, at),
-        2 => put(b"the number of labels is not from 1 to 1024", out, at),
-        3 => put(b"the number of rows is above 8192", out, at),
-        4 => put(
+        WRONG_STATES => put(b"the number of states is not from 1 to 4096", out, at),
+        WRONG_LABELS => put(b"the number of labels is not from 1 to 1024", out, at),
+        WRONG_ROWS => put(b"the number of rows is above 8192", out, at),
+        WRONG_INITIAL => put(
             b"the initial state is not below the number of states",
             out,
             at,
         ),
-        5 => put(b"a field of this row is out of range", out, at),
-        6 => put(b"this row is not above the one before", out, at),
+        WRONG_FIELD => put(b"a field of this row is out of range", out, at),
+        NOT_ABOVE => put(b"this row is not above the one before", out, at),
         _ => at,
     }
 }

@@ -25,7 +25,7 @@ run_of (last ∷ lasts) n = cond (ltb last n) (suc (run_of lasts n)) 0
 abbrev pub lasts : List ℕ
 lasts = 8 ∷ 14 ∷ 17 ∷ 18 ∷ 19 ∷ 23 ∷ 25 ∷ 29 ∷ 30 ∷ 32 ∷ 34 ∷ 40 ∷ []
 
--- the place among the families of the one that a number is in: what is none is in the last one
+-- the place, among the families, of the one that a number is in; 0 is in the last one
 abbrev pub place_of : ℕ → ℕ
 place_of n = cond (eqb n 0) 12 (run_of lasts n)
 

@@ -40,6 +40,6 @@ abbrev pub find_listed : List Listed → List ℕ → Option (Operation × List 
 find_listed entries name =
     option_map (λ (listed, kinds, operation). (operation, kinds.now)) (find (λ (listed, kinds, operation). bytes_eq listed.now name) entries)
 
--- the operation at a place of a list, counted from 1; what is no place of it means the last operation
+-- the operation at a place of a list, counted from 1; what is no place of it means `reduce_file`
 abbrev pub operation_at : {A : Type 0} → List (A × A × Operation) → ℕ → Operation
 operation_at entries number = unwrap_or (slice_get (ReduceFile ∷ map (λ (name, kinds, operation). operation) entries) number) ReduceFile

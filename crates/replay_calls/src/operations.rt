@@ -1,4 +1,4 @@
-// Every operation: its name and the kinds of its parameters, and the family of those that take alike.
+// Every operation: its name and the kinds of its parameters, its number, and the family of those that take alike.
 ghost use Rattle.std.specs.Prelude.{◌≡◌, map};
 ghost use Rattle.std.specs.Option.{option_map};
 ghost use Rattle.replay_calls.specs.declared.operations.Operation.{Operation};
@@ -266,7 +266,7 @@ impl Operation {
     }
 }
 
-// The operation at a place of a list, counted from 1. What is no place of it means the last operation.
+// The operation at a place of a list, counted from 1. What is no place of it means `reduce_file`.
 fn operation_at(entries: &[Entry], number: usize) -> Operation
     ensures { result ≡ operation_at entries.now number }
 {
@@ -278,8 +278,8 @@ fn operation_at(entries: &[Entry], number: usize) -> Operation
         .map_or(Operation::ReduceFile, |entry| entry.2)
 }
 
-// What says which operation is meant: the operation, or its number, which is its place in `OPERATIONS`, counted from 1. A number that is
-// none of these means the last one.
+// What says which operation is meant: the operation, or its number, which is its place in `OPERATIONS`, counted from 1. Any other number
+// means `reduce_file`.
 pub trait Numbered: Copy {
     ghost which: { Self → Operation };
 

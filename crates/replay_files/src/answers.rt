@@ -6,14 +6,14 @@ ghost use Rattle.replay_lines.specs.Told.{told_by};
 
 use columns::answers::{Answer, Coded};
 use file_reduction::answers::Written;
-use replay_lines::answers::{Said, done_with};
+use replay_lines::answers::{Said, done_or};
 
 // The bytes written; states, labels and rows of the source; blocks and rows of the result; the rounds that split something.
 pub fn reduced<R: Coded>(answer: Answer<Written, R>) -> Said<R>
     ensures { told_by R.code result ≡ said_coded R.code file_values answer.outcome }
 {
     let done = answer.outcome?;
-    done_with(
+    done_or(
         7,
         [
             done.bytes,

@@ -50,11 +50,7 @@ no_blank (Some byte) h = grind arith
 -- a number other than 10, which ends the line, and 256, where the input ends, is within the line
 pub in_line_number : (n : ℕ) → in_line (seen_of n) ≡ cond (eqb n 10) false (not (eqb n 256))
 unfolding in_line seen_of
-in_line_number n =
-    elim (eqb n 256) as (λ end. in_line (cond end None (Some n)) ≡ cond (eqb n 10) false (not end)) [
-      | true ↦ elim (eqb n 10) as (λ newline. false ≡ cond newline false false) [ true ↦ refl | false ↦ refl ]
-      | false ↦ elim (eqb n 10) as (λ newline. not newline ≡ cond newline false true) [ true ↦ refl | false ↦ refl ]
-    ]
+in_line_number n = grind arith
 
 -- and one other than 32 too belongs to a word
 pub in_word_number : (n : ℕ) → in_word (seen_of n) ≡ cond (eqb n 32) false (cond (eqb n 10) false (not (eqb n 256)))

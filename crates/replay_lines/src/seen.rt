@@ -2,10 +2,10 @@
 ghost use Rattle.std.specs.Prelude.{ℕ, Option, ◌≡◌};
 ghost use Rattle.replay_lines.specs.Places.{seen_of};
 
-// The number that stands for the end of the input, where no byte does.
+// The number that stands for the end of the input.
 const END: u16 = 256;
 
-// What stands at a place: a byte, or nothing at the end of the input.
+// What is read at a place: a byte or a number, or nothing at the end of the input.
 pub trait Seen: Copy {
     ghost seen: { Self → Option ℕ };
 
@@ -29,6 +29,7 @@ impl Seen for Option<u8> {
 impl Seen for u16 {
     ghost seen = { seen_of };
 
+    #[tactic(auto, unfolding(crate::specs::Places::seen_of))]
     fn seen(self) -> Option<u16> {
         (self != END).then_some(self)
     }

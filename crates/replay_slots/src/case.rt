@@ -1,5 +1,5 @@
 // Where a case's parameters lie.
-ghost use Rattle.std.specs.Prelude.{◌≡◌, ◌+◌};
+ghost use Rattle.std.specs.Prelude.{◌≡◌, ◌+◌, IfSome};
 ghost use Rattle.replay_slots.specs.Cases.{
   nothing,
   number_of,
@@ -12,7 +12,7 @@ ghost use Rattle.replay_slots.specs.Cases.{
 };
 ghost use Rattle.std.specs.Mem.{type_size};
 ghost use Rattle.replay_slots.specs.Parts.{Part};
-ghost use Rattle.replay_slots.specs.Sizes.{largest_of};
+ghost use Rattle.replay_slots.specs.Sizes.{cell_of, largest_of};
 
 use columns::limits::MAX_STATES;
 
@@ -40,6 +40,20 @@ impl Cell {
             Cell::Narrow => u64::from(u16::MAX),
             Cell::Wide => u64::from(u32::MAX),
             Cell::Byte => u64::from(u8::MAX),
+        }
+    }
+
+    // The type whose largest cell is this number, if there is one.
+    #[tactic(auto, unfolding(crate::specs::Sizes::cell_of))]
+    pub fn of(largest: u64) -> Option<Cell>
+        ensures same { result ≡ cell_of largest }
+        ensures just { IfSome result (λ cell. largest_of cell ≡ largest) }
+    {
+        match largest {
+            65535 => Some(Cell::Narrow),
+            4294967295 => Some(Cell::Wide),
+            255 => Some(Cell::Byte),
+            _ => None,
         }
     }
 }

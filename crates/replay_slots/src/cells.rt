@@ -111,19 +111,19 @@ fn place(
     }
 }
 
-// The cells of a slice from one place to another, as large as `cells` says, placed in the array of the type whose largest cell is just
-// that, if there is one. Where a word is wrong, how many there are before it.
-pub fn read_cells<L: Largest>(
+// The cells of a slice from one place to another, none larger than `largest` says, placed in the array of the type that has just these
+// cells, if there is one. Where a word is wrong, how many there are before it.
+pub fn read_cells(
     input: &mut Input,
-    cells: L,
+    largest: impl Largest,
     from: usize,
     to: usize,
     narrow: &mut Narrow,
     wide: &mut Wide,
     bytes: &mut Bytes,
 ) -> Result<Feed, usize> {
-    let most = cells.most();
-    let cell = cells.cell();
+    let most = largest.most();
+    let cell = Cell::of(most);
     let mut feed = Feed::new();
     for i in from..to {
         feed = feed.cell(most, (to - i) as u64, input).ok_or(feed.words)?;

@@ -9,7 +9,7 @@ pub place-requires : goal.place-requires
 unfolding last_cell
 place-requires g c =
     let least : last_cell c.in_ok-feed.feed.run ≤ c.most-most.result = search rules in
-    let held : (cell : Cell) → largest_of cell ≡ g.L.Largest.most c.args.cells → c.in_ok-feed.feed.run.first ≤ largest_of cell =
-    λ cell largest. omega (arith, least, largest, c.most-most.ensures.same)
+    let held : (cell : Cell) → largest_of cell ≡ c.most-most.result → c.in_ok-feed.feed.run.first ≤ largest_of cell =
+    λ cell largest. omega (arith, least, largest)
     in
-    IfSome_then _ c.cell-cell.ensures.just held
+    IfSome_then _ c.of-cell.ensures.just held
